@@ -1,20 +1,12 @@
--- The refusals that ends of logging, device errors and bad requests are shown by.
+-- The refusals that device errors and bad requests are shown by.
 -- The conversions to `Refusal` in `outcome` and `request` give these.
 -- Any crate above may cite it.
 use Rattle.refusals.specs.declared.refusal.Refusal.{Refusal}
 use Rattle.refusals.specs.declared.refusal.Refusal.TheVariants as refusals
-use Rattle.bio.specs.declared.outcome.End.{End}
-use Rattle.bio.specs.declared.outcome.End.TheVariants as ends
 use Rattle.bio.specs.declared.outcome.DevError.{DevError}
 use Rattle.bio.specs.declared.outcome.DevError.TheVariants as device_errors
 use Rattle.bio.specs.declared.request.BadBio.{BadBio}
 use Rattle.bio.specs.declared.request.BadBio.TheVariants as bad_bios
-
--- the refusal that a cause of an end is shown by
-abbrev pub end_refusal : End → Refusal
-end_refusal ends.Full = refusals.Full
-end_refusal ends.Device = refusals.Device
-end_refusal ends.Memory = refusals.EndMemory
 
 -- the refusal that a device's error is shown by
 abbrev pub device_refusal : DevError → Refusal

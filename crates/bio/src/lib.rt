@@ -18,7 +18,8 @@ pub use content::{MAX_DEVICE_SECTORS, SECTOR_BYTES};
 pub use event::{CoreEvent, Event};
 pub use id::Id;
 pub use ms::Ms;
-pub use outcome::{DevError, End, Status};
+pub use outcome::{DevError, Status};
+pub use refusals::End;
 pub use request::{BadBio, Bio, MAX_REQUEST_SECTORS, check, check_sized};
 pub use sector_size::SectorSize;
 

@@ -2,7 +2,7 @@
 -- Nothing cites it: it is checked with its crate.
 use Rattle.std.proofs.Common.{◌≡◌, Bool, true, false, true≢false, List, [], ◌∷◌, Some, None, refl}
 use Rattle.std.proofs.Common.{ap, arith, ◌==◌}
-use Rattle.bio.specs.declared.outcome.End.TheVariants.{Full, Device, Memory}
+use Rattle.refusals.specs.declared.end.End.TheVariants.{Full, Device, Memory}
 use Rattle.bio.specs.declared.outcome.Status.{Status}
 use Rattle.board.specs.Posts.{opening, last_of, IsFit, MayFollow, MayPost, IsRising, Begins, word_of}
 use Rattle.board.specs.PostLaws.{rises_more, opening_rises}

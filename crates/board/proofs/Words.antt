@@ -1,8 +1,8 @@
 -- A status and its number stand for each other.
 -- Its own crate alone cites it, for the theorems of src/lib.rt.
 use Rattle.std.proofs.Common.{◌≡◌, ℕ, ◌+◌, ◌*◌, ◌≤◌, Option, Some, None, refl, arith}
-use Rattle.bio.specs.declared.outcome.End.{End}
-use Rattle.bio.specs.declared.outcome.End.TheVariants as ends
+use Rattle.refusals.specs.declared.end.End.{End}
+use Rattle.refusals.specs.declared.end.End.TheVariants as ends
 use Rattle.bio.specs.declared.outcome.Status.{Status}
 use Rattle.board.specs.Posts.{IsFit, end_number, word_of}
 

@@ -2,7 +2,7 @@
 // sector from bit 5 on, and below it why logging ended.
 // Its clauses are written in specs/Posts; the search alone proves it.
 ghost use Rattle.std.specs.Prelude.{◌≡◌, ◌≤◌, Option};
-ghost use Rattle.bio.specs.declared.outcome.End.{End};
+ghost use Rattle.refusals.specs.declared.end.End.{End};
 ghost use Rattle.bio.specs.declared.outcome.Status.{Status as Said};
 ghost use Rattle.board.specs.Posts.{IsFit, end_number, word_of as word_said};
 

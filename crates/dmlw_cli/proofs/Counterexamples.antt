@@ -21,7 +21,7 @@ use Rattle.clap.specs.declared.error.kind.ErrorKind.TheVariants.{MissingRequired
 use Rattle.clap.specs.declared.error.kind.ErrorKind.TheVariants.{OutOfMemory, UnknownArgument}
 use Rattle.replay.specs.declared.upto.Upto.{Upto}
 use Rattle.replay.specs.declared.upto.Upto.TheVariants.{Count, Flush, Mark}
-use Rattle.text_words.specs.Words.{is_number, number_value}
+use Rattle.refusals.specs.Words.{is_number, number_value}
 use Rattle.dmlw_commands.specs.Whats.{IsWhat}
 use Rattle.dmlw_cli.specs.CommandLine.{Entered, Enters, IsCommandOf, bare_app, command_app}
 use Rattle.dmlw_cli.specs.CommandLine.{command_words, has_explain, is_explain, is_formats}

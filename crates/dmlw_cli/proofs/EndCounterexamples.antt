@@ -18,9 +18,9 @@ use Rattle.clap.specs.declared.error.kind.ErrorKind.TheVariants.{DisplayVersion}
 use Rattle.clap.specs.declared.error.kind.ErrorKind.TheVariants.{MissingRequiredArgument}
 use Rattle.clap.specs.declared.error.kind.ErrorKind.TheVariants.{OutOfMemory, UnknownArgument}
 use Rattle.replay.specs.declared.upto.Upto.{Upto}
-use Rattle.run_error.specs.declared.run_error.RunError.{RunError}
-use Rattle.run_error.specs.declared.run_error.RunError.TheVariants as faults
-use Rattle.run_error.specs.Errors.{IsFileError, memory_error}
+use Rattle.refusals.specs.declared.run_error.RunError.{RunError}
+use Rattle.refusals.specs.declared.run_error.RunError.TheVariants as faults
+use Rattle.refusals.specs.Errors.{IsFileError, memory_error}
 use Rattle.dmlw_commands.specs.declared.ending.Ended.{Ended}
 use Rattle.dmlw_commands.specs.declared.exit.Exit.{Exit}
 use Rattle.dmlw_commands.specs.declared.exit.Exit.TheVariants as exits
@@ -28,7 +28,7 @@ use Rattle.dmlw_commands.specs.Ends.{ErrStream, Tells, err_stream}
 use Rattle.dmlw_commands.specs.Exits.{exit_by, exit_of, fault_line}
 use Rattle.dmlw_commands.specs.Records.{HoldsLog}
 use Rattle.dmlw_files.specs.Files.{Write}
-use Rattle.dmlw_explain.specs.declared.explaining.ReplayNames.{ReplayNames}
+use Rattle.dmlw_commands.specs.declared.explain.explaining.ReplayNames.{ReplayNames}
 use Rattle.dmlw_commands.specs.Replays.{HoldsReplayed}
 use Rattle.dmlw_cli.specs.Commands.{AsksForOne, DoesWords, EndsCommand, EndsFlawed, EndsPage}
 use Rattle.dmlw_cli.specs.Commands.{EndsTask, EndsText, EndsUntasked, IsFaultLine, LeavesLog}

@@ -9,7 +9,7 @@ use Rattle.std.specs.List.{filter, list_all, list_any}
 use Rattle.clap.specs.declared.error.kind.ErrorKind.{ErrorKind}
 use Rattle.clap.specs.declared.error.kind.ErrorKind.TheVariants.{OutOfMemory}
 use Rattle.clap.specs.Words.{Row, Text, kind_of}
-use Rattle.run_error.specs.Errors.{memory_error}
+use Rattle.refusals.specs.Errors.{memory_error}
 use Rattle.dmlw_commands.specs.declared.ending.Ended.{Ended}
 use Rattle.dmlw_commands.specs.declared.exit.Exit.{Exit}
 use Rattle.dmlw_commands.specs.declared.exit.Exit.TheVariants.{Done, LoggingEnded, Refused}
@@ -17,20 +17,20 @@ use Rattle.dmlw_commands.specs.Ends.{EndsRecording, EndsShowing, ErrStream, err_
 use Rattle.dmlw_files.specs.Files.{Write}
 use Rattle.dmlw_commands.specs.Lists.{ListsImage, Shows, ShowsStatus}
 use Rattle.dmlw_commands.specs.Records.{file}
-use Rattle.dmlw_run.specs.LogRuns.{EndsRunning}
-use Rattle.dmlw_run.specs.LogRuns.{file as run_file}
+use Rattle.dmlw_commands.specs.LogRuns.{EndsRunning}
+use Rattle.dmlw_commands.specs.LogRuns.{file as run_file}
 use Rattle.dmlw_commands.specs.Judgements.{EndsAnswering, EndsJudging, Meaning, Question}
 use Rattle.dmlw_commands.specs.Judgements.{file as unjudged, verdict_meaning}
 use Rattle.dmlw_commands.specs.Paths.{EndsFinding, finding_meaning}
-use Rattle.dmlw_explain.specs.declared.explaining.CopyNames.{CopyNames}
-use Rattle.dmlw_explain.specs.declared.explaining.ReplayNames.{ReplayNames}
+use Rattle.dmlw_commands.specs.declared.explain.explaining.CopyNames.{CopyNames}
+use Rattle.dmlw_commands.specs.declared.explain.explaining.ReplayNames.{ReplayNames}
 use Rattle.dmlw_commands.specs.LogCopies.{EndsCopying, HoldsCopied, file as uncopied}
 use Rattle.dmlw_cli.specs.Counts.{IsSectorCount}
 use Rattle.dmlw_commands.specs.Replays.{EndsReplaying, HoldsReplayed, file as unreplayed}
 use Rattle.dmlw_commands.specs.Whats.{IsWhat}
 use Rattle.replay.specs.declared.upto.Upto.{Upto}
 use Rattle.replay.specs.declared.upto.Upto.TheVariants as uptos
-use Rattle.text_words.specs.Words.{IsNumber, is_number, number_value}
+use Rattle.refusals.specs.Words.{IsNumber, is_number, number_value}
 use Rattle.dmlw_cli.specs.CommandLine.{Enters, command_words, has_explain, is_explain}
 use Rattle.dmlw_cli.specs.CommandLine.{is_positional, without_explain}
 use Rattle.dmlw_cli.specs.Commands.{DoesWords, EndsTask, EndsText, LeavesLog, LeavesRun}

@@ -5,8 +5,8 @@ use Rattle.std.specs.Prelude.{MatchResult, Option, Result, codes}
 use Rattle.std.specs.declared.io.ErrorKind.{ErrorKind as IoErrorKind}
 use Rattle.std.specs.declared.io.ErrorKind.TheVariants.{InvalidData}
 use Rattle.std.specs.Io.KnownBytes.{Appends, Keeps}
-use Rattle.run_error.specs.declared.run_error.RunError.{RunError}
-use Rattle.run_error.specs.Errors.{IsFileError, memory_error}
+use Rattle.refusals.specs.declared.run_error.RunError.{RunError}
+use Rattle.refusals.specs.Errors.{IsFileError, memory_error}
 use Rattle.clap.specs.declared.error.kind.ErrorKind.{ErrorKind}
 use Rattle.clap.specs.declared.error.kind.ErrorKind.TheVariants.{DisplayHelp, DisplayVersion}
 use Rattle.clap.specs.declared.error.kind.ErrorKind.TheVariants.{OutOfMemory}
@@ -27,7 +27,7 @@ use Rattle.dmlw_commands.specs.Records.{HoldsLog}
 use Rattle.dmlw_commands.specs.Judgements.{EndsJudging}
 use Rattle.dmlw_commands.specs.Paths.{EndsFinding}
 use Rattle.dmlw_commands.specs.LogCopies.{EndsCopying, HoldsCopied}
-use Rattle.dmlw_run.specs.LogRuns.{EndsRunning, HoldsRun}
+use Rattle.dmlw_commands.specs.LogRuns.{EndsRunning, HoldsRun}
 use Rattle.dmlw_commands.specs.Replays.{EndsReplaying, HoldsReplayed}
 use Rattle.dmlw_commands.specs.Whats.{IsWhat}
 use Rattle.replay.specs.declared.upto.Upto.{Upto}

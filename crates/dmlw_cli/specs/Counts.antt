@@ -1,7 +1,7 @@
 -- The number of sectors of a new disk, as a word.
 -- Any crate above may cite it.
 use Rattle.std.specs.Prelude.{ℕ, ◌≤◌, List}
-use Rattle.text_words.specs.Words.{IsNumber}
+use Rattle.refusals.specs.Words.{IsNumber}
 
 -- the word is a number of sectors that the disk of a copied log may have
 pub record IsSectorCount (word : List ℕ) (count : ℕ) : Type 0 where

@@ -16,7 +16,7 @@ use Rattle.dmlw_cli.specs.declared.task.Flaw.TheVariants as flaws
 use Rattle.dmlw_cli.specs.declared.task.Task.{Task}
 use Rattle.dmlw_cli.specs.declared.task.Task.TheVariants as tasks
 use Rattle.dmlw_commands.specs.Whats.{IsNoWhat, IsWhat}
-use Rattle.text_words.specs.Words.{IsNumber, is_number}
+use Rattle.refusals.specs.Words.{IsNumber, is_number}
 
 -- this is the word of an argument, among these rows
 abbrev pub IsWord : List Row → Text → Text → Type 0

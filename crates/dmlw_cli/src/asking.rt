@@ -10,8 +10,8 @@ use crate::sector_count::SectorCount;
 use crate::task::{Flaw, Task};
 use clap::ArgMatches;
 use dmlw_commands::replay_log::upto_of;
-use dmlw_explain::{CopyNames, ReplayNames};
-use text_words::number_of;
+use dmlw_commands::explain::{CopyNames, ReplayNames};
+use refusals::number_of;
 
 /// The task that `record` asks for with the words that were entered.
 pub fn record_task<'a>(found: &ArgMatches<'a>) -> Option<Task<'a>>

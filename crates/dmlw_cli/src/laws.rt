@@ -14,12 +14,12 @@ ghost use Rattle.dmlw_files.specs.Files.{Write};
 ghost use Rattle.dmlw_commands.specs.Lists.{ListsImage, ShowsStatus};
 ghost use Rattle.dmlw_commands.specs.LogCopies.{EndsCopying, HoldsCopied};
 ghost use Rattle.dmlw_cli.specs.Counts.{IsSectorCount};
-ghost use Rattle.dmlw_run.specs.LogRuns.{EndsRunning};
+ghost use Rattle.dmlw_commands.specs.LogRuns.{EndsRunning};
 ghost use Rattle.dmlw_commands.specs.Judgements.{EndsJudging};
 ghost use Rattle.dmlw_commands.specs.Paths.{EndsFinding};
 ghost use Rattle.dmlw_commands.specs.Whats.{IsWhat};
 ghost use Rattle.replay.specs.declared.upto.Upto.{Upto};
-ghost use Rattle.text_words.specs.Words.{IsNumber};
+ghost use Rattle.refusals.specs.Words.{IsNumber};
 
 /// A word names a command exactly where it is the command's name.
 #[tactic(auto, using(crate::proofs::CommandNames::named, crate::proofs::CommandNames::named_again))]

@@ -2,7 +2,7 @@
 //!
 //! `execute` does one command line; its contract says of each command what it has printed and which
 //! file it has asked to be written, in the words of `specs/Commands`. The commands themselves stand
-//! in `dmlw_commands` and `dmlw_run`; `command_line` reads the words, `laws` says
+//! in `dmlw_commands`; `command_line` reads the words, `laws` says
 //! which plain words are which command.
 #![tactic(auto)]
 

@@ -3,8 +3,8 @@
 ghost use Rattle.std.specs.Prelude.{◌≡◌, ◌≤◌, IfSome, None, ℕ};
 ghost use Rattle.dmlw_cli.specs.Counts.{IsSectorCount};
 
+use refusals::number_of;
 use std::marker::Model;
-use text_words::number_of;
 
 /// How many sectors of 512 bytes the disk of a copied log has: 8, which is one log sector, to
 /// 1,048,576. Contracts see it as that number.

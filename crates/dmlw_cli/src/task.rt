@@ -5,7 +5,7 @@ ghost use Rattle.dmlw_cli.specs.Commands.{flaw_forms};
 
 use crate::sector_count::SectorCount;
 use clap::Error;
-use dmlw_explain::{CopyNames, ReplayNames};
+use dmlw_commands::explain::{CopyNames, ReplayNames};
 use replay::Upto;
 
 /// What a command line asks for. `script`, `log` and `image` are names of files.

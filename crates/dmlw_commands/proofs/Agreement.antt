@@ -5,7 +5,7 @@ use Rattle.std.proofs.lemmas.List.{take_all}
 use Rattle.bio.specs.Content.{Content, sector_of}
 use Rattle.bio.specs.declared.event.CoreEvent.{CoreEvent}
 use Rattle.bio.specs.Possible.{Possible}
-use Rattle.script_reader.specs.Plans.{ScriptValue, top_of}
+use Rattle.dmlw_script.specs.Plans.{ScriptValue, top_of}
 use Rattle.judge.specs.declared.verdict.Verdict.{Verdict}
 use Rattle.judge.specs.Verdicts.{IsVerdict}
 use Rattle.world.specs.Runs.{IsReachable}

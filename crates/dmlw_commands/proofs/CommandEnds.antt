@@ -7,12 +7,12 @@ use Rattle.std.specs.Io.KnownBytes.{Keeps}
 use Rattle.dmlw_commands.specs.declared.ending.Ended.{Ended}
 use Rattle.dmlw_commands.specs.declared.exit.Exit.{Exit}
 use Rattle.dmlw_commands.specs.declared.exit.Exit.TheVariants as exits
-use Rattle.run_error.specs.declared.run_error.RunError.{RunError}
-use Rattle.run_error.specs.declared.run_error.RunError.TheVariants as faults
+use Rattle.refusals.specs.declared.run_error.RunError.{RunError}
+use Rattle.refusals.specs.declared.run_error.RunError.TheVariants as faults
 use Rattle.script_runner.specs.DiskRun.{stack_answering, DiskRun, FailsOnDisks, file as no_file}
 use Rattle.script_runner.specs.DiskRun.{run as no_run, unmade}
 use Rattle.script_runner.specs.Runs.{EndsRun, close, file as by_file, message}
-use Rattle.bio.specs.declared.outcome.End.{End}
+use Rattle.refusals.specs.declared.end.End.{End}
 use Rattle.bio.specs.declared.outcome.Status.{Status}
 use Rattle.dmlw_commands.specs.Ends.{EndsRecording, EndsShowing, ErrStream, Tells, TellsLine}
 use Rattle.dmlw_commands.specs.Exits.{IsRefusal, exit_after, exit_at, told_line}
@@ -20,7 +20,7 @@ use Rattle.dmlw_files.specs.Files.{AsksFor, KeepsFiles, MatchesContents, Write}
 use Rattle.dmlw_commands.specs.Lists.{Shows, ShowsFile}
 use Rattle.dmlw_commands.specs.Records.{FailsRecording, HoldsLog, IsPrintedLog, Records, PrintsLog}
 use Rattle.dmlw_commands.specs.Records.{WritesLog, file, run as ran, text as unread}
-use Rattle.script_reader.specs.Plans.{ScriptValue}
+use Rattle.dmlw_script.specs.Plans.{ScriptValue}
 use Rattle.dmlw_commands.proofs.ListLines.{IsKept, shows_kept}
 use Rattle.script_runner.specs.CallLaws.{appends_kept, keeps_twice}
 

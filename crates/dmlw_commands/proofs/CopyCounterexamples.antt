@@ -5,7 +5,7 @@ use Rattle.std.proofs.Common.{◌++◌, Result, Ok, Err, ap, arith, inl, inr, le
 use Rattle.std.specs.Prelude.{◌/◌, codes, decimal}
 use Rattle.std.specs.List.{list_all}
 use Rattle.bio.specs.Content.{sector_of}
-use Rattle.bio.specs.declared.outcome.End.TheVariants as ends
+use Rattle.refusals.specs.declared.end.End.TheVariants as ends
 use Rattle.log_format.specs.declared.entry.Entry.{Entry}
 use Rattle.log_format.specs.declared.decode.Super.{Super}
 use Rattle.log_format.specs.declared.decode.SuperFault.TheVariants as supers
@@ -17,15 +17,15 @@ use Rattle.log_reader.specs.declared.fault.OpenError.TheVariants as opens
 use Rattle.log_reader.specs.declared.fault.ReadDeviceError.TheVariants as reads
 use Rattle.log_reader.specs.DiskLogLaws.{same_reading}
 use Rattle.log_reader.specs.ImageLog.{IsReading}
-use Rattle.log_copy.specs.declared.fault.CopyError.TheVariants as copies
-use Rattle.log_copy.specs.declared.fault.CopyFault.{CopyFault}
-use Rattle.log_copy.specs.Resize.{is_aligned_to, resized}
+use Rattle.replay.specs.declared.copy_fault.CopyError.TheVariants as copies
+use Rattle.replay.specs.declared.copy_fault.CopyFault.{CopyFault}
+use Rattle.replay.specs.Resize.{is_aligned_to, resized}
 use Rattle.refusals.specs.declared.refusal.Refusal.{Refusal}
 use Rattle.refusals.specs.declared.refusal.Refusal.TheVariants as refusals
 use Rattle.refusals.specs.Texts.{refusal_text}
-use Rattle.run_error.specs.declared.run_error.RunError.{RunError}
-use Rattle.run_error.specs.declared.run_error.RunError.TheVariants as faults
-use Rattle.run_error.specs.Errors.{IsFileError, refused_by}
+use Rattle.refusals.specs.declared.run_error.RunError.{RunError}
+use Rattle.refusals.specs.declared.run_error.RunError.TheVariants as faults
+use Rattle.refusals.specs.Errors.{IsFileError, refused_by}
 use Rattle.dmlw_commands.specs.declared.ending.Ended.{Ended}
 use Rattle.dmlw_commands.specs.declared.exit.Exit.TheVariants as exits
 use Rattle.dmlw_commands.specs.Ends.{ErrStream}

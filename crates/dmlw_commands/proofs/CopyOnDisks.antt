@@ -8,7 +8,7 @@ use Rattle.std.proofs.Math.Nat.{eq-zero-or-pos}
 use Rattle.std.specs.List.{list_all}
 use Rattle.std.proofs.lemmas.List.{take_all}
 use Rattle.bio.specs.Content.{AgreeBelow, Content, HasWholeSectors, sector_of}
-use Rattle.bio.specs.declared.outcome.End.TheVariants as ends
+use Rattle.refusals.specs.declared.end.End.TheVariants as ends
 use Rattle.blockdev.specs.View.{IsLawful, View}
 use Rattle.bio.specs.SectorLaws.{length-gather, sector_of-gather}
 use Rattle.sector_disk.specs.declared.disk.SectorDisk.{SectorDisk}
@@ -37,14 +37,14 @@ use Rattle.log_reader.specs.DiskLog.{Reads}
 use Rattle.log_reader.specs.Refusals.{open_device_refusal}
 use Rattle.log_store.specs.Calls.{HasFailed, StoreFrame}
 use Rattle.log_store.specs.Store.{Store, StoreInvariant, entries_of}
-use Rattle.log_copy.specs.declared.fault.CopyError.{CopyError}
-use Rattle.log_copy.specs.declared.fault.CopyError.TheVariants as copies
-use Rattle.log_copy.specs.declared.fault.CopyFault.{CopyFault}
-use Rattle.log_copy.specs.Copies.{HasNoRoom, IsCopied as IsPlaced, IsLog, IsUnaligned, StopsBy}
-use Rattle.log_copy.specs.Copies.{entries_from}
-use Rattle.log_copy.specs.Resize.{is_aligned_to, resized}
-use Rattle.run_error.specs.declared.run_error.RunError.{RunError}
-use Rattle.run_error.specs.Errors.{refused_by}
+use Rattle.replay.specs.declared.copy_fault.CopyError.{CopyError}
+use Rattle.replay.specs.declared.copy_fault.CopyError.TheVariants as copies
+use Rattle.replay.specs.declared.copy_fault.CopyFault.{CopyFault}
+use Rattle.replay.specs.Copies.{HasNoRoom, IsCopied as IsPlaced, IsLog, IsUnaligned, StopsBy}
+use Rattle.replay.specs.Copies.{entries_from}
+use Rattle.replay.specs.Resize.{is_aligned_to, resized}
+use Rattle.refusals.specs.declared.run_error.RunError.{RunError}
+use Rattle.refusals.specs.Errors.{refused_by}
 use Rattle.dmlw_files.specs.Files.{MatchesContents}
 use Rattle.dmlw_files.specs.Images.{IsImage, image_of}
 use Rattle.dmlw_commands.specs.declared.copy_log.images.Copied.{Copied}

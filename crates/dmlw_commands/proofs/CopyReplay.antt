@@ -11,8 +11,8 @@ use Rattle.log_format.specs.Replay.{replay}
 use Rattle.log_reader.specs.declared.fault.LogFault.{LogFault}
 use Rattle.log_reader.specs.DiskLogLaws.{log_is_read, same_reading, size_of_head}
 use Rattle.log_reader.specs.ImageLog.{IsReading}
-use Rattle.log_copy.specs.Resize.{resized}
-use Rattle.log_copy.specs.ResizeLaws.{replay_first}
+use Rattle.replay.specs.Resize.{resized}
+use Rattle.replay.specs.ResizeLaws.{replay_first}
 use Rattle.dmlw_commands.specs.LogCopies.{IsCopied}
 
 -- the image of a copy is read as the entries of the log, resized

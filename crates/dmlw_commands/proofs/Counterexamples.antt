@@ -6,8 +6,8 @@ use Rattle.std.proofs.Common.{None, Result, Ok, Err, ap, inl, inr, refl, subst, 
 use Rattle.std.specs.Prelude.{codes, decimal}
 use Rattle.std.specs.Io.KnownBytes.{Appends}
 use Rattle.bio.specs.Content.{sector_of}
-use Rattle.bio.specs.declared.outcome.End.{End}
-use Rattle.bio.specs.declared.outcome.End.TheVariants.{Full}
+use Rattle.refusals.specs.declared.end.End.{End}
+use Rattle.refusals.specs.declared.end.End.TheVariants.{Full}
 use Rattle.bio.specs.declared.outcome.Status.{Status}
 use Rattle.bio.specs.Texts.{status_text}
 use Rattle.refusals.specs.declared.refusal.Refusal.TheVariants as refusals
@@ -18,11 +18,11 @@ use Rattle.log_format.specs.Entries.{mark_entry}
 use Rattle.log_reader.specs.declared.fault.LogFault.{LogFault}
 use Rattle.log_reader.specs.declared.fault.OpenError.TheVariants as opens
 use Rattle.log_reader.specs.ImageLog.{CountsTooMany, HasStatus, IsReading}
-use Rattle.script_reader.specs.Grammar.{IsTextOf}
-use Rattle.script_reader.specs.Plans.{ScriptValue}
-use Rattle.run_error.specs.declared.run_error.RunError.{RunError}
-use Rattle.run_error.specs.declared.run_error.RunError.TheVariants as faults
-use Rattle.run_error.specs.Errors.{IsFileError, refused_by}
+use Rattle.dmlw_script.specs.Grammar.{IsTextOf}
+use Rattle.dmlw_script.specs.Plans.{ScriptValue}
+use Rattle.refusals.specs.declared.run_error.RunError.{RunError}
+use Rattle.refusals.specs.declared.run_error.RunError.TheVariants as faults
+use Rattle.refusals.specs.Errors.{IsFileError, refused_by}
 use Rattle.script_runner.specs.DiskRun.{FailsOnDisks, IsRecorded}
 use Rattle.dmlw_files.specs.Files.{Write}
 use Rattle.dmlw_files.specs.Images.{IsImage}

@@ -13,20 +13,20 @@ use Rattle.world.specs.declared.step.Step.{Step}
 use Rattle.world.specs.declared.step.Step.TheVariants as moves
 use Rattle.world.specs.Machine.{start as fresh}
 use Rattle.world.specs.Runs.{is_run, taken}
-use Rattle.bio.specs.declared.outcome.End.{End}
-use Rattle.bio.specs.declared.outcome.End.TheVariants.{Full}
+use Rattle.refusals.specs.declared.end.End.{End}
+use Rattle.refusals.specs.declared.end.End.TheVariants.{Full}
 use Rattle.refusals.specs.declared.refusal.Refusal.{Refusal}
 use Rattle.refusals.specs.declared.refusal.Refusal.TheVariants as refusals
 use Rattle.pending.specs.Moments.{last_moment}
-use Rattle.script_reader.specs.declared.command.Command.{Command}
-use Rattle.script_reader.specs.Grammar.{IsTextOf}
-use Rattle.script_reader.specs.Lines.{lines_of}
-use Rattle.script_reader.specs.Plans.{ScriptValue, top_of}
+use Rattle.dmlw_script.specs.declared.command.Command.{Command}
+use Rattle.dmlw_script.specs.Grammar.{IsTextOf}
+use Rattle.dmlw_script.specs.Lines.{lines_of}
+use Rattle.dmlw_script.specs.Plans.{ScriptValue, top_of}
 use Rattle.judge.specs.declared.verdict.Verdict.{Verdict}
 use Rattle.judge.specs.declared.verdict.Verdict.TheVariants as verdicts
-use Rattle.run_error.specs.declared.run_error.RunError.{RunError}
-use Rattle.run_error.specs.declared.run_error.RunError.TheVariants as faults
-use Rattle.run_error.specs.Errors.{IsFileError, refused_by}
+use Rattle.refusals.specs.declared.run_error.RunError.{RunError}
+use Rattle.refusals.specs.declared.run_error.RunError.TheVariants as faults
+use Rattle.refusals.specs.Errors.{IsFileError, refused_by}
 use Rattle.script_runner.specs.DiskRun.{DiskRun, FailsOnDisks, file as disk_file, run as disk_run}
 use Rattle.script_runner.specs.DiskRun.{stack_answering, unmade}
 use Rattle.script_runner.specs.Rehearsals.{FailsRehearsal, IsRehearsed}

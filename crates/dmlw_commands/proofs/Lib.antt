@@ -16,3 +16,6 @@ mod QuestionEnds
 mod Agreement
 mod PrefixIsPossible
 mod JudgeCounterexamples
+mod RunOutcome
+mod RunEnds
+mod SeatLines

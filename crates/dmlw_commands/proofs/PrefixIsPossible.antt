@@ -16,7 +16,7 @@ use Rattle.log_format.specs.SizeLaws.{right_size}
 use Rattle.pending.specs.Prefixes.{BelongsTo, entries_of}
 use Rattle.pending.specs.CompletionList.{completion_list, dm_log_writes}
 use Rattle.pending.specs.Moments.{last_moment}
-use Rattle.script_reader.specs.Plans.{ScriptValue, top_of}
+use Rattle.dmlw_script.specs.Plans.{ScriptValue, top_of}
 use Rattle.judge.specs.declared.verdict.Verdict.{Verdict}
 use Rattle.judge.specs.declared.verdict.Verdict.TheVariants.{Yes, No}
 use Rattle.judge.specs.Verdicts.{IsVerdict}

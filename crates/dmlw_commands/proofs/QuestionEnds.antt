@@ -11,13 +11,13 @@ use Rattle.bio.specs.Sizes.{bytes_of}
 use Rattle.bio.specs.Content.{sector_of}
 use Rattle.refusals.specs.declared.fault.Fault.{Fault}
 use Rattle.refusals.specs.declared.refusal.Refusal.TheVariants as refusals
-use Rattle.script_reader.specs.Grammar.{IsTextOf}
-use Rattle.script_reader.specs.Plans.{ScriptValue, top_of}
-use Rattle.script_reader.specs.FirstFault.{IsFaultOf, is_memory}
-use Rattle.run_error.specs.declared.run_error.RunError.{RunError}
-use Rattle.run_error.specs.declared.run_error.RunError.TheVariants.{Refused}
+use Rattle.dmlw_script.specs.Grammar.{IsTextOf}
+use Rattle.dmlw_script.specs.Plans.{ScriptValue, top_of}
+use Rattle.dmlw_script.specs.FirstFault.{IsFaultOf, is_memory}
+use Rattle.refusals.specs.declared.run_error.RunError.{RunError}
+use Rattle.refusals.specs.declared.run_error.RunError.TheVariants.{Refused}
 use Rattle.script_runner.specs.CallLaws.{keeps_same, keeps_twice, appends_kept}
-use Rattle.run_error.specs.Errors.{IsFileError, memory_error, refused_by}
+use Rattle.refusals.specs.Errors.{IsFileError, memory_error, refused_by}
 use Rattle.script_runner.specs.Rehearsals.{FailsRehearsal, IsRehearsed}
 use Rattle.dmlw_commands.specs.declared.ending.Ended.{Ended}
 use Rattle.dmlw_files.specs.declared.files.FileError.{FileError}

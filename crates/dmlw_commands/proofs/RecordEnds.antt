@@ -9,14 +9,14 @@ use Rattle.std.specs.declared.io.ErrorKind.TheVariants as kinds
 use Rattle.script_runner.specs.CallLaws.{appends_twice, keeps_same}
 use Rattle.bio.specs.declared.outcome.Status.{Status}
 use Rattle.refusals.specs.declared.fault.Fault.{Fault}
-use Rattle.script_reader.specs.Grammar.{IsTextOf}
-use Rattle.script_reader.specs.Plans.{ScriptValue}
-use Rattle.script_reader.specs.FirstFault.{IsFaultOf, is_memory}
-use Rattle.run_error.specs.declared.run_error.RunError.{RunError}
-use Rattle.run_error.specs.declared.run_error.RunError.TheVariants.{Refused}
+use Rattle.dmlw_script.specs.Grammar.{IsTextOf}
+use Rattle.dmlw_script.specs.Plans.{ScriptValue}
+use Rattle.dmlw_script.specs.FirstFault.{IsFaultOf, is_memory}
+use Rattle.refusals.specs.declared.run_error.RunError.{RunError}
+use Rattle.refusals.specs.declared.run_error.RunError.TheVariants.{Refused}
 use Rattle.script_runner.specs.declared.recording.Lies.{Lies}
 use Rattle.script_runner.specs.declared.recording.RunResult.{RunResult}
-use Rattle.run_error.specs.Errors.{IsFileError, io_refusal, refused_by}
+use Rattle.refusals.specs.Errors.{IsFileError, io_refusal, refused_by}
 use Rattle.script_runner.specs.DiskRun.{FailsOnDisks, IsRecorded}
 use Rattle.dmlw_files.specs.declared.files.FileError.{FileError}
 use Rattle.dmlw_files.specs.declared.files.FileError.TheVariants as errors

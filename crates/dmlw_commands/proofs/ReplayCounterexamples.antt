@@ -5,7 +5,7 @@ use Rattle.std.proofs.Common.{◌++◌, Result, Ok, Err, ap, arith, drop, inl, i
 use Rattle.std.proofs.Common.{replicate, slice_index_or, subst, sym}
 use Rattle.std.specs.Prelude.{◌/◌, codes, decimal}
 use Rattle.bio.specs.Content.{sector_of}
-use Rattle.text_words.specs.Words.{is_number, number_value}
+use Rattle.refusals.specs.Words.{is_number, number_value}
 use Rattle.bio.specs.declared.outcome.DevError.TheVariants.{Io}
 use Rattle.log_format.specs.declared.entry.Entry.{Entry}
 use Rattle.log_format.specs.declared.decode.Super.{Super}
@@ -25,9 +25,9 @@ use Rattle.replay.specs.declared.fault.ReplayError.TheVariants as replays
 use Rattle.replay.specs.declared.fault.ReplayFault.{ReplayFault}
 use Rattle.replay.specs.declared.upto.Upto.{Upto}
 use Rattle.replay.specs.declared.upto.Upto.TheVariants.{Count, Flush, Mark}
-use Rattle.run_error.specs.declared.run_error.RunError.{RunError}
-use Rattle.run_error.specs.declared.run_error.RunError.TheVariants as faults
-use Rattle.run_error.specs.Errors.{IsFileError, refused_by}
+use Rattle.refusals.specs.declared.run_error.RunError.{RunError}
+use Rattle.refusals.specs.declared.run_error.RunError.TheVariants as faults
+use Rattle.refusals.specs.Errors.{IsFileError, refused_by}
 use Rattle.dmlw_commands.specs.declared.ending.Ended.{Ended}
 use Rattle.dmlw_commands.specs.declared.exit.Exit.TheVariants as exits
 use Rattle.dmlw_commands.specs.Ends.{ErrStream}

@@ -4,9 +4,9 @@ use Rattle.std.proofs.Common.{◌≡◌, ◌∙◌, ◌⊎◌, ℕ, List, Option
 use Rattle.std.proofs.Common.{inr, refl, subst, sym}
 use Rattle.std.specs.Io.KnownBytes.{Appends, Keeps}
 use Rattle.script_runner.specs.CallLaws.{appends_kept, keeps_twice}
-use Rattle.run_error.specs.declared.run_error.RunError.{RunError}
-use Rattle.run_error.specs.declared.run_error.RunError.TheVariants as faults
-use Rattle.run_error.specs.Errors.{IsFileError, memory_error}
+use Rattle.refusals.specs.declared.run_error.RunError.{RunError}
+use Rattle.refusals.specs.declared.run_error.RunError.TheVariants as faults
+use Rattle.refusals.specs.Errors.{IsFileError, memory_error}
 use Rattle.replay.specs.declared.upto.Upto.{Upto}
 use Rattle.dmlw_commands.specs.declared.ending.Ended.{Ended}
 use Rattle.dmlw_commands.specs.declared.exit.Exit.{Exit}

@@ -36,8 +36,8 @@ use Rattle.replay.specs.Replays.{HasReplayCause, IsApplied, LeavesBy, ReachesPas
 use Rattle.headline.specs.declared.reopening.ReopenError.{ReopenError}
 use Rattle.headline.specs.declared.reopening.ReopenError.TheVariants as reopens
 use Rattle.headline.specs.ReopenedLog.{IsRefused, IsReplayed as IsReopened, IsStopped, first_reader}
-use Rattle.run_error.specs.declared.run_error.RunError.{RunError}
-use Rattle.run_error.specs.Errors.{memory_error, refused_by}
+use Rattle.refusals.specs.declared.run_error.RunError.{RunError}
+use Rattle.refusals.specs.Errors.{memory_error, refused_by}
 use Rattle.dmlw_files.specs.Images.{IsImage, image_of}
 use Rattle.dmlw_commands.specs.Lists.{RefusesImage}
 use Rattle.dmlw_files.specs.Files.{MatchesContents}

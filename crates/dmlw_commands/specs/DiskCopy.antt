@@ -11,9 +11,9 @@ use Rattle.log_reader.specs.Reader.{Reader}
 use Rattle.log_reader.specs.ImageLog.{IsReading}
 use Rattle.log_reader.specs.DiskLog.{BeginsWith}
 use Rattle.log_store.specs.Store.{Store}
-use Rattle.log_copy.specs.Resize.{is_aligned_to, resized}
-use Rattle.run_error.specs.declared.run_error.RunError.{RunError}
-use Rattle.run_error.specs.Errors.{memory_error}
+use Rattle.replay.specs.Resize.{is_aligned_to, resized}
+use Rattle.refusals.specs.declared.run_error.RunError.{RunError}
+use Rattle.refusals.specs.Errors.{memory_error}
 use Rattle.dmlw_commands.specs.Lists.{RefusesImage}
 
 -- a reader stands before the first entry of the log that an image has, and hasn't refused

@@ -11,8 +11,8 @@ use Rattle.log_reader.specs.Refusals.{open_device_refusal}
 use Rattle.log_reader.specs.ImageLog.{IsReading}
 use Rattle.headline.specs.declared.reopening.ReopenError.{ReopenError}
 use Rattle.headline.specs.declared.reopening.ReopenError.TheVariants as reopens
-use Rattle.run_error.specs.declared.run_error.RunError.{RunError}
-use Rattle.run_error.specs.Errors.{refused_by}
+use Rattle.refusals.specs.declared.run_error.RunError.{RunError}
+use Rattle.refusals.specs.Errors.{refused_by}
 use Rattle.dmlw_commands.specs.Replays.{replay_stopped}
 use Rattle.replay.specs.declared.upto.Upto.{Upto}
 use Rattle.replay.specs.Replays.{IsUpto, entries_from}

@@ -2,7 +2,7 @@
 -- Any crate above may cite it.
 use Rattle.std.specs.Prelude.{◌≡◌, ℕ, Bool, true, false, List, [], ◌++◌, Option, Result}
 use Rattle.std.specs.Io.KnownBytes.{Appends}
-use Rattle.run_error.specs.declared.run_error.RunError.{RunError}
+use Rattle.refusals.specs.declared.run_error.RunError.{RunError}
 use Rattle.dmlw_commands.specs.declared.ending.Ended.{Ended}
 use Rattle.bio.specs.declared.outcome.Status.{Status}
 use Rattle.dmlw_commands.specs.declared.exit.Exit.{Exit}

@@ -3,11 +3,11 @@
 -- Any crate above may cite it.
 use Rattle.std.specs.Prelude.{◌⊎◌, ◌≡◌, ℕ, List, [], ◌++◌, None, Option, Result, Ok, Err, Some}
 use Rattle.std.specs.Prelude.{codes}
-use Rattle.bio.specs.declared.outcome.End.{End}
+use Rattle.refusals.specs.declared.end.End.{End}
 use Rattle.bio.specs.declared.outcome.Status.{Status}
-use Rattle.run_error.specs.declared.run_error.RunError.{RunError}
-use Rattle.run_error.specs.declared.run_error.RunError.TheVariants as errors
-use Rattle.run_error.specs.Errors.{error_text}
+use Rattle.refusals.specs.declared.run_error.RunError.{RunError}
+use Rattle.refusals.specs.declared.run_error.RunError.TheVariants as errors
+use Rattle.refusals.specs.Errors.{error_text}
 use Rattle.dmlw_commands.specs.declared.exit.Exit.{Exit}
 use Rattle.dmlw_commands.specs.declared.exit.Exit.TheVariants.{Done, Refused, Usage, LoggingEnded}
 use Rattle.dmlw_commands.specs.declared.exit.Exit.TheVariants.{RuledOut}

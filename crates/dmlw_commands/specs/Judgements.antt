@@ -10,17 +10,17 @@ use Rattle.bio.specs.Sizes.{bytes_of}
 use Rattle.refusals.specs.declared.refusal.Refusal.{Refusal}
 use Rattle.refusals.specs.declared.refusal.Refusal.TheVariants as refusals
 use Rattle.pending.specs.Moments.{last_moment}
-use Rattle.script_reader.specs.Grammar.{IsTextOf}
-use Rattle.script_reader.specs.Lines.{lines_of}
-use Rattle.script_reader.specs.Plans.{ScriptValue, top_of}
-use Rattle.script_reader.specs.FirstFault.{IsFirstFault}
+use Rattle.dmlw_script.specs.Grammar.{IsTextOf}
+use Rattle.dmlw_script.specs.Lines.{lines_of}
+use Rattle.dmlw_script.specs.Plans.{ScriptValue, top_of}
+use Rattle.dmlw_script.specs.FirstFault.{IsFirstFault}
 use Rattle.judge.specs.declared.verdict.Verdict.{Verdict}
 use Rattle.judge.specs.declared.verdict.Verdict.TheVariants as verdicts
 use Rattle.judge.specs.Texts.{verdict_text}
 use Rattle.judge.specs.Verdicts.{IsVerdict}
-use Rattle.run_error.specs.declared.run_error.RunError.{RunError}
-use Rattle.run_error.specs.declared.run_error.RunError.TheVariants.{Refused}
-use Rattle.run_error.specs.Errors.{IsFileError, memory_error, refused_by}
+use Rattle.refusals.specs.declared.run_error.RunError.{RunError}
+use Rattle.refusals.specs.declared.run_error.RunError.TheVariants.{Refused}
+use Rattle.refusals.specs.Errors.{IsFileError, memory_error, refused_by}
 use Rattle.script_runner.specs.Rehearsals.{FailsRehearsal, IsRehearsed}
 use Rattle.dmlw_commands.specs.declared.ending.Ended.{Ended}
 use Rattle.dmlw_commands.specs.declared.exit.Exit.{Exit}

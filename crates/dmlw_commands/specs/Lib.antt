@@ -1,15 +1,16 @@
 -- The definitions that the contracts of `dmlw_commands` are written in.
 pub use Rattle.dmlw_files.specs.Files
+pub use Rattle.replay.specs.Replays as LogReplays
+pub use Rattle.replay.specs.Copies
+pub use Rattle.replay.specs.Resize
+pub use Rattle.refusals.specs.Words
+pub use Rattle.seat_runner.specs.SeatRuns
 pub mod Exits
 pub mod Lists
 pub mod ImageLog
 pub mod Records
 pub mod Ends
 pub mod EndLaws
-pub use Rattle.replay.specs.Replays as LogReplays
-pub use Rattle.log_copy.specs.Copies
-pub use Rattle.log_copy.specs.Resize
-pub use Rattle.text_words.specs.Words
 pub mod Replays
 pub mod DiskReplay
 pub mod Whats
@@ -18,3 +19,4 @@ pub mod DiskCopy
 pub mod Judgements
 pub mod Paths
 pub mod PrefixImages
+pub mod LogRuns

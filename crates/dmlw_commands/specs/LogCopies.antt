@@ -7,7 +7,7 @@ use Rattle.std.specs.Fmt.{decimal}
 use Rattle.std.specs.Io.KnownBytes.{Appends, Keeps}
 use Rattle.std.specs.List.{list_all}
 use Rattle.bio.specs.Content.{sector_of}
-use Rattle.bio.specs.declared.outcome.End.TheVariants as ends
+use Rattle.refusals.specs.declared.end.End.TheVariants as ends
 use Rattle.log_format.specs.declared.entry.Entry.{Entry}
 use Rattle.log_format.specs.declared.decode.Super.{Super}
 use Rattle.log_format.specs.Entries.{sectors_of}
@@ -15,15 +15,15 @@ use Rattle.log_format.specs.LogOf.{IsLogOf, log_sectors, next_sector}
 use Rattle.log_reader.specs.declared.fault.LogFault.{LogFault}
 use Rattle.log_reader.specs.declared.fault.ReadDeviceError.TheVariants as reads
 use Rattle.log_reader.specs.ImageLog.{IsReading}
-use Rattle.log_copy.specs.declared.fault.CopyError.{CopyError}
-use Rattle.log_copy.specs.declared.fault.CopyError.TheVariants as copies
-use Rattle.log_copy.specs.declared.fault.CopyFault.{CopyFault}
-use Rattle.log_copy.specs.Copies.{IsUnaligned}
-use Rattle.log_copy.specs.Refusals.{copy_refusal}
-use Rattle.log_copy.specs.Resize.{is_aligned_to, resized}
-use Rattle.run_error.specs.declared.run_error.RunError.{RunError}
-use Rattle.run_error.specs.declared.run_error.RunError.TheVariants.{StoppedAfter}
-use Rattle.run_error.specs.Errors.{IsFileError, memory_error}
+use Rattle.replay.specs.declared.copy_fault.CopyError.{CopyError}
+use Rattle.replay.specs.declared.copy_fault.CopyError.TheVariants as copies
+use Rattle.replay.specs.declared.copy_fault.CopyFault.{CopyFault}
+use Rattle.replay.specs.Copies.{IsUnaligned}
+use Rattle.replay.specs.CopyRefusals.{copy_refusal}
+use Rattle.replay.specs.Resize.{is_aligned_to, resized}
+use Rattle.refusals.specs.declared.run_error.RunError.{RunError}
+use Rattle.refusals.specs.declared.run_error.RunError.TheVariants.{StoppedAfter}
+use Rattle.refusals.specs.Errors.{IsFileError, memory_error}
 use Rattle.dmlw_commands.specs.declared.ending.Ended.{Ended}
 use Rattle.dmlw_commands.specs.Ends.{ErrStream, Tells}
 use Rattle.dmlw_commands.specs.Lists.{RefusesImage}

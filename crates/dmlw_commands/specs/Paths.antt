@@ -7,7 +7,7 @@ use Rattle.judge.specs.declared.verdict.Verdict.{Verdict}
 use Rattle.judge.specs.declared.verdict.Verdict.TheVariants as verdicts
 use Rattle.world.specs.declared.step.Step.{Step}
 use Rattle.world.specs.Texts.{step_text}
-use Rattle.script_reader.specs.Plans.{ScriptValue}
+use Rattle.dmlw_script.specs.Plans.{ScriptValue}
 use Rattle.dmlw_commands.specs.declared.ending.Ended.{Ended}
 use Rattle.dmlw_commands.specs.declared.exit.Exit.{Exit}
 use Rattle.dmlw_commands.specs.declared.exit.Exit.TheVariants as exits

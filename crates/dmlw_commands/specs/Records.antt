@@ -6,14 +6,14 @@ use Rattle.std.specs.Io.KnownBytes.{Appends, Keeps}
 use Rattle.bio.specs.Texts.{status_text}
 use Rattle.bio.specs.declared.outcome.Status.{Status}
 use Rattle.refusals.specs.declared.refusal.Refusal.{Refusal}
-use Rattle.script_reader.specs.Grammar.{IsTextOf}
-use Rattle.script_reader.specs.Lines.{lines_of}
-use Rattle.script_reader.specs.Plans.{ScriptValue}
-use Rattle.script_reader.specs.FirstFault.{IsFirstFault}
-use Rattle.run_error.specs.declared.run_error.RunError.{RunError}
+use Rattle.dmlw_script.specs.Grammar.{IsTextOf}
+use Rattle.dmlw_script.specs.Lines.{lines_of}
+use Rattle.dmlw_script.specs.Plans.{ScriptValue}
+use Rattle.dmlw_script.specs.FirstFault.{IsFirstFault}
+use Rattle.refusals.specs.declared.run_error.RunError.{RunError}
 use Rattle.script_runner.specs.declared.recording.Lies.{Lies}
-use Rattle.run_error.specs.declared.run_error.RunError.TheVariants.{Refused}
-use Rattle.run_error.specs.Errors.{IsFileError}
+use Rattle.refusals.specs.declared.run_error.RunError.TheVariants.{Refused}
+use Rattle.refusals.specs.Errors.{IsFileError}
 use Rattle.script_runner.specs.DiskRun.{FailsOnDisks, IsRecorded}
 use Rattle.dmlw_commands.specs.declared.exit.Exit.{Exit}
 use Rattle.dmlw_commands.specs.Exits.{exit_at}

@@ -19,10 +19,10 @@ use Rattle.replay.specs.declared.upto.Upto.{Upto}
 use Rattle.replay.specs.Refusals.{replay_refusal}
 use Rattle.replay.specs.Replays.{AsksTooMany, EndsShort, IsUpto, LacksFlush, LacksMark, ReachesPast}
 use Rattle.replay.specs.Replays.{entries_from}
-use Rattle.run_error.specs.declared.run_error.RunError.{RunError}
-use Rattle.run_error.specs.declared.run_error.RunError.TheVariants.{StoppedAfter}
+use Rattle.refusals.specs.declared.run_error.RunError.{RunError}
+use Rattle.refusals.specs.declared.run_error.RunError.TheVariants.{StoppedAfter}
 use Rattle.refusals.specs.declared.refusal.Refusal.TheVariants as refusals
-use Rattle.run_error.specs.Errors.{IsFileError, memory_error, refused_by}
+use Rattle.refusals.specs.Errors.{IsFileError, memory_error, refused_by}
 use Rattle.dmlw_commands.specs.declared.ending.Ended.{Ended}
 use Rattle.dmlw_commands.specs.Ends.{ErrStream, Tells}
 use Rattle.dmlw_files.specs.Files.{MatchesContents, Write, one_more}

@@ -1,7 +1,7 @@
 -- How the end of a replay is named by a word.
 -- Any crate above may cite it.
 use Rattle.std.specs.Prelude.{◌≡◌, ℕ, List, ◌++◌, codes}
-use Rattle.text_words.specs.Words.{IsNumber}
+use Rattle.refusals.specs.Words.{IsNumber}
 use Rattle.replay.specs.declared.upto.Upto.{Upto}
 use Rattle.replay.specs.declared.upto.Upto.TheVariants as uptos
 

@@ -8,7 +8,7 @@ ghost use Rattle.dmlw_commands.specs.Exits.{fault_line, told_line};
 
 use crate::exit::Exit;
 use bio::Status;
-use run_error::RunError;
+use refusals::RunError;
 use std::alloc::Global;
 use std::io;
 use std::io::Write;

@@ -4,7 +4,7 @@ ghost use Rattle.std.specs.Prelude.{◌≡◌};
 ghost use Rattle.dmlw_commands.specs.Exits.{exit_at, exit_of, status_of};
 
 use bio::End;
-use run_error::RunError;
+use refusals::RunError;
 
 /// How a command ended.
 #[derive(Clone, Copy, Debug, PartialEq, Eq)]

@@ -4,7 +4,9 @@
 //! `list` and `status` print what is read of an image (`specs/Lists`); `replay` and `copy` make an
 //! image of a log (`specs/Replays`, `specs/LogCopies`); `judge` and `path` tell whether an image
 //! could have been on a script's data disk (`specs/Judgements`, `specs/Paths`). Each reports its
-//! fault and answers how it ended (`specs/Ends`). What a command asks of a file system is `Files` of `dmlw_files`.
+//! fault and answers how it ended (`specs/Ends`). `run` runs a script of several seats by
+//! `seat_runner` (`specs/LogRuns`). `explain` has what `--explain` adds behind a fault's line. What
+//! a command asks of a file system is `Files` of `dmlw_files`.
 #![tactic(auto)]
 
 pub use ending::{Ended, end, end_recording, end_well, report};
@@ -13,9 +15,11 @@ pub use exit::Exit;
 pub mod copy_log;
 mod ending;
 mod exit;
+pub mod explain;
 pub mod judge_image;
 pub mod list;
 mod opened;
 pub mod record;
 pub mod replay_log;
+pub mod run;
 pub mod status;

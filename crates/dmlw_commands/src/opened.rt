@@ -7,7 +7,7 @@ ghost use Rattle.log_reader.specs.declared.fault.LogFault.{LogFault};
 ghost use Rattle.log_reader.specs.Reader.{GivesWithin, Keeps};
 ghost use Rattle.log_reader.specs.DiskLog.{Reads};
 ghost use Rattle.log_reader.specs.ReaderView.{reader_of};
-ghost use Rattle.run_error.specs.Errors.{memory_error};
+ghost use Rattle.refusals.specs.Errors.{memory_error};
 ghost use Rattle.dmlw_files.specs.Images.{IsImage};
 ghost use Rattle.dmlw_commands.specs.Lists.{RefusesImage};
 ghost use Rattle.dmlw_commands.specs.ImageLog.{GivesNext, Opens};
@@ -15,8 +15,7 @@ ghost use Rattle.dmlw_commands.specs.ImageLog.{GivesNext, Opens};
 use blockdev::laws::crashes_leave_whole_sectors;
 use log_format::{Entry, Placed};
 use log_reader::LogReader;
-use refusals::Refusal;
-use run_error::RunError;
+use refusals::{Refusal, RunError};
 use sector_disk::{Image, SectorDisk};
 use std::alloc::Global;
 

@@ -2,8 +2,8 @@
 //! Its clauses are written in specs/; its theorems in proofs/record/.
 ghost use Rattle.std.specs.Prelude.{◌≡◌, ◌⊎◌, IfErr, IfOk, OnErr, OnOk, Some};
 ghost use Rattle.std.specs.Io.KnownBytes.{Appends};
-ghost use Rattle.run_error.specs.Errors.{IsFileError};
-ghost use Rattle.script_reader.specs.Grammar.{IsTextOf};
+ghost use Rattle.refusals.specs.Errors.{IsFileError};
+ghost use Rattle.dmlw_script.specs.Grammar.{IsTextOf};
 ghost use Rattle.dmlw_commands.specs.Ends.{EndsRecording, err_stream};
 ghost use Rattle.dmlw_commands.specs.declared.exit.Exit.{Exit};
 ghost use Rattle.dmlw_commands.specs.Exits.{IsRefusal, exit_after, exit_at, exit_of};
@@ -14,12 +14,11 @@ ghost use Rattle.dmlw_commands.specs.Records.{FailsRecording, HoldsLog, IsPrinte
 ghost use Rattle.dmlw_commands.specs.Records.{end_lines, lies_line, status_line};
 
 use crate::ending::{Ended, end_recording};
+use crate::explain::explain_recording;
 use bio::Status;
-use dmlw_explain::explain_recording;
 use dmlw_files::{Files, Session, read_text};
-use refusals::Refusal;
-use run_error::RunError;
-use script_reader::{Script, read_script};
+use dmlw_script::{Script, read_script};
+use refusals::{Refusal, RunError};
 use script_runner::{Lies, RunResult};
 use std::alloc::Global;
 use std::io::Write;

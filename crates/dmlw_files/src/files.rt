@@ -2,13 +2,12 @@
 //! Its clauses are written in specs/; the search alone proves it.
 ghost use Rattle.std.specs.Prelude.{◌≡◌, ◌≤◌, Bool, IfErr, IfOk, List, OnErr, OnOk, Option, false};
 ghost use Rattle.std.specs.Prelude.{is_some, length, true, ℕ};
-ghost use Rattle.run_error.specs.Errors.{refused_by};
+ghost use Rattle.refusals.specs.Errors.{refused_by};
 ghost use Rattle.dmlw_files.specs.Files.{IsWithin, KeepsFiles, MatchesContents, Write, one_more};
 ghost use Rattle.dmlw_files.specs.FileErrors.{file_error, file_refusal};
 ghost use Rattle.dmlw_files.specs.Images.{image_of};
 
-use refusals::Refusal;
-use run_error::RunError;
+use refusals::{Refusal, RunError};
 use sector_disk::{Image, SectorDisk};
 use std::alloc::Global;
 use std::io;

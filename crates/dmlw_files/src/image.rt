@@ -1,14 +1,13 @@
 //! Reads an image from a file: whole sectors, 512 MiB at most.
 //! Its clauses are written in specs/Files and specs/Images; the search alone proves it.
 ghost use Rattle.std.specs.Prelude.{◌≡◌, IfErr, IfOk};
-ghost use Rattle.run_error.specs.Errors.{IsFileError, memory_error};
+ghost use Rattle.refusals.specs.Errors.{IsFileError, memory_error};
 ghost use Rattle.dmlw_files.specs.Files.{KeepsFiles, MatchesContents};
 ghost use Rattle.dmlw_files.specs.Images.{HoldsImage, IsImage};
 
 use crate::files::Files;
 use bio::SECTOR_BYTES;
-use refusals::Refusal;
-use run_error::RunError;
+use refusals::{Refusal, RunError};
 use sector_disk::Image;
 use std::alloc::Global;
 

@@ -1,3 +1,25 @@
 -- The lemmas of `dmlw_script`; the proof of a function stands in the folder of its source file.
 mod Spelling
 mod RunSpelling
+pub mod DiskLaws
+pub mod DraftLemmas
+pub mod PickLaws
+pub mod LineLemmas
+pub mod LayerLaws
+pub mod LineParserLaws
+pub mod BodyLaws
+pub mod FaultLaws
+pub mod CanonicalTextLaws
+pub mod ScriptLaws
+pub mod Examples
+pub mod FoldLaws
+pub mod HeadLaws
+pub mod ReaderLaws
+pub mod RecorderLaws
+pub mod RecorderFaults
+pub mod RunLaws
+pub mod RunFaults
+pub mod RunLines
+pub mod RunTextLaws
+pub mod RunExamples
+pub mod RunTextExamples

@@ -3,12 +3,12 @@
 use Rattle.std.proofs.Common.{◌≡◌, ℕ, List, [], ◌∷◌, ◌++◌, refl, ap, ◌∙◌, sym, append_assoc}
 use Rattle.std.specs.Prelude.{flat_map, map}
 use Rattle.std.proofs.lemmas.List.Concat.{flat_map-append}
-use Rattle.script_reader.specs.CanonicalText.{ended_line}
+use Rattle.dmlw_script.specs.CanonicalText.{ended_line}
 use Rattle.bio.specs.declared.sector_size.SectorSize.{SectorSize}
-use Rattle.script_reader.specs.Plans.{data_line, layer_line, log_line, Disk}
-use Rattle.script_reader.specs.RunPlans.{data_layer, log_layer, run_head, RunPlan}
-use Rattle.script_reader.specs.RunText.{ended_run_line, seats_line}
-use Rattle.script_reader.specs.declared.disk_name.DiskName.TheVariants as disks
+use Rattle.dmlw_script.specs.Plans.{data_line, layer_line, log_line, Disk}
+use Rattle.dmlw_script.specs.RunPlans.{data_layer, log_layer, run_head, RunPlan}
+use Rattle.dmlw_script.specs.RunText.{ended_run_line, seats_line}
+use Rattle.dmlw_script.specs.declared.disk_name.DiskName.TheVariants as disks
 use Rattle.table_line.specs.declared.layer_spec.LayerSpec.{LayerSpec}
 
 -- layers are spelled as in a recorder's script

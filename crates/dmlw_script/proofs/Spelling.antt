@@ -6,12 +6,12 @@ use Rattle.std.specs.Prelude.{decimal, flat_map, map}
 use Rattle.std.proofs.lemmas.List.{append-nil}
 use Rattle.std.proofs.lemmas.List.Concat.{flat_map-append}
 use Rattle.bio.specs.declared.sector_size.SectorSize.{SectorSize}
-use Rattle.script_reader.specs.CanonicalText.{ended_line, ending_text, canonical_text}
-use Rattle.script_reader.specs.Grammar.{spaced}
-use Rattle.script_reader.specs.Plans.{head_of, lines_behind_head, lines_of_body, with_ending, Disk}
-use Rattle.script_reader.specs.Plans.{ScriptValue}
-use Rattle.script_reader.specs.LineMeaning.{LineMeaning}
-use Rattle.script_reader.specs.LineMeaning as parsed_lines
+use Rattle.dmlw_script.specs.CanonicalText.{ended_line, ending_text, canonical_text}
+use Rattle.dmlw_script.specs.Grammar.{spaced}
+use Rattle.dmlw_script.specs.Plans.{head_of, lines_behind_head, lines_of_body, with_ending, Disk}
+use Rattle.dmlw_script.specs.Plans.{ScriptValue}
+use Rattle.dmlw_script.specs.LineMeaning.{LineMeaning}
+use Rattle.dmlw_script.specs.LineMeaning as parsed_lines
 
 -- the text of lines and of the crash behind them
 ending_spelled : (ending : Option (List ℕ)) (ss : List LineMeaning)

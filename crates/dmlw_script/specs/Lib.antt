@@ -1,5 +1,23 @@
 -- The definitions that the contracts of `dmlw_script` are written in.
-pub use Rattle.script_reader.specs.Grammar
-pub use Rattle.script_reader.specs.CanonicalText
-pub use Rattle.script_reader.specs.RunGrammar
-pub use Rattle.script_reader.specs.RunText
+pub use Rattle.bio.specs.Refusals
+pub use Rattle.bio.specs.Sizes
+pub use Rattle.table_line.specs.Ranges
+pub use Rattle.table_line.specs.LayerOrder
+pub use Rattle.table_line.specs.TableLines
+pub use Rattle.table_line.specs.Refusals as TableRefusals
+pub use Rattle.table_line.specs.Texts as TableTexts
+pub mod Words
+pub mod Ids
+pub mod Lines
+pub mod LineMeaning
+pub mod Options
+pub mod Plans
+pub mod Grammar
+pub mod FirstFault
+pub mod CanonicalText
+pub mod Texts
+pub mod RunPlans
+pub mod RunGrammar
+pub mod RunFirstFault
+pub mod RunText
+pub mod inside

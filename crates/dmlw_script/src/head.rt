@@ -1,96 +1,151 @@
-//! The lines of a script's head.
-//! Its clauses are in words of `script_reader`; its theorems in proofs/head/.
-ghost use Rattle.std.specs.Prelude.{◌≡◌, ◌++◌, flat_map, map, OnOk};
-ghost use Rattle.script_reader.specs.CanonicalText.{ended_line, line_text};
-ghost use Rattle.script_reader.specs.Plans.{data_line, head_of, layer_line, log_line};
-ghost use Rattle.script_reader.specs.declared.disk_name.DiskName.TheVariants as disks;
+//! The head of a script: its disks, the size of its log's sectors, and its layers, in their order.
+//! Its clauses are written in specs/; the search alone proves it.
+ghost use Rattle.std.specs.Prelude.{◌≡◌, List, false, ℕ};
+ghost use Rattle.bio.specs.Sizes.{bytes_of};
+ghost use Rattle.dmlw_script.specs.Plans.{is_disk_size as is_a_disk_size};
+ghost use Rattle.dmlw_script.specs.Plans.{is_log_disk_size as is_a_log_disk_size};
+ghost use Rattle.dmlw_script.specs.Plans.{is_within as is_within_them};
+ghost use Rattle.dmlw_script.specs.inside.Drafts.{Follows};
+ghost use Rattle.dmlw_script.specs.inside.Heads.{head_step, layer_in, layer_step, stage_of};
+ghost use Rattle.dmlw_script.specs.inside.Stages as heads;
 
-use crate::parts::push_value;
-use bio::SectorSize;
-use script_reader::{DiskName, DiskSpec};
-use std::alloc::AllocError;
-use table_line::{LayerSpec, push_line};
+use crate::disk::DiskSpec;
+use crate::disk_name::DiskName;
+use crate::line::HeadLine;
+use crate::line_error::LineError;
+use bio::{MAX_DEVICE_SECTORS, SectorSize};
+use refusals::Refusal;
+use std::alloc::Global;
+use table_line::{LayerSpec, TableError};
 
-// The lines of a script's head.
-pub(crate) fn push_head(
-    out: &mut Vec<u8>,
-    data_disk: &DiskSpec,
-    log_disk: &DiskSpec,
-    log_size: SectorSize,
-) -> Result<(), AllocError>
-    ensures { OnOk result (out.new.items
-        ≡ out.old.items ++ flat_map ended_line (head_of data_disk.now log_disk.now log_size)) }
-{
-    push_disks(out, data_disk.sectors(), log_disk.sectors(), log_size)?;
-    push_disk_layers(out, data_disk, log_disk)
+// The most layers over one disk.
+const MAX_LAYERS: usize = 4;
+
+/// How much of a script was read.
+#[derive(Clone, Copy)]
+pub(crate) enum Part {
+    /// Nothing: the line of the data disk comes next.
+    Nothing,
+    /// The line of the data disk: that of the log disk comes next.
+    Data,
+    /// The lines of both disks: layers come next, or the body.
+    Whole,
+    /// All: a crash has ended the script.
+    Ended,
 }
 
-// The lines of the disks: the sectors of each, and the size of the log's sectors.
-pub(crate) fn push_disks(
-    out: &mut Vec<u8>,
-    data_sectors: u64,
-    log_sectors: u64,
-    log_size: SectorSize,
-) -> Result<(), AllocError>
-    ensures { OnOk result (out.new.items
-        ≡ out.old.items ++ (ended_line (data_line data_sectors)
-        ++ ended_line (log_line log_sectors log_size))) }
-{
-    push_value(out, b"data ", data_sectors)?;
-    out.push(b'\n')?;
-    push_log(out, log_sectors, log_size)?;
-    out.push(b'\n')?;
-    Ok(())
+/// The head of a script, as far as it was read.
+#[derive(Drop)]
+pub(crate) struct Head {
+    pub(crate) part: Part,
+    /// The data disk, of no sectors where its line wasn't read.
+    pub(crate) data_disk: DiskSpec,
+    /// The log disk, the same.
+    pub(crate) log_disk: DiskSpec,
+    /// The size of the log's sectors, 512 bytes where the log disk's line wasn't read.
+    pub(crate) log_size: SectorSize,
 }
 
-// The lines of both disks' layers.
-pub(crate) fn push_disk_layers(
-    out: &mut Vec<u8>,
-    data_disk: &DiskSpec,
-    log_disk: &DiskSpec,
-) -> Result<(), AllocError>
-    ensures { OnOk result (out.new.items ≡ out.old.items
-        ++ (flat_map ended_line (map (layer_line disks.Data) data_disk.now.layers)
-        ++ flat_map ended_line (map (layer_line disks.Log) log_disk.now.layers))) }
-{
-    push_layers(out, DiskName::Data, data_disk.layers())?;
-    push_layers(out, DiskName::Log, log_disk.layers())
-}
+impl Head {
+    pub(crate) fn new(alloc: Global) -> Head
+        ensures { (picks : List ℕ) → stage_of picks result ≡ heads.Empty }
+    {
+        Head {
+            part: Part::Nothing,
+            data_disk: DiskSpec::new(alloc, 0),
+            log_disk: DiskSpec::new(alloc, 0),
+            log_size: SectorSize::B512,
+        }
+    }
 
-// The line of the log disk, but for its line feed: the size
-// of the log's sectors is named where it isn't 512 bytes.
-fn push_log(out: &mut Vec<u8>, sectors: u64, size: SectorSize) -> Result<(), AllocError>
-    ensures { OnOk result (out.new.items ≡ out.old.items ++ line_text (log_line sectors size)) }
-{
-    push_value(out, b"log ", sectors)?;
-    match size {
-        SectorSize::B512 => Ok(()),
-        SectorSize::B4096 => out.extend_from_slice(b" 4096"),
+    /// Reads the next line of the head, before which the body has begun or not.
+    pub(crate) fn read(
+        &mut self,
+        alloc: Global,
+        line: HeadLine,
+        began: bool,
+    ) -> Result<(), LineError>
+        ensures { (picks : List ℕ)
+            → Follows result (stage_of picks self.new)
+            (head_step (stage_of picks self.old) began line) }
+    {
+        match (self.part, line) {
+            (Part::Nothing, HeadLine::Data { sectors }) if is_disk_size(sectors) => {
+                self.data_disk = DiskSpec::new(alloc, sectors);
+                self.part = Part::Data;
+                Ok(())
+            }
+            (Part::Data, HeadLine::Log { sectors, size }) if is_log_disk_size(sectors, size) => {
+                self.log_disk = DiskSpec::new(alloc, sectors);
+                self.log_size = size;
+                self.part = Part::Whole;
+                Ok(())
+            }
+            (Part::Whole, HeadLine::Layer { over, asked }) if !began => self.layer(over, asked),
+            _ => Err(LineError::Refused(Refusal::BadLine)),
+        }
+    }
+
+    // Reads a layer's line in a head that has both disks.
+    fn layer(
+        &mut self,
+        over: DiskName,
+        asked: Result<LayerSpec, TableError>,
+    ) -> Result<(), LineError>
+        requires { self.old.part ≡ Part.Whole }
+        ensures { (picks : List ℕ)
+            → Follows result (stage_of picks self.new)
+            (layer_in false self.old.data_disk self.old.log_disk self.old.log_size over asked) }
+    {
+        match over {
+            DiskName::Data if self.log_disk.layers().is_empty() => {
+                push_layer(&mut self.data_disk, asked, 1)
+            }
+            DiskName::Data => Err(LineError::Refused(Refusal::BadLine)),
+            DiskName::Log => push_layer(&mut self.log_disk, asked, self.log_size.sectors()),
+        }
     }
 }
 
-// The lines of a disk's layers.
-fn push_layers(out: &mut Vec<u8>, over: DiskName, layers: &[LayerSpec]) -> Result<(), AllocError>
-    ensures { OnOk result (out.new.items
-        ≡ out.old.items ++ flat_map ended_line (map (layer_line over) layers.now)) }
+// Puts the layer that a line asks for over a disk, whose layers have at least so many sectors.
+fn push_layer(
+    disk: &mut DiskSpec,
+    asked: Result<LayerSpec, TableError>,
+    least: u64,
+) -> Result<(), LineError>
+    ensures { Follows result disk.new (layer_step least disk.old asked) }
 {
-    for layer in layers {
-        push_layer(out, over, layer)?;
+    if disk.layers().len() >= MAX_LAYERS {
+        return Err(LineError::Refused(Refusal::BadLine));
     }
+    let layer = asked?;
+    if !is_within(layer, disk.top_sectors()) {
+        return Err(LineError::Refused(Refusal::OutOfRange));
+    }
+    if layer.length < least {
+        return Err(LineError::Refused(Refusal::BadLine));
+    }
+    disk.push(layer)?;
     Ok(())
 }
 
-// The line of a layer.
-fn push_layer(out: &mut Vec<u8>, over: DiskName, layer: &LayerSpec) -> Result<(), AllocError>
-    ensures { OnOk result (out.new.items
-        ≡ out.old.items ++ ended_line (layer_line over layer.now)) }
+// A layer is within what stands beneath it, which has so many sectors.
+fn is_within(layer: LayerSpec, sectors: u64) -> bool
+    ensures { result ≡ is_within_them layer sectors }
 {
-    let verb: &[u8] = match over {
-        DiskName::Data => b"data-layer ",
-        DiskName::Log => b"log-layer ",
-    };
-    out.extend_from_slice(verb)?;
-    push_line(out, layer)?;
-    out.push(b'\n')?;
-    Ok(())
+    layer.offset <= sectors && layer.length <= sectors - layer.offset
+}
+
+// A disk may have so many sectors.
+fn is_disk_size(sectors: u64) -> bool
+    ensures { result ≡ is_a_disk_size sectors }
+{
+    0 < sectors && sectors <= MAX_DEVICE_SECTORS
+}
+
+// A log disk may have so many sectors: one of the log's sectors fits on it.
+fn is_log_disk_size(sectors: u64, size: SectorSize) -> bool
+    ensures { result ≡ is_a_log_disk_size (bytes_of size) sectors }
+{
+    is_disk_size(sectors) && size.sectors() <= sectors
 }

@@ -1,20 +1,52 @@
-//! Scripts as texts: what reads them, `script_reader`, by the same names, and what prints them.
+//! The scripts of `dmlw record`: texts that say the sizes of the disks and of the log's sectors,
+//! which layers lie over them, which requests are made, and when they end. And those of
+//! `dmlw run`, whose requests are made by seats.
 //!
-//! `print_script` writes the one spelling of a script, `canonical_text` (`specs/CanonicalText` of
-//! `script_reader`), line by line: the head, the body, and the crash that ends it. Reading that
-//! text gives the same script. `print_run_script` does so of a run's script, by `run_text`.
+//! `read_script` and `read_run_script` read a text, or answer the first line that is wrong. In a
+//! recorder's script a request's number is the place of its submission among the script's
+//! submissions, counted from 0, so whoever goes over the commands needs no map of ids.
+//! `print_script` and `print_run_script` write the one spelling of a script, line by line: the
+//! head, the body, and the crash that ends it. Reading that text gives the same script.
+//!
+//! `specs/Grammar` is the grammar, a relation between texts and scripts, and `specs/Plans` says
+//! what a script is, `specs/CanonicalText` its one spelling, `specs/Texts` what is shown of an id
+//! and of a fault. `specs/RunGrammar`, `specs/RunPlans` and `specs/RunText` are the same of a
+//! run's. A new kind of line is a case of `Submission` or of `Step`, and of `ParsesAs`; an option
+//! of a write a word of `option_words`.
 #![tactic(auto)]
 
+pub use command::{Command, Step, Submission, WriteOptions};
+pub use disk::DiskSpec;
+pub use disk_name::DiskName;
 pub use printing::print_script;
+pub use reader::{line_of, read_script};
 pub use run_printing::print_run_script;
-pub use script_reader::{
-    Call, Command, DiskName, DiskSpec, RunScript, Script, ScriptId, SeatCall, Step, Submission,
-    WriteOptions, line_of, read_run_script, read_script,
-};
+pub use run_reader::read_run_script;
+pub use run_script::RunScript;
+pub use script::Script;
+pub use script_id::ScriptId;
+pub use seat_call::{Call, SeatCall};
 
+mod command;
+mod disk;
+mod disk_name;
+mod draft;
 mod head;
+pub mod laws;
+mod line;
+mod line_error;
+mod options;
 mod parts;
+mod printed_head;
 mod printing;
+mod reader;
+mod run_line;
 mod run_printing;
+mod run_reader;
+mod run_script;
+mod script;
+mod script_id;
+mod seat_call;
 mod steps;
 mod submissions;
+mod values;

@@ -1,11 +1,11 @@
 //! The parts that lines are made of: a first word, numbers and ids.
-//! Its clauses are in words of `script_reader`; the search alone proves it.
+//! Its clauses are in words of specs/; the search alone proves it.
 ghost use Rattle.std.specs.Prelude.{◌≡◌, ◌++◌, ◌∷◌, decimal, OnOk};
-ghost use Rattle.script_reader.specs.Ids.{letters_of};
+ghost use Rattle.dmlw_script.specs.Ids.{letters_of};
 
-use script_reader::ScriptId;
+use crate::script_id::ScriptId;
+use refusals::push_number;
 use std::alloc::AllocError;
-use text_words::push_number;
 
 // A line's first word and space, and a number.
 pub(crate) fn push_value(out: &mut Vec<u8>, verb: &[u8], number: u64) -> Result<(), AllocError>

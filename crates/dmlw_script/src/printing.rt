@@ -1,19 +1,21 @@
 //! Prints a recorder's script: `print_script` gives its one text.
-//! Its clauses are in words of `script_reader`; its theorems in proofs/printing/.
+//! Its clauses are in words of specs/; its theorems in proofs/printing/.
 ghost use Rattle.std.specs.Prelude.{◌≡◌, ◌<◌, ◌+◌, ◌^◌, ◌++◌, flat_map, length, IfOk, OnOk};
-ghost use Rattle.script_reader.specs.Grammar.{IsTextOf};
-ghost use Rattle.script_reader.specs.LineMeaning as parsed_lines;
-ghost use Rattle.script_reader.specs.Plans.{count_after_command, lines_of_body, line_at, HasName};
-ghost use Rattle.script_reader.specs.CanonicalText.{ended_line, ending_text, line_text};
-ghost use Rattle.script_reader.specs.CanonicalText.{canonical_text};
+ghost use Rattle.dmlw_script.specs.Grammar.{IsTextOf};
+ghost use Rattle.dmlw_script.specs.LineMeaning as parsed_lines;
+ghost use Rattle.dmlw_script.specs.Plans.{count_after_command, lines_of_body, line_at, HasName};
+ghost use Rattle.dmlw_script.specs.CanonicalText.{ended_line, ending_text, line_text};
+ghost use Rattle.dmlw_script.specs.CanonicalText.{canonical_text};
 
-use crate::head::push_head;
+use crate::command::Command;
 use crate::parts::push_name;
+use crate::printed_head::push_head;
+use crate::script::Script;
+use crate::script_id::ScriptId;
 use crate::steps::push_step;
 use crate::submissions::push_submission;
-use script_reader::{Command, Script, ScriptId};
+use refusals::push_number;
 use std::alloc::{AllocError, Global};
-use text_words::push_number;
 
 /// The one text of a script: no comments, no empty lines, no leading zeroes, and a line feed
 /// after each line. Reading it gives the same script.
@@ -22,7 +24,7 @@ pub fn print_script(alloc: Global, script: &Script) -> Result<Vec<u8>, AllocErro
     // What is printed is a text of this script, and so read as it.
     ensures again { IfOk result (λ text. IsTextOf text.items script.now) }
 {
-    script_reader::laws::each_script_has_a_text();
+    crate::laws::each_script_has_a_text();
     let mut out = Vec::new(alloc);
     push_head(&mut out, script.data(), script.log(), script.log_size())?;
     push_body(&mut out, script)?;

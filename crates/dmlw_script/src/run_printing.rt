@@ -1,16 +1,18 @@
 //! Prints a run's script as one text.
-//! Its clauses are in words of `script_reader`; its theorems in proofs/run_printing/.
+//! Its clauses are in words of specs/; its theorems in proofs/run_printing/.
 ghost use Rattle.std.specs.Prelude.{◌≡◌, ◌++◌, flat_map, map, IfOk, OnOk};
-ghost use Rattle.script_reader.specs.RunGrammar.{IsRunText};
-ghost use Rattle.script_reader.specs.RunPlans.{run_head};
-ghost use Rattle.script_reader.specs.RunText.{call_line, call_text, ended_run_line, run_text};
-ghost use Rattle.script_reader.specs.RunText.{seats_line};
+ghost use Rattle.dmlw_script.specs.RunGrammar.{IsRunText};
+ghost use Rattle.dmlw_script.specs.RunPlans.{run_head};
+ghost use Rattle.dmlw_script.specs.RunText.{call_line, call_text, ended_run_line, run_text};
+ghost use Rattle.dmlw_script.specs.RunText.{seats_line};
 
-use crate::head::{push_disk_layers, push_disks};
+use crate::printed_head::{push_disk_layers, push_disks};
 use crate::parts::{push_sectors, push_value};
 use crate::steps::push_mark;
 use crate::submissions::push_filling;
-use script_reader::{Call, RunScript, SeatCall, Submission};
+use crate::command::Submission;
+use crate::run_script::RunScript;
+use crate::seat_call::{Call, SeatCall};
 use std::alloc::{AllocError, Global};
 
 /// The one text of a run's script: no comments, no empty lines, no leading zeroes, and a line feed
@@ -20,7 +22,7 @@ pub fn print_run_script(alloc: Global, script: &RunScript) -> Result<Vec<u8>, Al
     // What is printed is a text of this script, and so read as it.
     ensures again { IfOk result (λ text. IsRunText text.items script.now) }
 {
-    script_reader::laws::each_run_script_has_a_text();
+    crate::laws::each_run_script_has_a_text();
     let mut out = Vec::new(alloc);
     push_run_head(&mut out, script)?;
     push_calls(&mut out, script.calls())?;

@@ -1,11 +1,12 @@
 //! The lines that are no submissions: ends, marks, turns, moments and messages.
-//! Its clauses are in words of `script_reader`; the search alone proves it.
+//! Its clauses are in words of specs/; the search alone proves it.
 ghost use Rattle.std.specs.Prelude.{◌≡◌, ◌++◌, ◌∷◌, codes, decimal, OnOk};
-ghost use Rattle.script_reader.specs.Grammar.{message_verb};
-ghost use Rattle.script_reader.specs.CanonicalText.{step_text};
+ghost use Rattle.dmlw_script.specs.Grammar.{message_verb};
+ghost use Rattle.dmlw_script.specs.CanonicalText.{step_text};
 
 use crate::parts::{push_sectors, push_value};
-use script_reader::{DiskName, Step};
+use crate::command::Step;
+use crate::disk_name::DiskName;
 use std::alloc::AllocError;
 
 // A line that names no request, but for its line feed.

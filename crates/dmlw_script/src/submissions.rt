@@ -1,14 +1,15 @@
 //! The lines of submissions.
-//! Its clauses are in words of `script_reader`; the search alone proves it.
+//! Its clauses are in words of specs/; the search alone proves it.
 ghost use Rattle.std.specs.Prelude.{◌≡◌, ◌<◌, ◌++◌, ◌∷◌, decimal, OnOk};
-ghost use Rattle.script_reader.specs.Grammar.{spaced};
-ghost use Rattle.script_reader.specs.Ids.{letters_of};
-ghost use Rattle.script_reader.specs.CanonicalText.{submission_text};
-ghost use Rattle.script_reader.specs.Options.{option_text, option_words, options_text};
-ghost use Rattle.script_reader.specs.Words.{byte_text, hex_digit as the_hex_digit};
+ghost use Rattle.dmlw_script.specs.Grammar.{spaced};
+ghost use Rattle.dmlw_script.specs.Ids.{letters_of};
+ghost use Rattle.dmlw_script.specs.CanonicalText.{submission_text};
+ghost use Rattle.dmlw_script.specs.Options.{option_text, option_words, options_text};
+ghost use Rattle.dmlw_script.specs.Words.{byte_text, hex_digit as the_hex_digit};
 
 use crate::parts::{push_name, push_sectors};
-use script_reader::{ScriptId, Submission, WriteOptions};
+use crate::command::{Submission, WriteOptions};
+use crate::script_id::ScriptId;
 use std::alloc::AllocError;
 
 // The line of a submission, but for its line feed.

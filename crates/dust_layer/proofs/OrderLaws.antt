@@ -13,8 +13,8 @@ use Rattle.std.proofs.lemmas.Bool.{ltb-true}
 use Rattle.std.proofs.lemmas.Bool.Decides.{nat_tests}
 use Rattle.std.proofs.lemmas.Option.{cond_some}
 use Rattle.std.proofs.lemmas.Slice.Eq.{bytes_eq-Decides}
-use Rattle.text_words.specs.WordLaws.{number_again, number_read}
-use Rattle.text_words.specs.Words.{after_byte, before_byte, is_number, number_of, IsNumber}
+use Rattle.refusals.specs.WordLaws.{number_again, number_read}
+use Rattle.refusals.specs.Words.{after_byte, before_byte, is_number, number_of, IsNumber}
 use Rattle.dust_layer.specs.declared.order.Order.{Order}
 use Rattle.dust_layer.specs.declared.order.Order.TheVariants as orders
 use Rattle.dust_layer.specs.Orders.{spaced, AsksFor, IsCount}

@@ -4,7 +4,7 @@
 use Rattle.std.specs.Prelude.{◌≡◌, ℕ, ◌*◌, ◌<◌, ◌≤◌, Bool, true, false, List, [], ◌∷◌, Some, None}
 use Rattle.std.specs.Prelude.{Result, Ok, Err, codes, is_some}
 use Rattle.std.specs.List.{join_with_byte}
-use Rattle.text_words.specs.Words.{IsNumber}
+use Rattle.refusals.specs.Words.{IsNumber}
 use Rattle.blockdev.specs.declared.message.MessageError.{MessageError}
 use Rattle.blockdev.specs.declared.message.MessageError.TheVariants as errors
 use Rattle.dust_layer.specs.declared.order.Order.{Order}

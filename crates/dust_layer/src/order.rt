@@ -9,7 +9,7 @@ ghost use Rattle.dust_layer.specs.inside.OrderParser.{lone_order as the_lone_ord
 ghost use Rattle.dust_layer.specs.inside.OrderParser.{order_of as the_order};
 ghost use Rattle.dust_layer.specs.inside.OrderParser.{order_with as the_order_with};
 
-use text_words::{cut, number_of};
+use refusals::{cut, number_of};
 
 /// What a message to a device with bad blocks asks for.
 #[derive(Clone, Copy, Debug, PartialEq, Eq)]

@@ -12,3 +12,6 @@ pub mod CallCounts
 pub mod TakenList
 pub mod Examples
 pub mod Counterexamples
+pub mod HolderLists
+pub mod HolderMoves
+pub mod HolderExamples

@@ -7,8 +7,8 @@ use Rattle.std.specs.Prelude.{slice_get, if◌then◌else◌, MatchBool, ◌&&�
 use Rattle.std.proofs.lemmas.Option.{slice_get_within}
 use Rattle.bio.specs.PlaceLaws.{slice_get-append_here}
 use Rattle.bio.specs.declared.event.CoreEvent.{CoreEvent}
-use Rattle.bio.specs.declared.outcome.End.{End}
-use Rattle.bio.specs.declared.outcome.End.TheVariants.{Full, Device, Memory}
+use Rattle.refusals.specs.declared.end.End.{End}
+use Rattle.refusals.specs.declared.end.End.TheVariants.{Full, Device, Memory}
 use Rattle.lock_state.specs.declared.note.Own.{Own}
 use Rattle.lock_state.specs.declared.note.Told.{Told}
 use Rattle.lock_state.specs.History.{own_at}

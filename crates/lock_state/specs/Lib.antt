@@ -6,3 +6,4 @@ pub mod FirstStop
 pub mod History
 pub mod LegalHistory
 pub mod PlacedItems
+pub mod HolderRules

@@ -4,10 +4,10 @@ ghost use Rattle.std.specs.Prelude.{◌≡◌, ◌==◌, None, is_none, length, 
 ghost use Rattle.lock_state.specs.History.{new_part, told_also, with_calls};
 ghost use Rattle.lock_state.specs.PlacedItems.{awaited_in, settles_hand};
 
+use crate::holders::Holder;
 use crate::note::{Item, Own, PassedCall, Told};
 use crate::run::Run;
 use bio::{End, Id};
-use holders::Holder;
 use std::alloc::Global;
 use std::marker::{Model, PhantomData};
 use std::mem::swap;

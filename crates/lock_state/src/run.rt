@@ -1,6 +1,6 @@
 // What names one shared recorder.
 // Its clauses are written in specs/PlacedItems; the search alone proves it.
-use holders::Whose;
+use crate::holders::Whose;
 use std::marker::{Brand, PhantomData};
 use std::sync::ledger::Ledger;
 
@@ -46,7 +46,7 @@ impl<R: Run> Whose for Ends<R> {
 
 impl Run for Brand {
     ghost use Rattle.std.specs.Prelude.{false};
-    ghost use Rattle.holders.specs.Rules.{no_table};
+    ghost use Rattle.lock_state.specs.HolderRules.{no_table};
 
     ghost stops = { no_table };
 

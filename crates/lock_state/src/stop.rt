@@ -1,14 +1,14 @@
 // The first stop, and the causes that the queue and the log show each other.
 // Its clauses are written in specs/FirstStop and specs/History; the search alone proves it.
 ghost use Rattle.std.specs.Prelude.{◌≡◌, ◌⊎◌, [], Option, false, true, None, Some, IfSome};
-ghost use Rattle.bio.specs.declared.outcome.End.{End as Cause};
-ghost use Rattle.bio.specs.declared.outcome.End.TheVariants.{Memory};
+ghost use Rattle.refusals.specs.declared.end.End.{End as Cause};
+ghost use Rattle.refusals.specs.declared.end.End.TheVariants.{Memory};
 ghost use Rattle.lock_state.specs.History.{first_cause};
 ghost use Rattle.lock_state.specs.FirstStop.{HasStopCause, IsShown, end_number};
 
+use crate::holders::{Fresh, Holder, Keeper, Whose};
 use crate::run::{Ends, Run, Stops};
 use bio::End;
-use holders::{Fresh, Holder, Keeper, Whose};
 use std::marker::Model;
 
 /// Shows a cause to the one who has it: that of the first stop, or of the log's end. Contracts see
@@ -21,7 +21,7 @@ pub struct Shown<W: Whose> {
 
 impl<W: Whose> Model for Shown<W> {
     ghost use Rattle.std.specs.Prelude.{◌≡◌, Some};
-    ghost use Rattle.bio.specs.declared.outcome.End.{End};
+    ghost use Rattle.refusals.specs.declared.end.End.{End};
     ghost use Rattle.lock_state.specs.FirstStop.{end_number};
 
     ghost Value = { End };
@@ -82,7 +82,7 @@ pub struct FirstStop<R: Run> {
 
 impl<R: Run> Model for FirstStop<R> {
     ghost use Rattle.std.specs.Prelude.{Option};
-    ghost use Rattle.bio.specs.declared.outcome.End.{End};
+    ghost use Rattle.refusals.specs.declared.end.End.{End};
     ghost use Rattle.lock_state.specs.FirstStop.{HasStopCause, IsShown};
 
     ghost Value = { Option End };

@@ -5,7 +5,7 @@
 use Rattle.std.proofs.Common.{◌≡◌, true, false, List, [], ◌∷◌, length, map, replicate, refl, arith}
 use Rattle.bio.specs.declared.event.CoreEvent.{CoreEvent}
 use Rattle.bio.specs.declared.event.CoreEvent.TheVariants.{Submit, Complete, Mark, Stop, Close}
-use Rattle.bio.specs.declared.outcome.End.TheVariants.{Full}
+use Rattle.refusals.specs.declared.end.End.TheVariants.{Full}
 use Rattle.bio.specs.declared.request.Bio.TheVariants.{Write, Flush}
 use Rattle.pending.specs.Prefixes.{BelongsTo, queued_by}
 use Rattle.pending.specs.CompletionList.{dm_log_writes}

@@ -6,7 +6,7 @@ use Rattle.std.proofs.Math.Nat.{eq-or-lt_of_le}
 use Rattle.std.proofs.lemmas.Bool.{and_parts, cases_lt, le-ltb, lt-ltb, ltb-true}
 use Rattle.std.specs.Prelude.{◌⊎◌, slice_get, nat_lt, option_map, if◌then◌else◌}
 use Rattle.bio.specs.declared.request.Bio.{Bio}
-use Rattle.bio.specs.declared.outcome.End.{End}
+use Rattle.refusals.specs.declared.end.End.{End}
 use Rattle.bio.specs.declared.event.CoreEvent.{CoreEvent}
 use Rattle.bio.specs.declared.event.CoreEvent.TheVariants.{Submit, Complete, Mark, Stop, Close}
 use Rattle.bio.specs.PlaceLaws.{bool_cases, first_below-found, first_below-none, option_cases, slice_get-within}

@@ -3,10 +3,9 @@
 use crate::crashed_logs::{SECTORS, Sizes, log_of, script_of};
 use bio::SectorSize;
 use blockdev::BlockDev;
-use log_copy::copy_log;
 use log_reader::LogReader;
 use log_store::LogStore;
-use replay::{Upto, replay};
+use replay::{Upto, copy_log, replay};
 use sector_disk::SectorDisk;
 use std::alloc::Global;
 use std::io::Print;

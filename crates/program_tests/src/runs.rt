@@ -1,8 +1,8 @@
 //! What `record` and `events_of_run` answer, beside what a transcript shows.
 use crate::commands::with_semicolons;
 use blockdev::BlockDev;
-use run_error::RunError;
-use script_reader::{Script, read_script};
+use dmlw_script::{Script, read_script};
+use refusals::RunError;
 use script_runner::*;
 use std::alloc::{AllocError, Global};
 use std::process::Abort;

@@ -1,13 +1,33 @@
-//! What the project refuses by, and how it is shown.
+//! What all crates share: what the project refuses by and how that is shown, why a command ends
+//! before its time, and the words of a line.
 //!
 //! A `Refusal` is a row of one table: a number from 1 to 38 and a name (`specs/Table`). A `Fault`
 //! is a refusal and, for a script, the line that is at fault; it is shown as `24 Busy` or
-//! `line 4: 24 Busy` (`specs/Texts`). Each error of a call, in any crate, turns into the refusal
-//! that it is shown by.
+//! `line 4: 24 Busy` (`specs/Texts`). `End` is why logging ended, and `RunError` the error of a
+//! script's run and of each command: a fault, or the cause that ended logging (`specs/Errors`).
+//! Each error of a call, in any crate, turns into the refusal that it is shown by.
+//!
+//! `cut`, `count_words` and `word_at` take the words of a line, `number_of` reads decimal digits,
+//! and `push_number` prints them (`specs/Words`).
 #![tactic(auto)]
 
+pub use cutting::cut;
+pub use end::End;
 pub use fault::Fault;
+pub use numbers::number_of;
+pub use printing::push_number;
 pub use refusal::Refusal;
+pub use run_error::RunError;
+pub use splitting::{count_words, word_at};
+pub use text::ascii_text;
 
+mod cutting;
+mod end;
 mod fault;
+mod numbers;
+mod printing;
 mod refusal;
+mod run_error;
+mod splitting;
+mod text;
+pub mod word_laws;

@@ -7,3 +7,7 @@ pub mod WholeReplay
 pub mod ReadCalls
 mod Counterexamples
 mod RefusedReads
+pub mod CopiedEntries
+pub mod CopyLoops
+pub mod StoreCalls
+mod CopyCounterexamples

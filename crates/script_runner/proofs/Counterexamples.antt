@@ -14,8 +14,8 @@ use Rattle.bio.specs.declared.event.CoreEvent.{CoreEvent}
 use Rattle.bio.specs.declared.event.CoreEvent.TheVariants as events
 use Rattle.bio.specs.declared.outcome.DevError.{DevError}
 use Rattle.bio.specs.declared.outcome.DevError.TheVariants.{Io, Memory}
-use Rattle.bio.specs.declared.outcome.End.{End}
-use Rattle.bio.specs.declared.outcome.End.TheVariants as ends
+use Rattle.refusals.specs.declared.end.End.{End}
+use Rattle.refusals.specs.declared.end.End.TheVariants as ends
 use Rattle.bio.specs.declared.outcome.Status.{Status}
 use Rattle.bio.specs.declared.request.Bio.{Bio}
 use Rattle.bio.specs.declared.request.Bio.TheVariants as bios
@@ -39,31 +39,31 @@ use Rattle.log_store.specs.Calls.{HasFaulted}
 use Rattle.log_store.specs.Fields.{store_of}
 use Rattle.log_store.specs.Store.{entries_of}
 use Rattle.pending.specs.CoreState.{CoreState, added_to, new_state, records, sized_state}
-use Rattle.script_reader.specs.declared.command.Command.{Command}
-use Rattle.script_reader.specs.declared.command.Command.TheVariants as commands
-use Rattle.script_reader.specs.declared.command.Step.TheVariants as steps
-use Rattle.script_reader.specs.declared.command.Submission.{Submission}
-use Rattle.script_reader.specs.declared.command.Submission.TheVariants as submits
-use Rattle.script_reader.specs.declared.disk_name.DiskName.TheVariants as disks
-use Rattle.script_reader.specs.declared.command.WriteOptions.{WriteOptions}
-use Rattle.script_reader.specs.declared.script_id.ScriptId.{ScriptId}
-use Rattle.script_reader.specs.Ids.{script_id}
-use Rattle.script_reader.specs.Lines.{command_line}
-use Rattle.script_reader.specs.Plans.{Disk, ScriptValue, head_count, name_at, top_of}
+use Rattle.dmlw_script.specs.declared.command.Command.{Command}
+use Rattle.dmlw_script.specs.declared.command.Command.TheVariants as commands
+use Rattle.dmlw_script.specs.declared.command.Step.TheVariants as steps
+use Rattle.dmlw_script.specs.declared.command.Submission.{Submission}
+use Rattle.dmlw_script.specs.declared.command.Submission.TheVariants as submits
+use Rattle.dmlw_script.specs.declared.disk_name.DiskName.TheVariants as disks
+use Rattle.dmlw_script.specs.declared.command.WriteOptions.{WriteOptions}
+use Rattle.dmlw_script.specs.declared.script_id.ScriptId.{ScriptId}
+use Rattle.dmlw_script.specs.Ids.{script_id}
+use Rattle.dmlw_script.specs.Lines.{command_line}
+use Rattle.dmlw_script.specs.Plans.{Disk, ScriptValue, head_count, name_at, top_of}
 use Rattle.recorder.specs.declared.recorder.Recorder.{Recorder}
 use Rattle.recorder.specs.declared.reply.Reply.TheVariants as replies
 use Rattle.recorder.specs.declared.reply.Turn.TheVariants as turns
 use Rattle.recorder.specs.RecorderView.{log_of}
 use Rattle.recorder.specs.CrashReplay.{ReplaysToWhatCouldBe}
 use Rattle.recorder.specs.Fields.{core_of, recorder_view}
-use Rattle.run_error.specs.declared.run_error.RunError.{RunError}
-use Rattle.run_error.specs.declared.run_error.RunError.TheVariants as faults
+use Rattle.refusals.specs.declared.run_error.RunError.{RunError}
+use Rattle.refusals.specs.declared.run_error.RunError.TheVariants as faults
 use Rattle.script_runner.specs.declared.recording.Lies.{Lies}
 use Rattle.script_runner.specs.declared.request.Request.{Request}
 use Rattle.script_runner.specs.declared.request.Request.TheVariants as requests
 use Rattle.script_runner.specs.declared.running.Running.{Running}
 use Rattle.script_runner.specs.NewRecorder.{IsNewOn, IsUnmadeOn}
-use Rattle.run_error.specs.Errors.{IsFileError}
+use Rattle.refusals.specs.Errors.{IsFileError}
 use Rattle.script_runner.specs.RequestEvents.{IsFollowed, StandsFor, submissions_of}
 use Rattle.script_runner.specs.HandOver.{HandsOver, ReadsSectors}
 use Rattle.script_runner.specs.Lines.{Answering, Asks, Does, EndsAsked, EndsRequest, HearsEnd}

@@ -42,7 +42,7 @@ use Rattle.script_runner.specs.NewRecorder.{IsNewOn}
 use Rattle.script_runner.specs.DiskRun.{DiskRecorder, DiskRun, IsCounted, IsNew, IsRecorded}
 use Rattle.script_runner.specs.DiskRun.{IsStackOf, Starts, left_on, seen_on, stack_answering}
 use Rattle.script_runner.specs.DiskRun.{zeroes}
-use Rattle.script_reader.specs.Plans.{top_of, Disk, IsDisk, ScriptValue}
+use Rattle.dmlw_script.specs.Plans.{top_of, Disk, IsDisk, ScriptValue}
 use Rattle.script_runner.specs.declared.recording.Lies.{Lies}
 use Rattle.script_runner.specs.Runs.{RunsLines}
 use Rattle.script_runner.specs.WholeLog.{IsWritten}

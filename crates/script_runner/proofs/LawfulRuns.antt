@@ -6,7 +6,7 @@ use Rattle.std.specs.Prelude.{if◌then◌else◌, is_ok, slice_get}
 use Rattle.bio.specs.PlaceLaws.{bool_cases}
 use Rattle.bio.specs.declared.event.CoreEvent.{CoreEvent}
 use Rattle.bio.specs.declared.event.CoreEvent.TheVariants as events
-use Rattle.bio.specs.declared.outcome.End.{End}
+use Rattle.refusals.specs.declared.end.End.{End}
 use Rattle.bio.specs.declared.request.Bio.{Bio}
 use Rattle.bio.specs.Check.{check_answer}
 use Rattle.bio.specs.Sizes.{bytes_of}
@@ -16,13 +16,13 @@ use Rattle.bio.specs.Lawful.{has_no_close, is_lawful, is_recording, is_text, is_
 use Rattle.bio.specs.Lawful.{is_within}
 use Rattle.blockdev.specs.declared.device.BlockDev.{Ghosts}
 use Rattle.refusals.specs.declared.refusal.Refusal.TheVariants as refusals
-use Rattle.script_reader.specs.declared.command.Command.{Command}
-use Rattle.script_reader.specs.declared.command.Command.TheVariants as commands
-use Rattle.script_reader.specs.declared.command.Step.{Step}
-use Rattle.script_reader.specs.declared.command.Step.TheVariants as steps
-use Rattle.script_reader.specs.declared.disk_name.DiskName.TheVariants as disks
-use Rattle.script_reader.specs.declared.script_id.ScriptId.{ScriptId}
-use Rattle.script_reader.specs.Plans.{IsPlan, IsWellFormed, ScriptValue, name_at, top_of}
+use Rattle.dmlw_script.specs.declared.command.Command.{Command}
+use Rattle.dmlw_script.specs.declared.command.Command.TheVariants as commands
+use Rattle.dmlw_script.specs.declared.command.Step.{Step}
+use Rattle.dmlw_script.specs.declared.command.Step.TheVariants as steps
+use Rattle.dmlw_script.specs.declared.disk_name.DiskName.TheVariants as disks
+use Rattle.dmlw_script.specs.declared.script_id.ScriptId.{ScriptId}
+use Rattle.dmlw_script.specs.Plans.{IsPlan, IsWellFormed, ScriptValue, name_at, top_of}
 use Rattle.pending.specs.CoreState.{CoreState, added_to, records, stopped_by}
 use Rattle.recorder.specs.declared.recorder.Recorder.{Recorder}
 use Rattle.recorder.specs.declared.reply.Reply.{Reply}

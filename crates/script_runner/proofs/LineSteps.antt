@@ -10,10 +10,10 @@ use Rattle.bio.specs.declared.request.Bio.{Bio}
 use Rattle.refusals.specs.declared.refusal.Refusal.{Refusal}
 use Rattle.refusals.specs.declared.refusal.Refusal.TheVariants as refusals
 use Rattle.blockdev.specs.declared.device.BlockDev.{Ghosts}
-use Rattle.script_reader.specs.declared.command.Command.{Command}
-use Rattle.script_reader.specs.declared.command.Command.TheVariants as commands
-use Rattle.script_reader.specs.declared.command.Step.{Step}
-use Rattle.script_reader.specs.declared.command.Step.TheVariants as steps
+use Rattle.dmlw_script.specs.declared.command.Command.{Command}
+use Rattle.dmlw_script.specs.declared.command.Command.TheVariants as commands
+use Rattle.dmlw_script.specs.declared.command.Step.{Step}
+use Rattle.dmlw_script.specs.declared.command.Step.TheVariants as steps
 use Rattle.pending.specs.CoreState.{records}
 use Rattle.recorder.specs.declared.recorder.Recorder.{Recorder}
 use Rattle.recorder.specs.declared.reply.Reply.{Reply}
@@ -21,14 +21,14 @@ use Rattle.recorder.specs.declared.reply.Reply.TheVariants as replies
 use Rattle.recorder.specs.Calls.{Closes, Marks, Submits}
 use Rattle.recorder.specs.Growth.{RecorderFrame}
 use Rattle.recorder.specs.Fields.{core_of, recorder_view}
-use Rattle.script_reader.specs.declared.script_id.ScriptId.{ScriptId}
-use Rattle.script_reader.specs.Plans.{moment_at_step}
+use Rattle.dmlw_script.specs.declared.script_id.ScriptId.{ScriptId}
+use Rattle.dmlw_script.specs.Plans.{moment_at_step}
 use Rattle.script_runner.specs.declared.running.Running.{Running}
 use Rattle.std.specs.Io.KnownBytes.{Appends}
 use Rattle.std.proofs.lemmas.List.{append-nil}
 use Rattle.bio.specs.Lawful.{is_recording, is_text}
-use Rattle.script_reader.specs.Lines.{is_line_byte, is_line_text}
-use Rattle.run_error.specs.Errors.{IsFileError, io_refusal, refused_by}
+use Rattle.dmlw_script.specs.Lines.{is_line_byte, is_line_text}
+use Rattle.refusals.specs.Errors.{IsFileError, io_refusal, refused_by}
 use Rattle.script_runner.specs.Lines.{Answering, PrintsLine, PrintsMark, TakesStep}
 use Rattle.script_runner.specs.inside.Replies.{mark_outcome}
 use Rattle.std.proofs.lemmas.Bool.{and_from, and_parts, ltb-true}

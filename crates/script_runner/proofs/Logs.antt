@@ -5,10 +5,10 @@ use Rattle.std.proofs.Common.{inr, subst, sym}
 use Rattle.std.specs.Prelude.{is_ok, slice_get}
 use Rattle.bio.specs.declared.request.Bio.{Bio}
 use Rattle.refusals.specs.declared.refusal.Refusal.TheVariants as refusals
-use Rattle.script_reader.specs.declared.command.Command.TheVariants as commands
-use Rattle.script_reader.specs.declared.command.Step.TheVariants as steps
-use Rattle.script_reader.specs.declared.disk_name.DiskName.TheVariants as disks
-use Rattle.script_reader.specs.Plans.{name_at}
+use Rattle.dmlw_script.specs.declared.command.Command.TheVariants as commands
+use Rattle.dmlw_script.specs.declared.command.Step.TheVariants as steps
+use Rattle.dmlw_script.specs.declared.disk_name.DiskName.TheVariants as disks
+use Rattle.dmlw_script.specs.Plans.{name_at}
 use Rattle.recorder.specs.declared.reply.Reply.TheVariants as replies
 use Rattle.script_runner.specs.declared.request.Request.{Request}
 use Rattle.script_runner.specs.declared.request.Request.TheVariants as requests
@@ -22,8 +22,8 @@ use Rattle.recorder.specs.RecorderView.{log_of}
 use Rattle.script_runner.proofs.ClosedLog.{kept_close, kept_complete, kept_mark, kept_submit}
 use Rattle.script_runner.proofs.ClosedLog.{kept_turn}
 use Rattle.blockdev.specs.declared.device.BlockDev.{Ghosts}
-use Rattle.script_reader.specs.declared.command.Command.{Command}
-use Rattle.script_reader.specs.declared.script_id.ScriptId.{ScriptId}
+use Rattle.dmlw_script.specs.declared.command.Command.{Command}
+use Rattle.dmlw_script.specs.declared.script_id.ScriptId.{ScriptId}
 use Rattle.recorder.specs.declared.recorder.Recorder.{Recorder}
 use Rattle.recorder.specs.Growth.{RecorderFrame}
 use Rattle.recorder.specs.Fields.{core_of, recorder_view}

@@ -5,13 +5,13 @@ use Rattle.std.specs.Prelude.{Bool, Err, IfOk, Ok, Result}
 use Rattle.bio.specs.Sizes.{bytes_of}
 use Rattle.bio.specs.declared.sector_size.SectorSize.{SectorSize}
 use Rattle.blockdev.specs.declared.device.BlockDev.{Ghosts}
-use Rattle.script_reader.specs.Plans.{Disk, ScriptValue}
+use Rattle.dmlw_script.specs.Plans.{Disk, ScriptValue}
 use Rattle.layer_table.specs.declared.stack.Stack.{Stack}
 use Rattle.pending.specs.CoreState.{CoreState}
 use Rattle.recorder.specs.declared.recorder.Recorder.{Recorder}
 use Rattle.recorder.specs.Fields.{core_of}
-use Rattle.run_error.specs.declared.run_error.RunError.{RunError}
-use Rattle.run_error.specs.Errors.{memory_error}
+use Rattle.refusals.specs.declared.run_error.RunError.{RunError}
+use Rattle.refusals.specs.Errors.{memory_error}
 use Rattle.script_runner.specs.CallLaws.{keeps_same}
 use Rattle.script_runner.specs.declared.playing.Played.{Played}
 use Rattle.script_runner.specs.declared.running.Running.{Running}

@@ -11,10 +11,10 @@ use Rattle.std.proofs.lemmas.Bool.Decides.{nat_tests}
 use Rattle.std.proofs.lemmas.List.Elements.{All-from_recursion, All-get_or}
 use Rattle.std.proofs.lemmas.Str.{encodes-IsAscii}
 use Rattle.std.proofs.lemmas.Str.Ascii.{IsAscii-from_all}
-use Rattle.script_reader.specs.declared.script_id.ScriptId.{ScriptId}
-use Rattle.script_reader.specs.Ids.{is_name_byte, letters_of, script_id}
-use Rattle.script_reader.specs.Plans.{IsName}
-use Rattle.text_words.specs.Words.{before_byte as before_mark}
+use Rattle.dmlw_script.specs.declared.script_id.ScriptId.{ScriptId}
+use Rattle.dmlw_script.specs.Ids.{is_name_byte, letters_of, script_id}
+use Rattle.dmlw_script.specs.Plans.{IsName}
+use Rattle.refusals.specs.Words.{before_byte as before_mark}
 use Rattle.script_runner.specs.Texts.{outcome_line, outcome_word}
 
 -- a character of an id is ASCII

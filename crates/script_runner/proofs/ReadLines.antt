@@ -8,7 +8,7 @@ use Rattle.std.proofs.Math.Nat.{mul-div_cancel, mul-mod_left}
 use Rattle.std.proofs.lemmas.Bool.Decides.{nat_tests}
 use Rattle.bio.specs.Check.{range_answer}
 use Rattle.blockdev.specs.Calls.{IsByteRange}
-use Rattle.script_reader.specs.Words.{byte_text}
+use Rattle.dmlw_script.specs.Words.{byte_text}
 use Rattle.script_runner.specs.CallLaws.{appends_twice}
 use Rattle.script_runner.specs.Texts.{first_bytes, read_line}
 use Rattle.std.proofs.lemmas.List.{append-nil, drop_all, take_all}

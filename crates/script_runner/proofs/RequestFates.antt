@@ -12,14 +12,14 @@ use Rattle.bio.specs.declared.event.CoreEvent.{CoreEvent}
 use Rattle.bio.specs.declared.event.CoreEvent.TheVariants as core_events
 use Rattle.bio.specs.declared.request.Bio.{Bio}
 use Rattle.blockdev.specs.declared.device.BlockDev.{Ghosts}
-use Rattle.script_reader.specs.declared.command.Command.{Command}
-use Rattle.script_reader.specs.declared.command.Command.TheVariants as commands
-use Rattle.script_reader.specs.declared.command.Step.{Step}
-use Rattle.script_reader.specs.declared.command.Step.TheVariants as steps
-use Rattle.script_reader.specs.declared.command.Submission.{Submission}
-use Rattle.script_reader.specs.declared.disk_name.DiskName.TheVariants as disks
-use Rattle.script_reader.specs.declared.script_id.ScriptId.{ScriptId}
-use Rattle.script_reader.specs.Plans.{name_at}
+use Rattle.dmlw_script.specs.declared.command.Command.{Command}
+use Rattle.dmlw_script.specs.declared.command.Command.TheVariants as commands
+use Rattle.dmlw_script.specs.declared.command.Step.{Step}
+use Rattle.dmlw_script.specs.declared.command.Step.TheVariants as steps
+use Rattle.dmlw_script.specs.declared.command.Submission.{Submission}
+use Rattle.dmlw_script.specs.declared.disk_name.DiskName.TheVariants as disks
+use Rattle.dmlw_script.specs.declared.script_id.ScriptId.{ScriptId}
+use Rattle.dmlw_script.specs.Plans.{name_at}
 use Rattle.pending.specs.CoreState.{CoreState, records}
 use Rattle.recorder.specs.declared.recorder.Recorder.{Recorder}
 use Rattle.recorder.specs.declared.reply.Reply.TheVariants as replies

@@ -15,9 +15,9 @@ use Rattle.bio.specs.Check.{check_answer, check_sized_answer, range_answer, unle
 use Rattle.bio.specs.SizeLaws.{sized_passed, sized_passes}
 use Rattle.bio.specs.RequestLaws.{check_answer-larger}
 use Rattle.blockdev.specs.declared.device.BlockDev.{Ghosts}
-use Rattle.script_reader.specs.declared.command.Submission.{Submission}
-use Rattle.script_reader.specs.declared.command.Submission.TheVariants as submits
-use Rattle.script_reader.specs.Plans.{range_test, submission_answer}
+use Rattle.dmlw_script.specs.declared.command.Submission.{Submission}
+use Rattle.dmlw_script.specs.declared.command.Submission.TheVariants as submits
+use Rattle.dmlw_script.specs.Plans.{range_test, submission_answer}
 use Rattle.recorder.specs.declared.recorder.Recorder.{Recorder}
 use Rattle.script_runner.specs.declared.request.Request.{Request}
 use Rattle.script_runner.specs.declared.request.Request.TheVariants as requests

@@ -19,16 +19,16 @@ use Rattle.layer_table.specs.Layers.{AreOver}
 use Rattle.table_line.specs.LayerOrder.{some_drops, top_origin}
 use Rattle.log_store.specs.Fields.{store_of}
 use Rattle.log_store.specs.Store.{entries_of}
-use Rattle.script_reader.specs.Plans.{ScriptValue}
+use Rattle.dmlw_script.specs.Plans.{ScriptValue}
 use Rattle.recorder.specs.declared.recorder.Recorder.{Recorder}
 use Rattle.recorder.specs.RecorderView.{log_of}
 use Rattle.recorder.specs.CrashReplay.{ReplaysToWhatCouldBe}
 use Rattle.recorder.specs.Fields.{core_of, recorder_view}
-use Rattle.run_error.specs.declared.run_error.RunError.{RunError}
+use Rattle.refusals.specs.declared.run_error.RunError.{RunError}
 use Rattle.script_runner.specs.NewRecorder.{IsNewOn, IsUnmadeOn}
 use Rattle.script_runner.specs.declared.recording.Lies.{Lies}
-use Rattle.run_error.specs.Errors.{IsFileError}
-use Rattle.script_reader.specs.Plans.{Disk, top_of}
+use Rattle.refusals.specs.Errors.{IsFileError}
+use Rattle.dmlw_script.specs.Plans.{Disk, top_of}
 use Rattle.script_runner.specs.declared.running.Running.{Running}
 use Rattle.layer_table.specs.StackMessages.{StackAnswers}
 use Rattle.script_runner.specs.Lines.{answering, Answering}

@@ -3,10 +3,10 @@ pub use Rattle.bio.specs.Check
 pub use Rattle.bio.specs.Lawful
 pub use Rattle.bio.specs.Sizes as LogSizes
 pub use Rattle.blockdev.specs.Calls
-pub use Rattle.script_reader.specs.Plans
+pub use Rattle.dmlw_script.specs.Plans
 pub use Rattle.recorder.specs.Calls as RecorderCalls
 pub use Rattle.recorder.specs.Growth
-pub use Rattle.run_error.specs.Errors
+pub use Rattle.refusals.specs.Errors
 pub use Rattle.log_format.specs.LogOf
 pub use Rattle.layer_table.specs.Layers
 pub use Rattle.layer_table.specs.StackMessages

@@ -11,23 +11,23 @@ use Rattle.std.specs.Io.KnownBytes.{Appends, Keeps}
 use Rattle.bio.specs.declared.request.Bio.{Bio}
 use Rattle.bio.specs.declared.outcome.DevError.{DevError}
 use Rattle.bio.specs.declared.outcome.DevError.TheVariants as errors
-use Rattle.bio.specs.declared.outcome.End.{End}
-use Rattle.bio.specs.declared.outcome.End.TheVariants as ends
+use Rattle.refusals.specs.declared.end.End.{End}
+use Rattle.refusals.specs.declared.end.End.TheVariants as ends
 use Rattle.bio.specs.Requests.{has_data}
 use Rattle.blockdev.specs.declared.device.BlockDev.{Ghosts}
 use Rattle.blockdev.specs.declared.message.MessageError.{MessageError}
 use Rattle.blockdev.specs.Messages.{message_refusal, Unchanged}
-use Rattle.script_reader.specs.declared.disk_name.DiskName.{DiskName}
-use Rattle.script_reader.specs.declared.disk_name.DiskName.TheVariants as disks
+use Rattle.dmlw_script.specs.declared.disk_name.DiskName.{DiskName}
+use Rattle.dmlw_script.specs.declared.disk_name.DiskName.TheVariants as disks
 use Rattle.refusals.specs.declared.refusal.Refusal.{Refusal}
 use Rattle.refusals.specs.declared.refusal.Refusal.TheVariants as refusals
-use Rattle.script_reader.specs.declared.command.Command.{Command}
-use Rattle.script_reader.specs.declared.command.Command.TheVariants as commands
-use Rattle.script_reader.specs.declared.command.Step.{Step}
-use Rattle.script_reader.specs.declared.command.Step.TheVariants as steps
-use Rattle.script_reader.specs.declared.script_id.ScriptId.{ScriptId}
-use Rattle.script_reader.specs.Plans.{is_submission, name_at, step_answer, submission_answer}
-use Rattle.script_reader.specs.Plans.{HasLineText}
+use Rattle.dmlw_script.specs.declared.command.Command.{Command}
+use Rattle.dmlw_script.specs.declared.command.Command.TheVariants as commands
+use Rattle.dmlw_script.specs.declared.command.Step.{Step}
+use Rattle.dmlw_script.specs.declared.command.Step.TheVariants as steps
+use Rattle.dmlw_script.specs.declared.script_id.ScriptId.{ScriptId}
+use Rattle.dmlw_script.specs.Plans.{is_submission, name_at, step_answer, submission_answer}
+use Rattle.dmlw_script.specs.Plans.{HasLineText}
 use Rattle.recorder.specs.declared.recorder.Recorder.{Recorder}
 use Rattle.recorder.specs.declared.reply.Reply.{Reply}
 use Rattle.recorder.specs.declared.reply.Reply.TheVariants as replies
@@ -35,13 +35,13 @@ use Rattle.recorder.specs.Calls.{Turns, Closes, Completes, Drains, Marks, Submit
 use Rattle.recorder.specs.Growth.{RecorderFrame}
 use Rattle.recorder.specs.Fields.{core_of, recorder_view}
 use Rattle.log_store.specs.Calls.{Same}
-use Rattle.script_reader.specs.Plans.{moment_at}
+use Rattle.dmlw_script.specs.Plans.{moment_at}
 use Rattle.script_runner.specs.declared.request.Request.{Request}
 use Rattle.script_runner.specs.declared.request.Request.TheVariants as requests
 use Rattle.script_runner.specs.declared.running.Running.{Running}
 use Rattle.script_runner.specs.declared.step_error.StepError.{StepError}
 use Rattle.script_runner.specs.declared.step_error.StepError.TheVariants.{AtLine, Whole}
-use Rattle.run_error.specs.Errors.{IsFileError}
+use Rattle.refusals.specs.Errors.{IsFileError}
 use Rattle.script_runner.specs.HandOver.{ReadsSectors, HandsOver}
 use Rattle.script_runner.specs.Submissions.{bio_of, is_asked}
 use Rattle.script_runner.specs.Texts.{mark_failed, read_line, outcome_line}

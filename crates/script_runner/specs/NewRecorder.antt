@@ -13,8 +13,8 @@ use Rattle.log_format.specs.Placement.{first_sector}
 use Rattle.log_store.specs.Calls.{HasFaulted}
 use Rattle.pending.specs.CoreState.{sized_state}
 use Rattle.recorder.specs.declared.recorder.Recorder.{Recorder}
-use Rattle.run_error.specs.declared.run_error.RunError.{RunError}
-use Rattle.run_error.specs.declared.run_error.RunError.TheVariants.{LoggingEnded}
+use Rattle.refusals.specs.declared.run_error.RunError.{RunError}
+use Rattle.refusals.specs.declared.run_error.RunError.TheVariants.{LoggingEnded}
 use Rattle.recorder.specs.Fields.{core_of}
 
 -- Nothing is recorded yet, and a log of no entries, with sectors of so many bytes, was made on this

@@ -5,10 +5,10 @@ use Rattle.std.specs.Prelude.{◌≡◌, ◌⊎◌, ℕ, Bool, true, false, List
 use Rattle.std.specs.List.{list_all, list_any}
 use Rattle.bio.specs.declared.event.CoreEvent.{CoreEvent}
 use Rattle.bio.specs.declared.event.CoreEvent.TheVariants as core_events
-use Rattle.bio.specs.declared.outcome.End.TheVariants as ends
-use Rattle.script_reader.specs.Plans.{ScriptValue}
-use Rattle.run_error.specs.Errors.{memory_error}
-use Rattle.run_error.specs.declared.run_error.RunError.{RunError}
+use Rattle.refusals.specs.declared.end.End.TheVariants as ends
+use Rattle.dmlw_script.specs.Plans.{ScriptValue}
+use Rattle.refusals.specs.Errors.{memory_error}
+use Rattle.refusals.specs.declared.run_error.RunError.{RunError}
 use Rattle.script_runner.specs.DiskRun.{stack_answering, DiskRun, FailsOnDisks, Starts}
 use Rattle.script_runner.specs.Runs.{RunsLines}
 use Rattle.script_runner.specs.Submissions.{is_asked}

@@ -5,21 +5,21 @@ use Rattle.std.specs.Io.KnownBytes.{Appends}
 use Rattle.blockdev.specs.declared.device.BlockDev.{Ghosts}
 use Rattle.blockdev.specs.declared.message.MessageError.{MessageError}
 use Rattle.blockdev.specs.Messages.{message_refusal}
-use Rattle.script_reader.specs.declared.disk_name.DiskName.{DiskName}
+use Rattle.dmlw_script.specs.declared.disk_name.DiskName.{DiskName}
 use Rattle.refusals.specs.declared.refusal.Refusal.{Refusal}
-use Rattle.script_reader.specs.declared.command.Command.{Command}
-use Rattle.script_reader.specs.declared.command.Command.TheVariants as commands
-use Rattle.script_reader.specs.declared.command.Step.TheVariants as steps
-use Rattle.script_reader.specs.declared.script_id.ScriptId.{ScriptId}
-use Rattle.script_reader.specs.Lines.{command_line}
-use Rattle.script_reader.specs.Plans.{head_count, ScriptValue}
+use Rattle.dmlw_script.specs.declared.command.Command.{Command}
+use Rattle.dmlw_script.specs.declared.command.Command.TheVariants as commands
+use Rattle.dmlw_script.specs.declared.command.Step.TheVariants as steps
+use Rattle.dmlw_script.specs.declared.script_id.ScriptId.{ScriptId}
+use Rattle.dmlw_script.specs.Lines.{command_line}
+use Rattle.dmlw_script.specs.Plans.{head_count, ScriptValue}
 use Rattle.recorder.specs.declared.recorder.Recorder.{Recorder}
 use Rattle.recorder.specs.declared.reply.Reply.TheVariants as replies
 use Rattle.recorder.specs.Calls.{Closes}
-use Rattle.run_error.specs.declared.run_error.RunError.{RunError}
-use Rattle.run_error.specs.declared.run_error.RunError.TheVariants.{Refused}
+use Rattle.refusals.specs.declared.run_error.RunError.{RunError}
+use Rattle.refusals.specs.declared.run_error.RunError.TheVariants.{Refused}
 use Rattle.script_runner.specs.declared.running.Running.{Running}
-use Rattle.run_error.specs.Errors.{IsFileError}
+use Rattle.refusals.specs.Errors.{IsFileError}
 use Rattle.script_runner.specs.Lines.{Answering, RefusesMessage, RunsLine}
 
 -- steps one after another, from one state to another; what they print stands one after another

@@ -4,8 +4,8 @@ use Rattle.std.specs.Prelude.{ℕ, ◌*◌, Bool, true, false, is_ok, replicate}
 use Rattle.bio.specs.declared.request.Bio.{Bio}
 use Rattle.bio.specs.declared.request.Bio.TheVariants as bios
 use Rattle.bio.specs.Check.{check_answer}
-use Rattle.script_reader.specs.declared.command.Submission.{Submission}
-use Rattle.script_reader.specs.declared.command.Submission.TheVariants as submits
+use Rattle.dmlw_script.specs.declared.command.Submission.{Submission}
+use Rattle.dmlw_script.specs.declared.command.Submission.TheVariants as submits
 use Rattle.script_runner.specs.declared.request.Request.{Request}
 use Rattle.script_runner.specs.declared.request.Request.TheVariants as requests
 

@@ -1,11 +1,11 @@
 -- What the lines of a script print.
 -- Any crate above may cite it.
 use Rattle.bio.specs.Places.{collect}
-use Rattle.script_reader.specs.Words.{byte_text}
+use Rattle.dmlw_script.specs.Words.{byte_text}
 use Rattle.std.specs.Prelude.{decimal, Option, ℕ, Bool, true, false, List, ◌++◌, codes, Some, None}
 use Rattle.std.specs.Prelude.{◌*◌, slice_index_or}
-use Rattle.script_reader.specs.declared.script_id.ScriptId.{ScriptId}
-use Rattle.script_reader.specs.Ids.{letters_of}
+use Rattle.dmlw_script.specs.declared.script_id.ScriptId.{ScriptId}
+use Rattle.dmlw_script.specs.Ids.{letters_of}
 
 -- how a request, or a read, ended
 abbrev pub outcome_word : Bool → List ℕ

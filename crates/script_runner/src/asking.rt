@@ -1,7 +1,7 @@
 //! What a line asks of the recorder: that a request is submitted, or that one has ended.
 //! Its clauses are written in specs/Lines and specs/Submissions; its theorems in proofs/asking/.
 ghost use Rattle.std.specs.Prelude.{◌≡◌, Ok};
-ghost use Rattle.script_reader.specs.Plans.{submission_answer};
+ghost use Rattle.dmlw_script.specs.Plans.{submission_answer};
 ghost use Rattle.recorder.specs.Growth.{RecorderFrame};
 ghost use Rattle.recorder.specs.Fields.{core_of, recorder_view};
 ghost use Rattle.script_runner.specs.Lines.{Asks, HearsEnd};
@@ -11,8 +11,8 @@ use crate::request::{Request, bio_of};
 use crate::write_data::WriteData;
 use bio::{Event, Id};
 use blockdev::BlockDev;
+use dmlw_script::Submission;
 use recorder::{Recorder, Reply};
-use script_reader::Submission;
 
 // Asks the recorder of the request that a line submits, which suits its log's sectors.
 pub(crate) fn ask<L: BlockDev + Drop>(

@@ -2,9 +2,9 @@
 //! Its clauses are written in specs/; its theorems in proofs/playing/.
 ghost use Rattle.std.specs.Prelude.{◌≡◌, ◌≤◌, ◌/◌, ◌⊎◌, IfErr, IfOk};
 ghost use Rattle.bio.specs.Sizes.{bytes_of};
-ghost use Rattle.script_reader.specs.Plans.{IsDisk, top_of};
+ghost use Rattle.dmlw_script.specs.Plans.{IsDisk, top_of};
 ghost use Rattle.layer_table.specs.StackMessages.{StackAnswers};
-ghost use Rattle.run_error.specs.Errors.{memory_error};
+ghost use Rattle.refusals.specs.Errors.{memory_error};
 ghost use Rattle.script_runner.specs.NewRecorder.{IsNewOn, IsUnmadeOn};
 ghost use Rattle.script_runner.specs.Lines.{answering};
 ghost use Rattle.script_runner.specs.DiskRun.{FailsOnDisks, IsStackOf, Starts, stack_answering};
@@ -14,12 +14,11 @@ use crate::run_script::run;
 use crate::running::Running;
 use bio::{End, Ms, SectorSize};
 use blockdev::{BlockDev, Message};
+use dmlw_script::{DiskSpec, Script};
 use layer_table::Stack;
 use log_store::LogStore;
 use recorder::Recorder;
-use refusals::Refusal;
-use run_error::RunError;
-use script_reader::{DiskSpec, Script};
+use refusals::{Refusal, RunError};
 use sector_disk::SectorDisk;
 use std::alloc::Global;
 use std::io::Write;

@@ -3,8 +3,8 @@
 ghost use Rattle.std.specs.Prelude.{◌≡◌, ◌*◌, ◌<◌, IfErr, IfSome, OnOk, length, option_map};
 ghost use Rattle.std.specs.List.{AllByRecursion};
 ghost use Rattle.std.specs.Io.KnownBytes.{Appends};
-ghost use Rattle.script_reader.specs.Plans.{IsName, name_at};
-ghost use Rattle.script_reader.specs.Words.{hex_digit};
+ghost use Rattle.dmlw_script.specs.Plans.{IsName, name_at};
+ghost use Rattle.dmlw_script.specs.Words.{hex_digit};
 ghost use Rattle.script_runner.specs.Lines.{StopsForFile, submission_text};
 ghost use Rattle.script_runner.specs.inside.Replies.{mark_outcome};
 ghost use Rattle.script_runner.specs.Texts.{first_bytes, outcome_line, outcome_word, read_line};
@@ -12,8 +12,8 @@ ghost use Rattle.script_runner.specs.Texts.{first_bytes, outcome_line, outcome_w
 use crate::request::Request;
 use crate::step_error::StepError;
 use bio::SECTOR_BYTES;
+use dmlw_script::ScriptId;
 use recorder::Reply;
-use script_reader::ScriptId;
 use std::io::Write;
 
 // A sector's size in bytes.

@@ -4,18 +4,17 @@ ghost use Rattle.std.specs.Prelude.{◌≡◌, ◌&&◌, IfErr, IfOk, false, not
 ghost use Rattle.std.specs.List.{list_any};
 ghost use Rattle.bio.specs.Lawful.{all_aligned, is_lawful};
 ghost use Rattle.bio.specs.Sizes.{bytes_of};
-ghost use Rattle.script_reader.specs.Plans.{top_of};
-ghost use Rattle.run_error.specs.Errors.{memory_error};
+ghost use Rattle.dmlw_script.specs.Plans.{top_of};
+ghost use Rattle.refusals.specs.Errors.{memory_error};
 ghost use Rattle.script_runner.specs.Rehearsals.{FailsRehearsal, IsRehearsed, is_memory_stop};
 
 use crate::laws::lines_go_as_one_call;
 use crate::playing::play_on_disks;
 use bio::{CoreEvent, End};
+use dmlw_script::Script;
 use layer_table::Stack;
 use recorder::Recorder;
-use refusals::Refusal;
-use run_error::RunError;
-use script_reader::Script;
+use refusals::{Refusal, RunError};
 use std::alloc::Global;
 use std::io;
 use std::marker::Model;

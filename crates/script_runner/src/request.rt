@@ -4,12 +4,12 @@ ghost use Rattle.std.specs.Prelude.{◌≡◌, IfOk, IsOk, Ok, false, ℕ};
 ghost use Rattle.std.specs.List.{list_all};
 ghost use Rattle.bio.specs.Check.{check_sized_answer};
 ghost use Rattle.bio.specs.Requests.{has_data};
-ghost use Rattle.script_reader.specs.Plans.{submission_answer};
+ghost use Rattle.dmlw_script.specs.Plans.{submission_answer};
 ghost use Rattle.script_runner.specs.Submissions.{bio_of, is_asked};
 
 use crate::write_data::WriteData;
 use bio::{Bio, Id};
-use script_reader::Submission;
+use dmlw_script::Submission;
 use std::alloc::AllocError;
 
 /// What became of a script's request at its submission.

@@ -1,7 +1,7 @@
 //! Runs all lines of a script, up to the first one that is refused.
 //! Its clauses are written in specs/Lines and specs/Runs; its theorems in proofs/run_script/.
 ghost use Rattle.bio.specs.Sizes.{bytes_of};
-ghost use Rattle.script_reader.specs.Plans.{top_of};
+ghost use Rattle.dmlw_script.specs.Plans.{top_of};
 ghost use Rattle.recorder.specs.Fields.{core_of};
 ghost use Rattle.std.specs.Prelude.{◌≡◌, IfErr, OnOk, []};
 ghost use Rattle.script_runner.specs.Lines.{answering};
@@ -10,9 +10,8 @@ ghost use Rattle.script_runner.specs.Runs.{EndsRun, PrintsLines};
 use crate::running::Running;
 use crate::step_error::StepError;
 use blockdev::Message;
-use refusals::Fault;
-use run_error::RunError;
-use script_reader::{Script, laws, line_of};
+use dmlw_script::{Script, laws, line_of};
+use refusals::{Fault, RunError};
 use std::io::Write;
 
 /// Runs a script, which was read from `text`, on a data device of the size of its data disk's top,

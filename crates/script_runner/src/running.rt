@@ -14,12 +14,11 @@ use crate::step_error::StepError;
 use crate::write_data::WriteData;
 use bio::{Bytes, Event, Ms};
 use blockdev::{BlockDev, Message};
+use dmlw_script::{Command, DiskName, ScriptId, Step, Submission};
 use recorder::{Recorder, Reply, laws};
-use refusals::Refusal;
-use script_reader::{Command, DiskName, ScriptId, Step, Submission};
+use refusals::{Refusal, ascii_text};
 use std::alloc::{AllocError, Global};
 use std::io::Write;
-use text_words::ascii_text;
 
 /// A script's run so far: a recorder over the log's device, the data device, and the requests that
 /// were submitted, by their numbers.
@@ -97,8 +96,8 @@ impl<D: Message + Drop, L: Message + Drop> Running<D, L> {
     ghost use Rattle.bio.specs.Check.{range_answer};
     ghost use Rattle.blockdev.specs.declared.message.MessageError.{MessageError};
     ghost use Rattle.blockdev.specs.Messages.{message_refusal};
-    ghost use Rattle.script_reader.specs.Lines.{is_line_text};
-    ghost use Rattle.script_reader.specs.Plans.{HasName, IsName, submission_answer};
+    ghost use Rattle.dmlw_script.specs.Lines.{is_line_text};
+    ghost use Rattle.dmlw_script.specs.Plans.{HasName, IsName, submission_answer};
     ghost use Rattle.recorder.specs.declared.reply.Reply.TheVariants as replies;
     ghost use Rattle.recorder.specs.Calls.{Closes};
     ghost use Rattle.recorder.specs.Growth.{RecorderFrame};

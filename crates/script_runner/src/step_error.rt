@@ -2,11 +2,10 @@
 //! Its clauses are in words of `run_error`; the search alone proves it.
 ghost use Rattle.std.specs.Prelude.{◌≡◌};
 ghost use Rattle.std.specs.IoError.{error_kind};
-ghost use Rattle.run_error.specs.Errors.{io_refusal, memory_error, refused_by};
+ghost use Rattle.refusals.specs.Errors.{io_refusal, memory_error, refused_by};
 ghost use Rattle.script_runner.specs.declared.step_error.StepError.TheVariants.{AtLine, Whole};
 
-use refusals::Refusal;
-use run_error::RunError;
+use refusals::{Refusal, RunError};
 use std::alloc::{AllocError, AllocFailed};
 use std::io;
 use thiserror::Error;

@@ -3,14 +3,14 @@
 use Rattle.std.proofs.Common.{◌≡◌, ◌∙◌, ◌⊎◌, ⊎_elim, ℕ, zero, suc, ◌+◌, ◌*◌, ◌/◌, ◌<◌, ◌≤◌, List}
 use Rattle.std.proofs.Common.{[], ◌∷◌, ◌++◌, length, map, take, slice_get, Option, Some, ap}
 use Rattle.std.proofs.Common.{append-nil, append_assoc, arith, inl, inr, refl, subst, sym}
-use Rattle.bio.specs.declared.outcome.End.{End}
+use Rattle.refusals.specs.declared.end.End.{End}
 use Rattle.bio.specs.declared.outcome.Status.{Status}
 use Rattle.bio.specs.declared.sector_size.SectorSize.{SectorSize}
 use Rattle.bio.specs.declared.sector_size.SectorSize.TheVariants as sizes
 use Rattle.bio.specs.Sizes.{bytes_of}
 use Rattle.blockdev.specs.View.{Place}
-use Rattle.script_reader.specs.Plans.{top_of, Disk}
-use Rattle.script_reader.specs.RunPlans.{RunPlan}
+use Rattle.dmlw_script.specs.Plans.{top_of, Disk}
+use Rattle.dmlw_script.specs.RunPlans.{RunPlan}
 use Rattle.layer_table.specs.declared.stack.Stack.{Stack}
 use Rattle.layer_table.specs.Layers.{disk_of, stack_shown}
 use Rattle.layer_table.specs.StackLaws.{part_of_disk}
@@ -23,8 +23,8 @@ use Rattle.log_format.specs.LogOf.{IsLogOf, log_sectors}
 use Rattle.pending.specs.CoreState.{CoreState}
 use Rattle.refusals.specs.declared.refusal.Refusal.{Refusal}
 use Rattle.refusals.specs.declared.refusal.Refusal.TheVariants as refusals
-use Rattle.run_error.specs.declared.run_error.RunError.{RunError}
-use Rattle.run_error.specs.Errors.{memory_error, refused_by}
+use Rattle.refusals.specs.declared.run_error.RunError.{RunError}
+use Rattle.refusals.specs.Errors.{memory_error, refused_by}
 use Rattle.script_runner.specs.declared.recording.Lies.{Lies}
 use Rattle.script_runner.specs.DiskRun.{IsStackOf, seen_on}
 use Rattle.sector_disk.specs.declared.disk.SectorDisk.{SectorDisk}

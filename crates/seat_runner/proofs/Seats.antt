@@ -9,11 +9,11 @@ use Rattle.std.proofs.lemmas.Bool.{and_from, and_parts}
 use Rattle.std.proofs.lemmas.Bool.Decides.{nat_tests}
 use Rattle.bio.specs.declared.outcome.DevError.TheVariants as devices
 use Rattle.bio.specs.Lawful.{is_text}
-use Rattle.script_reader.specs.declared.command.Submission.{Submission}
-use Rattle.script_reader.specs.declared.seat_call.Call.{Call}
-use Rattle.script_reader.specs.declared.seat_call.Call.TheVariants.{Mark, Submit}
-use Rattle.script_reader.specs.declared.seat_call.SeatCall.{SeatCall}
-use Rattle.script_reader.specs.Lines.{is_line_byte, is_line_text}
+use Rattle.dmlw_script.specs.declared.command.Submission.{Submission}
+use Rattle.dmlw_script.specs.declared.seat_call.Call.{Call}
+use Rattle.dmlw_script.specs.declared.seat_call.Call.TheVariants.{Mark, Submit}
+use Rattle.dmlw_script.specs.declared.seat_call.SeatCall.{SeatCall}
+use Rattle.dmlw_script.specs.Lines.{is_line_byte, is_line_text}
 use Rattle.lock_state.specs.Comparison.{Receipt}
 use Rattle.lock_state.specs.History.{Part, new_part, one_if}
 use Rattle.seat_runner.specs.declared.tally.Outcome.{Outcome}

@@ -1,8 +1,8 @@
 -- The definitions that the contracts of `seat_runner` are written in.
 pub use Rattle.bio.specs.Lawful
 pub use Rattle.bio.specs.Sizes as LogSizes
-pub use Rattle.script_reader.specs.Plans
-pub use Rattle.script_reader.specs.RunPlans
+pub use Rattle.dmlw_script.specs.Plans
+pub use Rattle.dmlw_script.specs.RunPlans
 pub use Rattle.layer_table.specs.Layers
 pub use Rattle.lock_state.specs.Close
 pub use Rattle.lock_state.specs.History

@@ -2,18 +2,18 @@
 -- Any crate above may cite it.
 use Rattle.std.specs.Prelude.{◌≡◌, ◌==◌, ◌⊎◌, ℕ, ◌*◌, false, List, [], ◌∷◌, length, slice_get, Some}
 use Rattle.std.specs.Prelude.{if◌then◌else◌}
-use Rattle.bio.specs.declared.outcome.End.{End}
-use Rattle.bio.specs.declared.outcome.End.TheVariants as ends
+use Rattle.refusals.specs.declared.end.End.{End}
+use Rattle.refusals.specs.declared.end.End.TheVariants as ends
 use Rattle.bio.specs.declared.outcome.Status.{Status}
 use Rattle.bio.specs.Lawful.{has_no_close}
 use Rattle.bio.specs.Sizes.{bytes_of}
 use Rattle.bio.specs.Content.{Content, gather}
 use Rattle.sector_disk.specs.DiskView.{shown_of}
-use Rattle.script_reader.specs.declared.seat_call.Call.{Call}
-use Rattle.script_reader.specs.declared.seat_call.Call.TheVariants.{Mark, Submit}
-use Rattle.script_reader.specs.declared.seat_call.SeatCall.{SeatCall}
-use Rattle.script_reader.specs.Plans.{top_of}
-use Rattle.script_reader.specs.RunPlans.{RunPlan}
+use Rattle.dmlw_script.specs.declared.seat_call.Call.{Call}
+use Rattle.dmlw_script.specs.declared.seat_call.Call.TheVariants.{Mark, Submit}
+use Rattle.dmlw_script.specs.declared.seat_call.SeatCall.{SeatCall}
+use Rattle.dmlw_script.specs.Plans.{top_of}
+use Rattle.dmlw_script.specs.RunPlans.{RunPlan}
 use Rattle.layer_table.specs.declared.stack.Stack.{Stack}
 use Rattle.layer_table.specs.Layers.{disk_of, stack_does, stack_shown}
 use Rattle.lock_state.specs.Comparison.{Receipt}
@@ -24,9 +24,9 @@ use Rattle.lock_state.specs.LegalHistory.{LegalHistory}
 use Rattle.lock_state.specs.PlacedItems.{Ground, HasCause, StandsOn, entries_in, ground_of}
 use Rattle.log_format.specs.LogOf.{status_of}
 use Rattle.log_store.specs.Calls.{HasFaulted}
-use Rattle.run_error.specs.declared.run_error.RunError.{RunError}
-use Rattle.run_error.specs.declared.run_error.RunError.TheVariants.{LoggingEnded}
-use Rattle.run_error.specs.Errors.{refused_by}
+use Rattle.refusals.specs.declared.run_error.RunError.{RunError}
+use Rattle.refusals.specs.declared.run_error.RunError.TheVariants.{LoggingEnded}
+use Rattle.refusals.specs.Errors.{refused_by}
 use Rattle.refusals.specs.declared.refusal.Refusal.{Refusal}
 use Rattle.refusals.specs.declared.refusal.Refusal.TheVariants as refusals
 use Rattle.script_runner.specs.declared.recording.Lies.{Lies}

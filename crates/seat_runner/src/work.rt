@@ -1,9 +1,9 @@
 //! What one thread does at its seat.
 //! Its clauses are written in specs/; its theorems in proofs/work/.
 ghost use Rattle.std.specs.Prelude.{◌≡◌, ◌==◌, ◌<◌, Ok, true, vec_capacity, vec_len};
-ghost use Rattle.script_reader.specs.declared.seat_call.Call.TheVariants.{Mark, Submit};
-ghost use Rattle.script_reader.specs.Plans.{submission_answer};
-ghost use Rattle.script_reader.specs.Lines.{is_line_text};
+ghost use Rattle.dmlw_script.specs.declared.seat_call.Call.TheVariants.{Mark, Submit};
+ghost use Rattle.dmlw_script.specs.Plans.{submission_answer};
+ghost use Rattle.dmlw_script.specs.Lines.{is_line_text};
 ghost use Rattle.lock_state.specs.History.{new_part};
 ghost use Rattle.seat_runner.specs.inside.SeatWork.{CanMake, DoesLine, DoesLines, FitsRecorder};
 ghost use Rattle.seat_runner.specs.inside.SeatWork.{Makes, new_player};
@@ -13,8 +13,8 @@ use crate::tally::{Outcome, Tally};
 use bio::Ms;
 use blockdev::BlockDev;
 use board::Names;
+use dmlw_script::{Call, RunScript, SeatCall, Submission};
 use lock_state::{Receipt, Run, Seat};
-use script_reader::{Call, RunScript, SeatCall, Submission};
 use script_runner::{WriteData, bio_of};
 use shared::{Answer, MarkAnswer, Shared};
 use std::alloc::Global;

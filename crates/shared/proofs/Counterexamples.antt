@@ -8,9 +8,9 @@ use Rattle.std.specs.Prelude.{slice_get}
 use Rattle.bio.specs.declared.event.CoreEvent.{CoreEvent}
 use Rattle.bio.specs.declared.event.CoreEvent.TheVariants as events
 use Rattle.bio.specs.declared.outcome.DevError.TheVariants.{Io}
-use Rattle.bio.specs.declared.outcome.End.{End}
+use Rattle.refusals.specs.declared.end.End.{End}
 use Rattle.bio.specs.declared.outcome.Status.{Status}
-use Rattle.bio.specs.declared.outcome.End.TheVariants.{Full}
+use Rattle.refusals.specs.declared.end.End.TheVariants.{Full}
 use Rattle.bio.specs.declared.request.BadBio.{BadBio}
 use Rattle.bio.specs.declared.request.Bio.{Bio}
 use Rattle.bio.specs.declared.request.Bio.TheVariants as bios

@@ -7,8 +7,8 @@ use Rattle.std.proofs.Common.{None, Ok, Err, Some, inl, inr, refl, ap, subst, sy
 use Rattle.std.proofs.Common.{arith}
 use Rattle.std.specs.Prelude.{is_some}
 use Rattle.bio.specs.declared.event.CoreEvent.TheVariants as events
-use Rattle.bio.specs.declared.outcome.End.{End}
-use Rattle.bio.specs.declared.outcome.End.TheVariants.{Device, Full}
+use Rattle.refusals.specs.declared.end.End.{End}
+use Rattle.refusals.specs.declared.end.End.TheVariants.{Device, Full}
 use Rattle.bio.specs.declared.request.Bio.{Bio}
 use Rattle.bio.specs.declared.request.Bio.TheVariants as bios
 use Rattle.bio.specs.declared.outcome.Status.{Status}

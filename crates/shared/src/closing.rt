@@ -5,8 +5,8 @@ ghost use Rattle.std.specs.Prelude.{MatchBool, None, Some, is_some, true, false}
 ghost use Rattle.bio.specs.Lawful.{has_no_close};
 ghost use Rattle.log_format.specs.LogOf.{status_of};
 ghost use Rattle.bio.specs.Content.{Content};
-ghost use Rattle.bio.specs.declared.outcome.End.{End as Cause};
-ghost use Rattle.bio.specs.declared.outcome.End.TheVariants.{Full};
+ghost use Rattle.refusals.specs.declared.end.End.{End as Cause};
+ghost use Rattle.refusals.specs.declared.end.End.TheVariants.{Full};
 ghost use Rattle.lock_state.specs.Calls.{Holds};
 ghost use Rattle.lock_state.specs.Close.{HasNoRoom, IsShort, StopsWithLog};
 ghost use Rattle.lock_state.specs.Comparison.{BeginsTaken, Each, Receipt as Naming};

@@ -2,7 +2,7 @@
 // The search alone proves it.
 ghost use Rattle.std.specs.Prelude.{◌≡◌, ◌<◌, ◌≤◌, IfOk};
 
-use holders::Fresh;
+use lock_state::Fresh;
 use std::alloc::{AllocError, Global};
 use std::sync::ledger::Blank;
 

@@ -3,7 +3,7 @@
 use Rattle.std.proofs.Common.{◌≡◌, ◌||◌, List, ℕ, true, false, [], ◌∷◌, ◌++◌, Some, None, Option}
 use Rattle.std.proofs.Common.{refl, sym, true≢false, arith}
 use Rattle.std.specs.Prelude.{codes, decimal}
-use Rattle.text_words.specs.Words.{words_of}
+use Rattle.refusals.specs.Words.{words_of}
 use Rattle.table_line.specs.declared.feature.Feature.TheVariants as features
 use Rattle.table_line.specs.declared.layer_spec.Target.TheVariants as targets
 use Rattle.table_line.specs.declared.table_error.TableError.{TableError}

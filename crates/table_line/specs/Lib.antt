@@ -1,5 +1,5 @@
 -- The definitions that the contracts of `table_line` are written in.
-pub use Rattle.text_words.specs.Words
+pub use Rattle.refusals.specs.Words
 pub mod Ranges
 pub mod LayerOrder
 pub mod TableLines

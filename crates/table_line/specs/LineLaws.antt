@@ -7,9 +7,9 @@ use Rattle.std.specs.Prelude.{codes, decimal, nat_eq, IfOk}
 use Rattle.std.proofs.lemmas.Bool.{eqb-true}
 use Rattle.std.specs.List.{join_with_byte, AllByRecursion}
 use Rattle.std.proofs.lemmas.List.{append-nil}
-use Rattle.text_words.specs.Words.{is_word, words_of}
-use Rattle.text_words.specs.WordLaws.{decimal_number, number_low}
-use Rattle.text_words.specs.SplitLaws.{number_word, words_of_joined}
+use Rattle.refusals.specs.Words.{is_word, words_of}
+use Rattle.refusals.specs.WordLaws.{decimal_number, number_low}
+use Rattle.refusals.specs.SplitLaws.{number_word, words_of_joined}
 use Rattle.table_line.specs.declared.feature.Feature.{Feature}
 use Rattle.table_line.specs.declared.feature.Feature.TheVariants as features
 use Rattle.table_line.specs.declared.layer_spec.LayerSpec.{LayerSpec}

@@ -7,7 +7,7 @@ use Rattle.std.specs.List.{list_all}
 use Rattle.std.specs.Str.{bytes_eq}
 use Rattle.refusals.specs.declared.refusal.Refusal.{Refusal}
 use Rattle.refusals.specs.declared.refusal.Refusal.TheVariants as refusals
-use Rattle.text_words.specs.Words.{is_number, number_of, number_value}
+use Rattle.refusals.specs.Words.{is_number, number_of, number_value}
 use Rattle.table_line.specs.declared.name.Name.{Name}
 use Rattle.table_line.specs.declared.name.Name.TheVariants.{Linear, Error, Flakey, Fuse, Dust}
 use Rattle.table_line.specs.declared.name.Name.TheVariants.{Delay}

@@ -2,7 +2,7 @@
 //! function does nothing, and its clause is the law.
 //! Its clauses are written in specs/; its theorems in proofs/laws/.
 ghost use Rattle.std.specs.Prelude.{◌≡◌, ◌⊎◌, Some, None, ℕ, List};
-ghost use Rattle.text_words.specs.Words.{words_of};
+ghost use Rattle.refusals.specs.Words.{words_of};
 ghost use Rattle.table_line.specs.declared.layer_spec.LayerSpec.{LayerSpec};
 ghost use Rattle.table_line.specs.declared.table_error.TableError.{TableError};
 ghost use Rattle.table_line.specs.Ranges.{IsLayerSpec};

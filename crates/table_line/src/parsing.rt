@@ -2,7 +2,7 @@
 //! The reader of scripts calls it for the lines of layers.
 //! Its clauses are written in specs/; its theorems in proofs/parsing/.
 ghost use Rattle.std.specs.Prelude.{◌≡◌, ◌↔◌, ◌<◌, ◌^◌, Err, IfOk, Ok, Some};
-ghost use Rattle.text_words.specs.Words.{number_of, words_of};
+ghost use Rattle.refusals.specs.Words.{number_of, words_of};
 ghost use Rattle.table_line.specs.declared.layer_spec.LayerSpec.{LayerSpec};
 ghost use Rattle.table_line.specs.declared.table_error.TableError.{TableError};
 ghost use Rattle.table_line.specs.Ranges.{IsLayerSpec};
@@ -17,7 +17,7 @@ use crate::feature::Feature;
 use crate::layer_spec::{LayerSpec, Target, is_in_range};
 use crate::name::Name;
 use crate::table_error::TableError;
-use text_words::{count_words, number_of, word_at};
+use refusals::{count_words, number_of, word_at};
 
 /// Reads a line: the layer that its words ask for, or the first thing that is wrong with it. Words
 /// stand between spaces, one or more; spaces before the first word and behind the last say nothing.

@@ -7,8 +7,8 @@ ghost use Rattle.table_line.specs.Texts.{set_words, target_words};
 
 use crate::feature::Feature;
 use crate::layer_spec::{LayerSpec, Target};
+use refusals::push_number;
 use std::alloc::AllocError;
-use text_words::push_number;
 
 /// Puts the one spelling of a layer behind a text, as `0 16 flakey disk 0 10 5 1 drop_writes`: no
 /// leading zeroes, one space between two words, `disk` for the device's word, and no count of

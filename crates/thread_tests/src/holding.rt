@@ -1,7 +1,7 @@
 //! A keeper and its holders go through their calls.
 ghost use Rattle.std.specs.Prelude.{◌≡◌};
 
-use holders::{Fresh, Whose};
+use lock_state::{Fresh, Whose};
 use std::marker::Brand;
 use std::test::*;
 

@@ -1,12 +1,26 @@
-//! Tests of `holders`, `board` and `lock_state`, through what these make public. They stand apart
-//! from the crates that they test, so that these aren't proved a second time with their tests.
+//! Tests of `board`, `lock_state` and `shared`, through what these make public. They are apart from
+//! the crates that they test, so that these aren't proved a second time with their tests.
 #![tactic(auto)]
 
 #[cfg(test)]
 mod boards;
 #[cfg(test)]
+mod closes;
+#[cfg(test)]
+mod gate;
+#[cfg(test)]
 mod histories;
 #[cfg(test)]
 mod holding;
 #[cfg(test)]
+mod large;
+#[cfg(test)]
+mod moments;
+#[cfg(test)]
+mod play;
+#[cfg(test)]
 mod recording;
+#[cfg(test)]
+mod scenes;
+#[cfg(test)]
+mod work;

@@ -7,8 +7,7 @@ ghost use Rattle.log_store.specs.Fields.{store_of};
 ghost use Rattle.sector_disk.specs.DiskView.{shown_of};
 
 use bio::{Bio, Bytes, Ms, SectorSize, check, check_sized};
-use holders::Fresh;
-use lock_state::{DataState, LogState, QueueState, Run, Seat, WriterPart, drain};
+use lock_state::{DataState, Fresh, LogState, QueueState, Run, Seat, WriterPart, drain};
 use log_store::LogStore;
 use pending::is_text;
 use sector_disk::SectorDisk;

@@ -1,10 +1,11 @@
-//! Runs transcripts: commands over files in memory, each with what it shows.
+//! Runs transcripts, and series: commands over files in memory, each with what it shows.
 //!
 //! A transcript is a text. A line at the margin is prose; `  $ ` begins a command, `  > ` a line
 //! that is given to it, and any other line that is indented by two spaces is what it shows. Each
-//! word of this program names a transcript. It prints each command that shows something else, as it
-//! shows now, a line for each transcript, and a last line for all. With `again` as its first word
-//! it prints each transcript as it runs now. `verb` has the commands.
+//! word of this program that ends in `.t` names a transcript. It prints each command that shows
+//! something else, as it shows now, a line for each transcript, and one for all. With `again` as
+//! its first word it prints each transcript as it runs now. `verb` has the commands. Any other word
+//! names a series (`series`), whose lines come last.
 #![tactic(auto)]
 
 mod bytes;
@@ -12,10 +13,12 @@ mod calls;
 mod images;
 mod names;
 mod scene;
+mod series;
 mod tally;
 mod transcript;
 
 use crate::scene::Scene;
+use crate::series::Report;
 use crate::tally::Tally;
 use dmlw_files::{HostFiles, read_text};
 use std::process::ExitCode;
@@ -28,15 +31,24 @@ fn main(rt: HostRuntime) -> io::Result<ExitCode> {
     let is_again = words.get(1).is_some_and(|word| word.as_str() == "again");
     let first = if is_again { 2 } else { 1 };
     let mut all = Tally::new();
+    let mut report = Report::new(rt.alloc());
     for name in words.iter().skip(first) {
-        let text = transcript_of(&rt, name.as_str())?;
-        let shown = run(&rt, name.as_str(), &text, is_again, &mut all)?;
-        rt.print(shown.as_str())?;
+        let name = name.as_str();
+        if name.ends_with(".t") {
+            let text = transcript_of(&rt, name)?;
+            let shown = run(&rt, name, &text, is_again, &mut all)?;
+            rt.print(shown.as_str())?;
+        } else {
+            series::run(&rt, rt.alloc(), name, &mut report)?;
+        }
     }
     if !is_again {
         println!(rt; "all: {all}")?;
     }
-    Ok(ExitCode::from(u8::from(!is_again && !all.is_good())))
+    rt.print(report.text())?;
+    let has_run = words.len() > first;
+    let is_good = has_run && (is_again || all.is_good()) && report.differ() == 0;
+    Ok(ExitCode::from(u8::from(!is_good)))
 }
 
 // The text of the transcript of this name, of at most 4 MiB; one that can't be read is empty.

@@ -31,9 +31,9 @@ impl Tally {
         self.differ = self.differ.saturating_add(other.differ);
     }
 
-    /// Whether there were commands, and all of them showed what was wanted.
+    /// Whether all commands showed what was wanted.
     pub fn is_good(&self) -> bool {
-        self.commands > 0 && self.differ == 0
+        self.differ == 0
     }
 }
 

@@ -2,7 +2,7 @@
 // Its clauses are written in specs/; its theorems in proofs/copy_log/copying/.
 ghost use Rattle.std.specs.Prelude.{◌≡◌, Err, ◌≤◌, ◌⊎◌, IfErr, IfOk, OnErr, OnOk};
 ghost use Rattle.std.specs.Io.KnownBytes.{Appends};
-ghost use Rattle.run_error.specs.Errors.{IsFileError, refused_by};
+ghost use Rattle.refusals.specs.Errors.{IsFileError, refused_by};
 ghost use Rattle.dmlw_commands.specs.declared.exit.Exit.{Exit};
 ghost use Rattle.refusals.specs.declared.refusal.Refusal.TheVariants as refusals;
 ghost use Rattle.dmlw_commands.specs.Ends.{TellsLine, err_stream};
@@ -13,11 +13,10 @@ ghost use Rattle.dmlw_commands.specs.LogCopies.{Copies, EndsCopying, FailsCopy, 
 ghost use Rattle.dmlw_commands.specs.LogCopies.{IsCopiedFrom, copied_line};
 
 use crate::copy_log::images::{Copied, copy_image};
+use crate::explain::{CopyNames, explain_copying};
 use crate::{Ended, Exit, end};
-use dmlw_explain::{CopyNames, explain_copying};
 use dmlw_files::{Files, Session, read_image};
-use refusals::Refusal;
-use run_error::RunError;
+use refusals::{Refusal, RunError};
 use sector_disk::SectorDisk;
 use std::alloc::Global;
 use std::io::Write;

@@ -4,17 +4,16 @@ ghost use Rattle.std.specs.Prelude.{◌≡◌, ◌≤◌, IfErr, IfOk};
 ghost use Rattle.sector_disk.specs.DiskView.{shown_of};
 ghost use Rattle.log_reader.specs.ReaderView.{reader_of};
 ghost use Rattle.log_store.specs.Fields.{store_of};
-ghost use Rattle.run_error.specs.Errors.{memory_error};
+ghost use Rattle.refusals.specs.Errors.{memory_error};
 ghost use Rattle.dmlw_files.specs.Images.{IsImage, image_of};
 ghost use Rattle.dmlw_commands.specs.LogCopies.{FailsOnImage, IsCopied, copy_stopped};
 ghost use Rattle.dmlw_commands.specs.DiskCopy.{IsBegun, IsOpened, RefusesOpen};
 
 use bio::{End, SectorSize};
-use log_copy::{CopyFault, copy_log};
 use log_reader::LogReader;
 use log_store::LogStore;
-use refusals::Refusal;
-use run_error::RunError;
+use refusals::{Refusal, RunError};
+use replay::{CopyFault, copy_log};
 use sector_disk::{Image, SectorDisk};
 use std::alloc::Global;
 

@@ -5,7 +5,7 @@ ghost use Rattle.bio.specs.declared.event.CoreEvent.{CoreEvent};
 ghost use Rattle.bio.specs.Lawful.{all_aligned, is_well_formed};
 ghost use Rattle.bio.specs.Sizes.{bytes_of};
 ghost use Rattle.log_format.specs.Entries.{is_sector_size};
-ghost use Rattle.script_reader.specs.Plans.{ScriptValue};
+ghost use Rattle.dmlw_script.specs.Plans.{ScriptValue};
 ghost use Rattle.judge.specs.declared.verdict.Verdict.{Verdict};
 ghost use Rattle.judge.specs.declared.verdict.Verdict.TheVariants.{Yes};
 ghost use Rattle.judge.specs.Verdicts.{IsVerdict};

@@ -7,11 +7,11 @@ ghost use Rattle.bio.specs.Events.{is_stop};
 ghost use Rattle.dmlw_files.specs.Files.{KeepsFiles};
 ghost use Rattle.pending.specs.Moments.{last_moment};
 
+use crate::explain::{Counted, counted_sectors};
 use crate::judge_image::answering::Asked;
 use bio::{CoreEvent, SECTOR_BYTES};
-use dmlw_explain::{Counted, counted_sectors};
 use dmlw_files::{Files, read_image, read_text};
-use script_reader::read_script;
+use dmlw_script::read_script;
 use script_runner::events_of_run;
 use std::alloc::Global;
 use std::fmt;

@@ -4,15 +4,14 @@ ghost use Rattle.std.specs.Prelude.{◌≡◌, ◌/◌, IfErr, IfOk, length};
 ghost use Rattle.sector_disk.specs.DiskView.{shown_of};
 ghost use Rattle.sector_disk.specs.Sizes.{Begins};
 ghost use Rattle.bio.specs.Content.{sector_of};
-ghost use Rattle.run_error.specs.Errors.{memory_error};
+ghost use Rattle.refusals.specs.Errors.{memory_error};
 ghost use Rattle.dmlw_files.specs.Images.{IsImage, image_of};
 ghost use Rattle.dmlw_commands.specs.DiskReplay.{stop_by};
 ghost use Rattle.dmlw_commands.specs.Replays.{FailsOnImages, IsReplayed};
 
 use headline::{ReopenError, reopen_and_replay};
-use refusals::Refusal;
+use refusals::{Refusal, RunError};
 use replay::Upto;
-use run_error::RunError;
 use sector_disk::{Image, SectorDisk};
 use std::alloc::Global;
 

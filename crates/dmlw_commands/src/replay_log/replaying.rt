@@ -2,7 +2,7 @@
 //! Its clauses are written in specs/; its theorems in proofs/replay_log/replaying/.
 ghost use Rattle.std.specs.Prelude.{◌≡◌, Err, ◌⊎◌, IfErr, IfOk, OnErr, OnOk};
 ghost use Rattle.std.specs.Io.KnownBytes.{Appends};
-ghost use Rattle.run_error.specs.Errors.{IsFileError, refused_by};
+ghost use Rattle.refusals.specs.Errors.{IsFileError, refused_by};
 ghost use Rattle.dmlw_commands.specs.declared.exit.Exit.{Exit};
 ghost use Rattle.refusals.specs.declared.refusal.Refusal.TheVariants as refusals;
 ghost use Rattle.dmlw_commands.specs.Ends.{TellsLine, err_stream};
@@ -12,13 +12,12 @@ ghost use Rattle.dmlw_files.specs.Images.{image_of};
 ghost use Rattle.dmlw_commands.specs.Replays.{EndsReplaying, FailsReplay, HoldsReplayed};
 ghost use Rattle.dmlw_commands.specs.Replays.{IsReplayedFrom, Replays, replayed_line};
 
+use crate::explain::{ReplayNames, explain_replaying};
 use crate::replay_log::images::{Replayed, replay_images};
 use crate::{Ended, Exit, end};
-use dmlw_explain::{ReplayNames, explain_replaying};
 use dmlw_files::{Files, Session, read_image};
-use refusals::Refusal;
+use refusals::{Refusal, RunError};
 use replay::Upto;
-use run_error::RunError;
 use sector_disk::SectorDisk;
 use std::alloc::Global;
 use std::io::Write;

@@ -3,8 +3,8 @@
 ghost use Rattle.std.specs.Prelude.{◌≡◌, IfSome, None};
 ghost use Rattle.dmlw_commands.specs.Whats.{IsNoWhat, IsWhat};
 
+use refusals::number_of;
 use replay::Upto;
-use text_words::number_of;
 
 /// The end of a replay that a word names: `entries:<n>`, with 1 to 20 decimal digits of a value
 /// below 2^64, `mark:<text>`, whose text may be empty, or `flush`. None for any other word.

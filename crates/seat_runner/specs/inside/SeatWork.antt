@@ -3,10 +3,10 @@
 use Rattle.std.specs.Prelude.{◌≡◌, ◌<◌, ◌-◌, ◌^◌, ℕ, List, [], ◌∷◌, ◌++◌, length, slice_get, Ok}
 use Rattle.std.specs.Prelude.{Some}
 use Rattle.bio.specs.Sizes.{bytes_of}
-use Rattle.script_reader.specs.declared.seat_call.Call.{Call}
-use Rattle.script_reader.specs.declared.seat_call.SeatCall.{SeatCall}
-use Rattle.script_reader.specs.Plans.{top_of}
-use Rattle.script_reader.specs.RunPlans.{call_answer, FitsLine, RunPlan}
+use Rattle.dmlw_script.specs.declared.seat_call.Call.{Call}
+use Rattle.dmlw_script.specs.declared.seat_call.SeatCall.{SeatCall}
+use Rattle.dmlw_script.specs.Plans.{top_of}
+use Rattle.dmlw_script.specs.RunPlans.{call_answer, FitsLine, RunPlan}
 use Rattle.lock_state.specs.Comparison.{Receipt}
 use Rattle.lock_state.specs.History.{Part, new_part}
 use Rattle.seat_runner.specs.declared.tally.Outcome.{Outcome}

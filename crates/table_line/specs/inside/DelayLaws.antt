@@ -10,8 +10,8 @@ use Rattle.std.specs.Str.{bytes_eq}
 use Rattle.std.proofs.lemmas.Bool.{and_from, and_parts, or_cases, eq-eqb, eqb-true, leb-true}
 use Rattle.std.proofs.lemmas.Bool.{le-leb}
 use Rattle.std.proofs.lemmas.Slice.Eq.{bytes_eq-Decides}
-use Rattle.text_words.specs.Words.{number_of, IsNumber}
-use Rattle.text_words.specs.WordLaws.{number_again, number_read}
+use Rattle.refusals.specs.Words.{number_of, IsNumber}
+use Rattle.refusals.specs.WordLaws.{number_again, number_read}
 use Rattle.table_line.specs.declared.layer_spec.Target.{Target}
 use Rattle.table_line.specs.declared.layer_spec.Target.TheVariants as targets
 use Rattle.table_line.specs.declared.name.Name.TheVariants as names

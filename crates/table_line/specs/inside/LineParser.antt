@@ -4,7 +4,7 @@
 use Rattle.std.specs.Prelude.{ℕ, ◌+◌, ◌&&◌, Bool, List, Option, Some, None, Result, Ok, Err, codes}
 use Rattle.std.specs.Prelude.{is_none, length, nat_eq, slice_get, if◌then◌else◌}
 use Rattle.std.specs.Str.{bytes_eq}
-use Rattle.text_words.specs.Words.{number_of}
+use Rattle.refusals.specs.Words.{number_of}
 use Rattle.table_line.specs.declared.feature.Feature.{Feature}
 use Rattle.table_line.specs.declared.feature.Feature.TheVariants as features
 use Rattle.table_line.specs.declared.layer_spec.LayerSpec.{LayerSpec}

@@ -9,7 +9,7 @@ use Rattle.std.specs.Str.{bytes_eq}
 use Rattle.std.proofs.lemmas.Bool.{and_from, and_parts, cond-false, eqb-true, leb-true, le-leb}
 use Rattle.std.proofs.lemmas.Bool.{le-ltb}
 use Rattle.std.proofs.lemmas.List.{drop_all}
-use Rattle.text_words.specs.Words.{IsNumber}
+use Rattle.refusals.specs.Words.{IsNumber}
 use Rattle.table_line.specs.declared.feature.Feature.{Feature}
 use Rattle.table_line.specs.declared.feature.Feature.TheVariants as features
 use Rattle.table_line.specs.declared.layer_spec.LayerSpec.{LayerSpec}

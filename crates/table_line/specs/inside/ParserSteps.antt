@@ -11,8 +11,8 @@ use Rattle.std.proofs.Math.Seq.{drop-cons}
 use Rattle.std.proofs.lemmas.Bool.{and_from, cond-true, le-leb}
 use Rattle.std.proofs.lemmas.Option.{unwrap_or-slice_get}
 use Rattle.std.proofs.lemmas.Slice.Eq.{bytes_eq-Decides}
-use Rattle.text_words.specs.Words.{is_number, number_of, number_value, IsNumber}
-use Rattle.text_words.specs.WordLaws.{number_again, number_read}
+use Rattle.refusals.specs.Words.{is_number, number_of, number_value, IsNumber}
+use Rattle.refusals.specs.WordLaws.{number_again, number_read}
 use Rattle.table_line.specs.declared.layer_spec.LayerSpec.{LayerSpec}
 use Rattle.table_line.specs.declared.layer_spec.Target.{Target}
 use Rattle.table_line.specs.declared.layer_spec.Target.TheVariants as targets

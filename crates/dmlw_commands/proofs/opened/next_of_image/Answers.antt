@@ -1,7 +1,7 @@
 -- Answers to the goals of `next_of_image` (src/opened.rt) that the search leaves.
 use Rattle.std.proofs.Common.{◌≡◌, ◌∙◌, Err, true, false, refl, sym, ap}
 use Rattle.log_reader.specs.ReaderView.{reader_of}
-use Rattle.run_error.specs.Errors.{refused_by}
+use Rattle.refusals.specs.Errors.{refused_by}
 use Rattle.dmlw_commands.proofs.ImageLog.{gives_found, gives_refused, never_failed}
 use Rattle.dmlw_commands.proofs.opened.next_of_image.Goals as goal
 

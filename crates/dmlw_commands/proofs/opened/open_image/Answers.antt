@@ -1,7 +1,7 @@
 -- Answers to the goals of `open_image` (src/opened.rt) that the search leaves.
 use Rattle.std.proofs.Common.{◌∙◌, ap, refl}
 use Rattle.log_reader.specs.ReaderView.{reader_of}
-use Rattle.run_error.specs.Errors.{refused_by}
+use Rattle.refusals.specs.Errors.{refused_by}
 use Rattle.sector_disk.specs.DiskView.{shown_of}
 use Rattle.dmlw_commands.proofs.ImageLog.{never_failed, opened_on, unopened_on}
 use Rattle.dmlw_commands.proofs.opened.open_image.Goals as goal

@@ -1,7 +1,7 @@
 -- Answers to the goals of `print_script` (src/printing.rt) that the search leaves.
 use Rattle.std.proofs.Common.{◌≡◌, List, sym, subst, ℕ}
-use Rattle.script_reader.specs.Grammar.{IsTextOf}
-use Rattle.script_reader.specs.CanonicalText.{canonical_text}
+use Rattle.dmlw_script.specs.Grammar.{IsTextOf}
+use Rattle.dmlw_script.specs.CanonicalText.{canonical_text}
 use Rattle.dmlw_script.proofs.Spelling.{text_in_parts}
 use Rattle.dmlw_script.proofs.printing.print_script.Goals as goal
 

@@ -1,9 +1,9 @@
 -- What holds at the calls and the turns of the loops of `push_body` (src/printing.rt).
 use Rattle.std.proofs.Common.{◌≡◌, ◌+◌, ◌++◌, length, take, drop}
 use Rattle.std.specs.Prelude.{flat_map}
-use Rattle.script_reader.specs.Plans.{lines_of_body, submissions, top_of, IsWellFormed}
+use Rattle.dmlw_script.specs.Plans.{lines_of_body, submissions, top_of, IsWellFormed}
 use Rattle.bio.specs.Sizes.{bytes_of}
-use Rattle.script_reader.specs.CanonicalText.{ended_line}
+use Rattle.dmlw_script.specs.CanonicalText.{ended_line}
 use Rattle.dmlw_script.proofs.printing.push_body.Given as goal
 
 abbrev pub invariant-loop-command : goal.invariant-loop-command

@@ -1,7 +1,7 @@
 -- What holds at the calls and the turns of the loops of `push_calls` (src/run_printing.rt).
 use Rattle.std.proofs.Common.{◌≡◌, ◌++◌, drop}
 use Rattle.std.specs.Prelude.{flat_map, map}
-use Rattle.script_reader.specs.RunText.{call_line, ended_run_line}
+use Rattle.dmlw_script.specs.RunText.{call_line, ended_run_line}
 use Rattle.dmlw_script.proofs.run_printing.push_calls.Given as goal
 
 abbrev pub invariant-loop-call : goal.invariant-loop-call

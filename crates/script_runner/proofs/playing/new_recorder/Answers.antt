@@ -1,7 +1,7 @@
 -- Answers to the goals of `new_recorder` (src/playing.rt) that the search leaves.
 use Rattle.std.proofs.Common.{◌∙◌, ap, inr}
 use Rattle.bio.specs.Causes.{end_cause}
-use Rattle.run_error.specs.declared.run_error.RunError.TheVariants.{LoggingEnded}
+use Rattle.refusals.specs.declared.run_error.RunError.TheVariants.{LoggingEnded}
 use Rattle.script_runner.proofs.DiskRun.{new_log}
 use Rattle.script_runner.proofs.playing.new_recorder.Goals as goal
 

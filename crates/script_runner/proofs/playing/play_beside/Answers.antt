@@ -1,7 +1,7 @@
 -- Answers to the goals of `play_beside` (src/playing.rt) that the search leaves.
 use Rattle.std.proofs.Common.{inl, subst, sym}
 use Rattle.bio.specs.Sizes.{bytes_of}
-use Rattle.script_reader.specs.Plans.{Disk}
+use Rattle.dmlw_script.specs.Plans.{Disk}
 use Rattle.layer_table.specs.StackMessages.{StackAnswers}
 use Rattle.script_runner.specs.CallLaws.{on_error}
 use Rattle.script_runner.specs.Lines.{answering}

@@ -1,6 +1,6 @@
 -- Answers to the goals of `play_on_disks` (src/playing.rt) that the search leaves.
 use Rattle.std.proofs.Common.{◌≡◌, arith, inr, subst, sym}
-use Rattle.script_reader.specs.Plans.{top_of, Disk}
+use Rattle.dmlw_script.specs.Plans.{top_of, Disk}
 use Rattle.script_runner.specs.CallLaws.{on_error}
 use Rattle.layer_table.specs.Layers.{on_stack, stack_shown}
 use Rattle.script_runner.specs.DiskRun.{stack_answering, FailsOnDisks, IsStackOf, file}

@@ -7,7 +7,7 @@ use Rattle.bio.specs.declared.event.CoreEvent.{CoreEvent}
 use Rattle.bio.specs.Lawful.{all_aligned, is_lawful, is_well_formed}
 use Rattle.bio.specs.SizeLaws.{lawful_parts}
 use Rattle.bio.specs.Sizes.{bytes_of}
-use Rattle.script_reader.specs.Plans.{top_of}
+use Rattle.dmlw_script.specs.Plans.{top_of}
 use Rattle.pending.specs.CoreState.{CoreState}
 use Rattle.script_runner.specs.CallLaws.{on_error}
 use Rattle.script_runner.specs.DiskRun.{DiskRecorder}

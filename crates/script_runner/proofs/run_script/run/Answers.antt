@@ -1,11 +1,11 @@
 -- Answers to the goals of `run` (src/run_script.rt) that the search leaves.
 use Rattle.std.proofs.Common.{◌≡◌, ◌+◌, ℕ, ap, arith, length, subst, sym, ◌∙◌}
-use Rattle.script_reader.specs.declared.command.Command.{Command}
-use Rattle.script_reader.specs.Lines.{command_line}
-use Rattle.script_reader.specs.Plans.{HasName}
+use Rattle.dmlw_script.specs.declared.command.Command.{Command}
+use Rattle.dmlw_script.specs.Lines.{command_line}
+use Rattle.dmlw_script.specs.Plans.{HasName}
 use Rattle.refusals.specs.declared.refusal.Refusal.{Refusal}
 use Rattle.recorder.specs.Fields.{core_of}
-use Rattle.run_error.specs.declared.run_error.RunError.TheVariants.{Refused}
+use Rattle.refusals.specs.declared.run_error.RunError.TheVariants.{Refused}
 use Rattle.script_runner.specs.declared.step_error.StepError.TheVariants.{AtLine}
 use Rattle.script_runner.specs.Lines.{answering, EndsSubmitted, FitsDevice, HasScriptText}
 use Rattle.script_runner.specs.Lines.{PrintsLine, StopsLine, count_of}

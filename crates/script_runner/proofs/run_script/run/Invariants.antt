@@ -1,7 +1,7 @@
 -- What holds at the calls and the turns of the loops of `run` (src/run_script.rt).
 use Rattle.std.proofs.Common.{◌≡◌, length, take}
 use Rattle.bio.specs.Sizes.{bytes_of}
-use Rattle.script_reader.specs.Plans.{submissions, top_of}
+use Rattle.dmlw_script.specs.Plans.{submissions, top_of}
 use Rattle.recorder.specs.Fields.{core_of}
 use Rattle.script_runner.specs.Lines.{answering}
 use Rattle.script_runner.specs.Runs.{PrintsLines}

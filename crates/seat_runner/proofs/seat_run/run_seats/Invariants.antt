@@ -1,6 +1,6 @@
 -- What holds at the calls and the turns of the loops of `run_seats` (src/seat_run.rt).
 use Rattle.bio.specs.Sizes.{bytes_of}
-use Rattle.script_reader.specs.Plans.{top_of}
+use Rattle.dmlw_script.specs.Plans.{top_of}
 use Rattle.layer_table.specs.Layers.{stack_shown}
 use Rattle.lock_state.specs.PlacedItems.{ground_of}
 use Rattle.seat_runner.proofs.seat_run.run_seats.Given as goal

@@ -1,7 +1,7 @@
 -- Answers to the goals of `start` (src/seat_run.rt) that the search leaves.
 use Rattle.std.proofs.Common.{subst, sym}
-use Rattle.bio.specs.declared.outcome.End.{End}
-use Rattle.run_error.specs.declared.run_error.RunError.TheVariants.{LoggingEnded}
+use Rattle.refusals.specs.declared.end.End.{End}
+use Rattle.refusals.specs.declared.run_error.RunError.TheVariants.{LoggingEnded}
 use Rattle.seat_runner.specs.SeatRuns.{FailsRun, unmade}
 use Rattle.seat_runner.proofs.seat_run.start.Goals as goal
 

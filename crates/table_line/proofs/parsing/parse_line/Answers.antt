@@ -1,6 +1,6 @@
 -- Answers to the goals of `parse_line` (src/parsing.rt) that the search leaves.
 use Rattle.std.proofs.Common.{ap, sym, ◌∙◌}
-use Rattle.text_words.specs.Words.{words_of}
+use Rattle.refusals.specs.Words.{words_of}
 use Rattle.table_line.specs.LineLaws.{read_in_range}
 use Rattle.table_line.specs.inside.ParserSteps.{error_back, error_of}
 use Rattle.table_line.specs.inside.LineParserLaws.{errors_read, said_again, said_read}

@@ -1,6 +1,6 @@
 -- Answers to the goals of `answer_files` (src/judge_image/answering.rt) that the search leaves.
 use Rattle.std.proofs.Common.{◌∙◌, List, Option, subst, sym, ℕ}
-use Rattle.run_error.specs.Errors.{IsFileError}
+use Rattle.refusals.specs.Errors.{IsFileError}
 use Rattle.dmlw_files.specs.Files.{MatchesContents}
 use Rattle.dmlw_files.specs.Images.{HoldsImage}
 use Rattle.dmlw_commands.specs.Judgements.{file}

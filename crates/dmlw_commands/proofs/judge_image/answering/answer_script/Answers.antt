@@ -3,8 +3,8 @@ use Rattle.std.proofs.Common.{◌≡◌, ◌∙◌, true, IfErr, IfOk, List, Res
 use Rattle.bio.specs.declared.event.CoreEvent.{CoreEvent}
 use Rattle.bio.specs.Lawful.{all_aligned, is_lawful}
 use Rattle.bio.specs.Sizes.{bytes_of}
-use Rattle.script_reader.specs.Plans.{top_of}
-use Rattle.run_error.specs.declared.run_error.RunError.{RunError}
+use Rattle.dmlw_script.specs.Plans.{top_of}
+use Rattle.refusals.specs.declared.run_error.RunError.{RunError}
 use Rattle.script_runner.specs.CallLaws.{on_error}
 use Rattle.script_runner.specs.Rehearsals.{IsRehearsed}
 use Rattle.dmlw_commands.specs.Judgements.{HasAnswer, HasNoVerdict, question}

@@ -1,8 +1,8 @@
 -- Answers to the goals of `replay` (src/replay_log/replaying.rt) that the search leaves.
 use Rattle.std.proofs.Common.{◌≡◌, ◌∙◌, ℕ, Err, Result, subst}
 use Rattle.refusals.specs.declared.refusal.Refusal.TheVariants as refusals
-use Rattle.run_error.specs.declared.run_error.RunError.{RunError}
-use Rattle.run_error.specs.Errors.{refused_by}
+use Rattle.refusals.specs.declared.run_error.RunError.{RunError}
+use Rattle.refusals.specs.Errors.{refused_by}
 use Rattle.dmlw_commands.specs.EndLaws.{ends_told}
 use Rattle.dmlw_commands.specs.Ends.{ErrStream, Tells, TellsLine}
 use Rattle.dmlw_commands.specs.Exits.{fault_line}

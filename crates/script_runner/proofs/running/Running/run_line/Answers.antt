@@ -1,8 +1,8 @@
 -- Answers to the goals of `Running::run_line` (src/running.rt) that the search leaves.
 use Rattle.std.proofs.Common.{[], inl, inr, subst, sym}
 use Rattle.std.specs.Prelude.{OnOk}
-use Rattle.script_reader.specs.declared.command.Command.{Command}
-use Rattle.script_reader.specs.declared.command.Step.TheVariants as steps
+use Rattle.dmlw_script.specs.declared.command.Command.{Command}
+use Rattle.dmlw_script.specs.declared.command.Step.TheVariants as steps
 use Rattle.script_runner.specs.CallLaws.{keeps_same}
 use Rattle.script_runner.specs.Lines.{PrintsLine, TellsLayer, answering}
 use Rattle.script_runner.proofs.LineSteps.{appends_none, both_ok, if_err, is_close_step, is_step}

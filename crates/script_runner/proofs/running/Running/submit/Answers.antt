@@ -2,8 +2,8 @@
 use Rattle.std.proofs.Common.{◌≡◌, ◌∙◌, ap, arith, inr, length, refl, subst, sym}
 use Rattle.std.specs.Io.KnownBytes.{Appends}
 use Rattle.std.specs.Prelude.{is_ok}
-use Rattle.script_reader.specs.declared.script_id.ScriptId.{ScriptId}
-use Rattle.script_reader.specs.Plans.{name_at}
+use Rattle.dmlw_script.specs.declared.script_id.ScriptId.{ScriptId}
+use Rattle.dmlw_script.specs.Plans.{name_at}
 use Rattle.script_runner.specs.CallLaws.{on_error}
 use Rattle.script_runner.specs.Lines.{StopsForFile, submission_text}
 use Rattle.script_runner.proofs.LineSteps.{on_failed}

@@ -1,6 +1,6 @@
 -- Answers to the goals of `Shared::close` (src/shared.rt) that the search leaves.
 use Rattle.std.proofs.Common.{◌≡◌, ℕ, List, Option, length, ◌∙◌, ap, subst, sym}
-use Rattle.bio.specs.declared.outcome.End.{End}
+use Rattle.refusals.specs.declared.end.End.{End}
 use Rattle.lock_state.specs.Comparison.{Each}
 use Rattle.lock_state.specs.History.{Queue}
 use Rattle.lock_state.specs.PlacedItems.{Log, with_room}

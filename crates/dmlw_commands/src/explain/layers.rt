@@ -1,0 +1,159 @@
+//! What is printed of a wrong line of a layer: which of its words is at fault, and the form that
+//! the line should have.
+//! The search alone proves it.
+use crate::explain::line::Shown;
+use crate::explain::script_text::{is_space, number_at, word_at};
+use refusals::number_of;
+use std::fmt;
+use std::fmt::Write;
+
+// The most sectors of a layer, seconds of a flakey layer's cycle, milliseconds of a delay, and
+// bytes of a dust layer's block.
+const MAX_SECTORS: u64 = 1_048_576;
+
+const MAX_CYCLE: u64 = 4_294_967_295;
+
+const MAX_DELAY: u64 = 4_294_967_295;
+
+const MAX_BLOCK: u64 = 1_073_741_824;
+
+// The form of a layer's line after its first word, and which of its words are numbers. The first
+// word of the script's line is word 0.
+#[derive(Clone, Copy)]
+struct LayerForm {
+    form: &'static str,
+    counts: &'static str,
+    numbers: &'static [usize],
+}
+
+const LINEAR: LayerForm = LayerForm {
+    form: "0 <length> linear <dev> <offset>",
+    counts: "5 words",
+    numbers: &[1, 2, 5],
+};
+
+const ERROR: LayerForm = LayerForm {
+    form: "0 <length> error",
+    counts: "3 words",
+    numbers: &[1, 2],
+};
+
+const FLAKEY: LayerForm = LayerForm {
+    form: "0 <length> flakey <dev> <offset> <up> <down> [0 | 1 <feature>]",
+    counts: "7 to 9 words",
+    numbers: &[1, 2, 5, 6, 7],
+};
+
+const FUSE: LayerForm = LayerForm {
+    form: "0 <length> fuse <dev> <offset> <calls>",
+    counts: "6 words",
+    numbers: &[1, 2, 5, 6],
+};
+
+const DUST: LayerForm = LayerForm {
+    form: "0 <length> dust <dev> <offset> <blksz>",
+    counts: "6 words",
+    numbers: &[1, 2, 5, 6],
+};
+
+const DELAY: LayerForm = LayerForm {
+    form: "0 <length> delay <dev> <offset> <ms> [<dev> <offset> <ms> [<dev> <offset> <ms>]]",
+    counts: "6, 9 or 12 words",
+    numbers: &[1, 2, 5, 6, 8, 9, 11, 12],
+};
+
+// The form of the lines with the target that a script's line names, if there is such a target.
+fn form_of(line: &[u8]) -> Option<LayerForm> {
+    match word_at(line, 3)? {
+        b"linear" => Some(LINEAR),
+        b"error" => Some(ERROR),
+        b"flakey" => Some(FLAKEY),
+        b"fuse" => Some(FUSE),
+        b"dust" => Some(DUST),
+        b"delay" => Some(DELAY),
+        _ => None,
+    }
+}
+
+/// Writes that a layer's target is none.
+pub(crate) fn write_unknown_target<W: Write>(line: &[u8], to: &mut W) -> fmt::Result {
+    let word = Shown(word_at(line, 3).unwrap_or_default());
+    writeln!(
+        to,
+        "  the word `{word}` is no target: a layer is one of linear, error, flakey, dust, delay and fuse"
+    )
+}
+
+/// Writes how many words a layer's line has, and how many it should have.
+pub(crate) fn write_wrong_count<W: Write>(line: &[u8], to: &mut W) -> fmt::Result {
+    let count = line
+        .split(is_space)
+        .filter(|word| !word.is_empty())
+        .count()
+        .saturating_sub(1);
+    match form_of(line) {
+        Some(LayerForm { form, counts, .. }) => writeln!(
+            to,
+            "  the layer's line has {count} words behind its first, and a line of this target has {counts}: {form}"
+        ),
+        None => writeln!(
+            to,
+            "  the layer's line has {count} words behind its first, and it is to have at least 3: 0 <length> <target> .."
+        ),
+    }
+}
+
+/// Writes which word of a layer's line should be a number and isn't.
+pub(crate) fn write_bad_number<W: Write>(line: &[u8], to: &mut W) -> fmt::Result {
+    let Some(LayerForm { form, numbers, .. }) = form_of(line) else {
+        return Ok(());
+    };
+    for place in numbers {
+        if let Some(word) = word_at(line, *place) {
+            if number_of(word).is_none() {
+                let word = Shown(word);
+                return writeln!(
+                    to,
+                    "  the word `{word}` isn't a decimal number below 2^64: {form}"
+                );
+            }
+        }
+    }
+    Ok(())
+}
+
+/// Writes which number of a layer's line is out of its range.
+pub(crate) fn write_range<W: Write>(line: &[u8], to: &mut W) -> fmt::Result {
+    let start = number_at(line, 1).unwrap_or_default();
+    let length = number_at(line, 2).unwrap_or_default();
+    if start != 0 {
+        return writeln!(to, "  the start {start} isn't 0, and a layer's is");
+    }
+    if length == 0 || length > MAX_SECTORS {
+        return writeln!(
+            to,
+            "  the length {length} is out of range: it is 1 to {MAX_SECTORS} sectors"
+        );
+    }
+    match word_at(line, 3) {
+        Some(b"flakey") => writeln!(
+            to,
+            "  the seconds up and down are out of range: together they are 1 to {MAX_CYCLE}"
+        ),
+        Some(b"dust") => {
+            let bytes = number_at(line, 6).unwrap_or_default();
+            writeln!(
+                to,
+                "  the block size {bytes} is out of range: it is a power of two from 512 to {MAX_BLOCK}"
+            )
+        }
+        Some(b"delay") => writeln!(
+            to,
+            "  a delay is at most {MAX_DELAY} milliseconds, and each names the same device and offset"
+        ),
+        _ => writeln!(
+            to,
+            "  a number of the layer's line is out of range: `dmlw help formats` has the ranges"
+        ),
+    }
+}

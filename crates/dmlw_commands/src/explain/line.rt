@@ -1,0 +1,321 @@
+//! What is told of a line that isn't one of a script's, or isn't in its place: the usual cause, the
+//! first word that doesn't fit, or what its place asks for.
+//! The search alone proves it.
+use crate::explain::places::write_place;
+use crate::explain::script_text::{Grammar, Numbered, is_space};
+use refusals::number_of;
+use std::fmt;
+use std::fmt::Write;
+
+// The lines that a script can have; what stands in angle brackets is a word of that kind, and in
+// square ones a word that may be left out.
+const RECORDER_FORMS: [&str; 15] = [
+    "data <sectors>",
+    "log <sectors> [4096]",
+    "data-layer 0 <length> <target> ..",
+    "log-layer 0 <length> <target> ..",
+    "at <ms>",
+    "w <id> <first> <count> <byte> [flush] [fua] [meta]",
+    "f <id>",
+    "d <id> <first> <count>",
+    "c <id>",
+    "r <first> <count>",
+    "turn",
+    "mark <text>",
+    "message <disk> <layer> <text>",
+    "close",
+    "crash <pick> ..",
+];
+
+// The lines that a script of seats can have.
+const SEAT_FORMS: [&str; 9] = [
+    "data <sectors>",
+    "log <sectors> [4096]",
+    "seats <n>",
+    "data-layer 0 <length> <target> ..",
+    "log-layer 0 <length> <target> ..",
+    "s<k> w <first> <count> <byte> [flush] [fua] [meta]",
+    "s<k> f",
+    "s<k> d <first> <count>",
+    "s<k> mark <text>",
+];
+
+// The word of a form that names a seat, and the end of that of a crash.
+const SEAT: &[u8] = b"s<k>";
+
+const PICK: &[u8] = b"<pick> ..";
+
+// The most bytes of a line that are shown.
+const SHOWN_BYTES: usize = 100;
+
+/// Writes what is seen of a line of a script's text that isn't one of a script's, or isn't in its
+/// place: the usual cause where there is one, or else the first word that doesn't fit the form that
+/// its first word has, or what its place asks for.
+pub(crate) fn explain_line<W: Write>(
+    grammar: Grammar,
+    text: &[u8],
+    line: Numbered,
+    to: &mut W,
+) -> fmt::Result {
+    let form = form_of(grammar, line.text);
+    if let Some(cause) = cause_of(line.text) {
+        writeln!(to, "  {cause}")?;
+        return match form {
+            Some(form) => writeln!(to, "  the form of the line: {form}"),
+            None => Ok(()),
+        };
+    }
+    match form {
+        Some(form) => {
+            write_flaw(grammar, text, line, form, to)?;
+            writeln!(to, "  the form of the line: {form}")
+        }
+        None => write_unknown(grammar, line.text, to),
+    }
+}
+
+// Writes that no line begins as this one, and how lines do.
+fn write_unknown<W: Write>(grammar: Grammar, line: &[u8], to: &mut W) -> fmt::Result {
+    let word = Shown(line.split(is_space).next().unwrap_or_default());
+    if form_of(other_of(grammar), line).is_some() {
+        let (own, other) = match grammar {
+            Grammar::Recorder => ("record", "run"),
+            Grammar::Seats => ("run", "record"),
+        };
+        writeln!(
+            to,
+            "  such a line is one of a script of `dmlw {other}`, and `dmlw {own}` has no such line"
+        )?;
+    }
+    match grammar {
+        Grammar::Recorder => writeln!(
+            to,
+            "  no line begins with the word `{word}`; the lines are:"
+        )?,
+        Grammar::Seats => writeln!(
+            to,
+            "  no line begins so; a script of seats has these lines, and its first seat is s0:"
+        )?,
+    }
+    write_forms(grammar, to)
+}
+
+// The other kind of scripts.
+fn other_of(grammar: Grammar) -> Grammar {
+    match grammar {
+        Grammar::Recorder => Grammar::Seats,
+        Grammar::Seats => Grammar::Recorder,
+    }
+}
+
+/// Writes the lines that a script can have.
+pub(crate) fn write_forms<W: Write>(grammar: Grammar, to: &mut W) -> fmt::Result {
+    for form in forms_of(grammar) {
+        writeln!(to, "    {form}")?;
+    }
+    Ok(())
+}
+
+fn forms_of(grammar: Grammar) -> &'static [&'static str] {
+    match grammar {
+        Grammar::Recorder => &RECORDER_FORMS,
+        Grammar::Seats => &SEAT_FORMS,
+    }
+}
+
+/// Bytes of a script, shown in printable ones alone, and cut after 100.
+#[derive(Clone, Copy)]
+pub(crate) struct Shown<'a>(pub(crate) &'a [u8]);
+
+impl fmt::Display for Shown<'_> {
+    fn fmt<W: Write>(&self, f: &mut fmt::Formatter<W>) -> fmt::Result {
+        let Some(front) = self.0.get(..SHOWN_BYTES) else {
+            let all = self.0.escape_ascii();
+            return write!(f, "{all}");
+        };
+        let front = front.escape_ascii();
+        write!(f, "{front}...")
+    }
+}
+
+// What a line has that no line may have.
+fn cause_of(line: &[u8]) -> Option<&'static str> {
+    if line.starts_with(b"\xef\xbb\xbf".as_slice()) {
+        return Some(
+            "it begins with a byte order mark (ef bb bf): save the script as text without one",
+        );
+    }
+    if is_text(line) && has_own_words(line) {
+        return None;
+    }
+    if line.ends_with(b"\r".as_slice()) {
+        return Some("it ends with a carriage return: lines end with a line feed alone");
+    }
+    if line.contains(&b'\t') {
+        return Some("it has a tab: one space stands between words");
+    }
+    if !is_text(line) {
+        return Some("it has a byte that isn't ASCII text");
+    }
+    if line.split(is_space).any(|word| word.is_empty()) {
+        return Some("it has a space too many: one stands between words, none at an end");
+    }
+    if line.iter().any(|byte| byte.is_ascii_uppercase()) {
+        return Some("it has an upper case letter: words are in lower case");
+    }
+    None
+}
+
+// The text of a mark or a message is taken as it stands, and the words of a layer's table line are
+// its own.
+fn has_own_words(line: &[u8]) -> bool {
+    line.starts_with(b"mark ".as_slice())
+        || line.starts_with(b"message ".as_slice())
+        || line.starts_with(b"data-layer ".as_slice())
+        || line.starts_with(b"log-layer ".as_slice())
+}
+
+// The form of the lines that begin as this one.
+fn form_of(grammar: Grammar, line: &[u8]) -> Option<&'static str> {
+    for form in forms_of(grammar) {
+        if begins_as(form.as_bytes(), line) {
+            return Some(form);
+        }
+    }
+    None
+}
+
+// Whether a line begins as a form: with its first word, of a seat's line with its second one too.
+fn begins_as(form: &[u8], line: &[u8]) -> bool {
+    let mut words = line.split(is_space);
+    let mut wanted = form.split(is_space);
+    let first = wanted.next().unwrap_or_default();
+    if !fits(first, words.next().unwrap_or_default()) {
+        return false;
+    }
+    first != SEAT || words.next() == wanted.next()
+}
+
+// Writes which word of a line is the first that doesn't fit a form; where all do, what its place
+// asks for.
+fn write_flaw<W: Write>(
+    grammar: Grammar,
+    text: &[u8],
+    line: Numbered,
+    form: &str,
+    to: &mut W,
+) -> fmt::Result {
+    match flaw_of(line.text, form.as_bytes()) {
+        Flaw::None => write_place(grammar, text, line, to),
+        Flaw::Missing(wanted) => {
+            let kind = Shown(wanted);
+            writeln!(to, "  the word {kind} is missing")
+        }
+        Flaw::Misfit(wanted, word) => {
+            let (word, kind) = (Shown(word), Shown(wanted));
+            let meaning = meaning_of(wanted);
+            writeln!(to, "  the word `{word}` isn't {kind}: {meaning}")
+        }
+        Flaw::TooMany(word) => {
+            let word = Shown(word);
+            let order = if form.ends_with("]") {
+                ", or isn't in its order"
+            } else {
+                ""
+            };
+            writeln!(to, "  the word `{word}` is one too many{order}")
+        }
+    }
+}
+
+// What of a line doesn't fit a form.
+enum Flaw<'a> {
+    None,
+    // A word of this kind isn't there.
+    Missing(&'a [u8]),
+    // In the place of a word of this kind stands this one.
+    Misfit(&'a [u8], &'a [u8]),
+    // This word stands behind all that the form has.
+    TooMany(&'a [u8]),
+}
+
+// The first word of a line that doesn't fit a form.
+fn flaw_of<'a>(line: &'a [u8], form: &'a [u8]) -> Flaw<'a> {
+    if form.ends_with(PICK) {
+        return pick_flaw(line);
+    }
+    let mut words = line.split(is_space);
+    let mut next = words.next();
+    for wanted in form.split(is_space) {
+        match next {
+            // What stands behind is one text, or has a grammar of its own.
+            Some(_) if wanted == b"<text>".as_slice() || wanted == b"0".as_slice() =>
+                return Flaw::None,
+            Some(word) if fits(wanted, word) => next = words.next(),
+            _ if wanted.starts_with(b"[".as_slice()) => {}
+            Some(word) => return Flaw::Misfit(wanted, word),
+            None => return Flaw::Missing(wanted),
+        }
+    }
+    match next {
+        Some(word) => Flaw::TooMany(word),
+        None => Flaw::None,
+    }
+}
+// The first pick of a crash that is no number.
+fn pick_flaw(line: &[u8]) -> Flaw<'_> {
+    for word in line.split(is_space).skip(1) {
+        if number_of(word).is_none() {
+            return Flaw::Misfit(b"<pick>", word);
+        }
+    }
+    Flaw::None
+}
+
+// Whether a word is of the kind that a form has in its place.
+fn fits(wanted: &[u8], word: &[u8]) -> bool {
+    match wanted {
+        b"<id>" => is_id(word),
+        b"<byte>" => word.len() == 2 && word.iter().all(is_digit_of_byte),
+        b"<disk>" => matches!(word, b"data" | b"log"),
+        [b'<', ..] => number_of(word).is_some(),
+        SEAT => is_seat(word),
+        [b'[', option @ .., b']'] => word == option,
+        _ => word == wanted,
+    }
+}
+
+// What a word of a kind is.
+fn meaning_of(wanted: &[u8]) -> &'static str {
+    match wanted {
+        b"<id>" => "1 to 16 of the characters a to z and 0 to 9",
+        b"<byte>" => "two hexadecimal digits of 0 to 9 and a to f",
+        b"<disk>" => "data or log",
+        _ => "a decimal number below 2^64",
+    }
+}
+
+fn is_id(word: &[u8]) -> bool {
+    !word.is_empty() && word.len() <= 16 && word.iter().all(is_letter_of_id)
+}
+
+// Whether a word names a seat, there or not.
+fn is_seat(word: &[u8]) -> bool {
+    match word {
+        [b's', number @ ..] => number_of(number).is_some(),
+        _ => false,
+    }
+}
+
+// Bytes that a script's line may have.
+fn is_text(line: &[u8]) -> bool {
+    line.is_ascii() && !line.contains(&0)
+}
+
+fn is_letter_of_id(byte: &u8) -> bool {
+    byte.is_ascii_lowercase() || byte.is_ascii_digit()
+}
+
+fn is_digit_of_byte(byte: &u8) -> bool {
+    matches!(*byte, b'0'..=b'9' | b'a'..=b'f')
+}

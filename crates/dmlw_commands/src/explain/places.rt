@@ -1,0 +1,157 @@
+//! What the place of a script's line asks for, if its words alone are right.
+//! The search alone proves it.
+use crate::explain::line::Shown;
+use crate::explain::script_text::{
+    Grammar, Numbered, begins_with, count_of, first_of_body, line_of, number_at, word_at,
+};
+use std::fmt;
+use std::fmt::Write;
+
+// The most layers over one disk.
+const MAX_LAYERS: u64 = 4;
+
+/// Writes why a line of right words isn't in its place, or which of its numbers isn't in its range.
+pub(crate) fn write_place<W: Write>(
+    grammar: Grammar,
+    text: &[u8],
+    line: Numbered,
+    to: &mut W,
+) -> fmt::Result {
+    if let Some(Numbered { number, .. }) = line_of(text, line.number, b"crash") {
+        return writeln!(
+            to,
+            "  nothing may stand behind the `crash` of line {number}"
+        );
+    }
+    match next_of_head(grammar, text, line.number) {
+        Some(word) if begins_with(line.text, word.as_bytes()) => write_range(line, to),
+        Some(word) => writeln!(
+            to,
+            "  the line `{word}` has to stand before this one: a script begins with {}",
+            head_of(grammar)
+        ),
+        None => write_behind_head(text, line, to),
+    }
+}
+
+// The lines of a head, in their order.
+fn head_of(grammar: Grammar) -> &'static str {
+    match grammar {
+        Grammar::Recorder => "`data`, and then `log`",
+        Grammar::Seats => "`data`, then `log`, and then `seats`",
+    }
+}
+
+// The first word of the line that a script's head lacks before a line, if it lacks one.
+fn next_of_head(grammar: Grammar, text: &[u8], before: u64) -> Option<&'static str> {
+    if line_of(text, before, b"data").is_none() {
+        Some("data")
+    } else if line_of(text, before, b"log").is_none() {
+        Some("log")
+    } else if grammar == Grammar::Seats && line_of(text, before, b"seats").is_none() {
+        Some("seats")
+    } else {
+        None
+    }
+}
+
+// Writes the range that the number of a head's line isn't in.
+fn write_range<W: Write>(line: Numbered, to: &mut W) -> fmt::Result {
+    let number = Shown(word_at(line.text, 1).unwrap_or_default());
+    let range = match word_at(line.text, 0) {
+        Some(b"seats") => "1 to 64",
+        Some(b"log") if word_at(line.text, 2).is_some() => "8 to 1048576, with the word 4096",
+        _ => "1 to 1048576",
+    };
+    writeln!(to, "  the number {number} is out of range: it is {range}")
+}
+
+// Writes why a line can't come after the head's lines, or can't come here among the layers and the
+// others.
+fn write_behind_head<W: Write>(text: &[u8], line: Numbered, to: &mut W) -> fmt::Result {
+    match word_at(line.text, 0) {
+        Some(b"data") => write_twice(text, line, b"data", to),
+        Some(b"log") => write_twice(text, line, b"log", to),
+        Some(b"seats") => write_twice(text, line, b"seats", to),
+        Some(b"data-layer") => write_layer(text, line, b"data-layer", to),
+        Some(b"log-layer") => write_layer(text, line, b"log-layer", to),
+        Some(b"at") => write_moment(text, line, to),
+        Some([b's', number @ ..]) => write_seat(text, line, number, to),
+        _ => Ok(()),
+    }
+}
+
+// Writes that the script has this line already, which it may have once.
+fn write_twice<W: Write>(text: &[u8], line: Numbered, word: &[u8], to: &mut W) -> fmt::Result {
+    let Some(Numbered { number, .. }) = line_of(text, line.number, word) else {
+        return Ok(());
+    };
+    let word = Shown(word);
+    writeln!(
+        to,
+        "  line {number} is `{word}` already: it stands once in a script"
+    )
+}
+
+// Writes which line may not come before a layer's line, or that the layer is too short.
+fn write_layer<W: Write>(text: &[u8], line: Numbered, word: &[u8], to: &mut W) -> fmt::Result {
+    if let Some(Numbered { number, .. }) = first_of_body(text, line.number) {
+        return writeln!(
+            to,
+            "  the layers stand before the requests, and line {number} is no layer"
+        );
+    }
+    if word == b"data-layer".as_slice() {
+        if let Some(Numbered { number, .. }) = line_of(text, line.number, b"log-layer") {
+            return writeln!(
+                to,
+                "  the layers of the data disk stand before those of the log, and line {number} is a `log-layer`"
+            );
+        }
+    }
+    if count_of(text, line.number, word) >= MAX_LAYERS {
+        return writeln!(
+            to,
+            "  {MAX_LAYERS} layers stand over this disk already, which is the most"
+        );
+    }
+    writeln!(
+        to,
+        "  with log sectors of 4096 bytes a layer over the log has at least 8 sectors"
+    )
+}
+
+// Writes that a moment goes back.
+fn write_moment<W: Write>(text: &[u8], line: Numbered, to: &mut W) -> fmt::Result {
+    let Some(
+        Numbered {
+            number,
+            text: before,
+        },
+    ) = line_of(text, line.number, b"at")
+    else {
+        return Ok(());
+    };
+    let moment = Shown(word_at(line.text, 1).unwrap_or_default());
+    let earlier = Shown(word_at(before, 1).unwrap_or_default());
+    writeln!(
+        to,
+        "  the moment {moment} is before {earlier}, which line {number} sets: moments don't go back"
+    )
+}
+
+// Writes that there is no such seat, and which seats there are.
+fn write_seat<W: Write>(text: &[u8], line: Numbered, seat: &[u8], to: &mut W) -> fmt::Result {
+    let Some(Numbered { text: seats, .. }) = line_of(text, line.number, b"seats") else {
+        return Ok(());
+    };
+    let Some(count) = number_at(seats, 1) else {
+        return Ok(());
+    };
+    let seat = Shown(seat);
+    let last = count.saturating_sub(1);
+    writeln!(
+        to,
+        "  there is no seat {seat}: there are {count}, s0 to s{last}"
+    )
+}

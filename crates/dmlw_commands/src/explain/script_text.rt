@@ -1,0 +1,202 @@
+//! A script as a text: its lines by number and first word, which is all that an explanation of one
+//! line asks of the others.
+//! The search alone proves it.
+use refusals::number_of;
+
+/// Which of the two kinds of scripts a text is to be.
+#[derive(Clone, Copy, PartialEq, Eq)]
+pub(crate) enum Grammar {
+    /// Of `record`, `judge` and `path`.
+    Recorder,
+    /// Of `run`.
+    Seats,
+}
+
+/// A line of a script and its number, counted from 1.
+#[derive(Clone, Copy)]
+pub(crate) struct Numbered<'a> {
+    pub(crate) number: u64,
+    pub(crate) text: &'a [u8],
+}
+
+pub(crate) fn is_line_end(byte: &u8) -> bool {
+    *byte == b'\n'
+}
+
+pub(crate) fn is_space(byte: &u8) -> bool {
+    *byte == b' '
+}
+
+/// The line of this number, where a text has it.
+pub(crate) fn line_at(text: &[u8], number: u64) -> Option<&[u8]> {
+    text.split(is_line_end)
+        .nth(number.saturating_sub(1) as usize)
+}
+
+/// Whether one of a text's lines is this.
+pub(crate) fn has_line(text: &[u8], wanted: &[u8]) -> bool {
+    for line in text.split(is_line_end) {
+        if line == wanted {
+            return true;
+        }
+    }
+    false
+}
+
+/// The word of a line at this place, counted from 0.
+pub(crate) fn word_at(line: &[u8], place: usize) -> Option<&[u8]> {
+    line.split(is_space).filter(is_filled).nth(place)
+}
+
+/// The number that the word of a line at this place is, if it is one.
+pub(crate) fn number_at(line: &[u8], place: usize) -> Option<u64> {
+    number_of(word_at(line, place)?)
+}
+
+fn is_filled(word: &&[u8]) -> bool {
+    !word.is_empty()
+}
+
+/// Whether the first word of a line is this.
+pub(crate) fn begins_with(line: &[u8], word: &[u8]) -> bool {
+    word_at(line, 0) == Some(word)
+}
+
+/// The last line before a number that begins with this word.
+pub(crate) fn line_of<'a>(text: &'a [u8], before: u64, word: &[u8]) -> Option<Numbered<'a>> {
+    let mut found = None;
+    let mut number: u64 = 0;
+    for line in text.split(is_line_end) {
+        number = number.saturating_add(1);
+        if number >= before {
+            return found;
+        }
+        if begins_with(line, word) {
+            found = Some(Numbered { number, text: line });
+        }
+    }
+    found
+}
+
+/// How many lines before a number begin with this word.
+pub(crate) fn count_of(text: &[u8], before: u64, word: &[u8]) -> u64 {
+    let mut count: u64 = 0;
+    let mut number: u64 = 0;
+    for line in text.split(is_line_end) {
+        number = number.saturating_add(1);
+        if number >= before {
+            return count;
+        }
+        if begins_with(line, word) {
+            count = count.saturating_add(1);
+        }
+    }
+    count
+}
+
+/// The line before a number that begins with this word and is the so manieth of these, counted from
+/// 1.
+pub(crate) fn nth_of<'a>(
+    text: &'a [u8],
+    before: u64,
+    word: &[u8],
+    wanted: u64,
+) -> Option<&'a [u8]> {
+    let mut count: u64 = 0;
+    let mut number: u64 = 0;
+    for line in text.split(is_line_end) {
+        number = number.saturating_add(1);
+        if number >= before {
+            return None;
+        }
+        if begins_with(line, word) {
+            count = count.saturating_add(1);
+            if count == wanted {
+                return Some(line);
+            }
+        }
+    }
+    None
+}
+
+/// The first line before a number that stands behind the head: no comment, no empty line, and none
+/// of the head's lines.
+pub(crate) fn first_of_body(text: &[u8], before: u64) -> Option<Numbered<'_>> {
+    let mut number: u64 = 0;
+    for line in text.split(is_line_end) {
+        number = number.saturating_add(1);
+        if number >= before {
+            return None;
+        }
+        if !is_of_head(line) {
+            return Some(Numbered { number, text: line });
+        }
+    }
+    None
+}
+
+// Whether a line is skipped, or stands in a script's head.
+fn is_of_head(line: &[u8]) -> bool {
+    let first = line.split(is_space).next().unwrap_or_default();
+    match first {
+        [] | [b'#', ..] | b"data" | b"log" | b"seats" | b"data-layer" | b"log-layer" => true,
+        _ => false,
+    }
+}
+
+/// The line before a number that submits the request of this id.
+pub(crate) fn submission_of<'a>(text: &'a [u8], before: u64, id: &[u8]) -> Option<Numbered<'a>> {
+    let mut number: u64 = 0;
+    for line in text.split(is_line_end) {
+        number = number.saturating_add(1);
+        if number >= before {
+            return None;
+        }
+        if submitted_by(line) == Some(id) {
+            return Some(Numbered { number, text: line });
+        }
+    }
+    None
+}
+
+/// The line before a number that ends the request of this id.
+pub(crate) fn end_of<'a>(text: &'a [u8], before: u64, id: &[u8]) -> Option<Numbered<'a>> {
+    let mut number: u64 = 0;
+    for line in text.split(is_line_end) {
+        number = number.saturating_add(1);
+        if number >= before {
+            return None;
+        }
+        if begins_with(line, b"c") && word_at(line, 1) == Some(id) {
+            return Some(Numbered { number, text: line });
+        }
+    }
+    None
+}
+
+/// How many requests are submitted before a line, and ended nowhere before it, in a script that is
+/// read up to there.
+pub(crate) fn open_requests(text: &[u8], before: u64) -> u64 {
+    let mut open: u64 = 0;
+    let mut number: u64 = 0;
+    for line in text.split(is_line_end) {
+        number = number.saturating_add(1);
+        if number >= before {
+            return open;
+        }
+        if submitted_by(line).is_some() {
+            open = open.saturating_add(1);
+        } else if begins_with(line, b"c") {
+            open = open.saturating_sub(1);
+        }
+    }
+    open
+}
+
+/// The id of the request that a line submits, if it submits one.
+pub(crate) fn submitted_by(line: &[u8]) -> Option<&[u8]> {
+    if begins_with(line, b"w") || begins_with(line, b"f") || begins_with(line, b"d") {
+        return word_at(line, 1);
+    }
+    None
+}

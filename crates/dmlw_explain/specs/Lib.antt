@@ -1,2 +1,0 @@
--- The definitions that the contracts of `dmlw_explain` are written in.
-pub use Rattle.dmlw_files.specs.Files

@@ -1,0 +1,384 @@
+-- A text that a reader refuses has one first fault, and a script's text has none.
+-- Its own crate alone cites it, for theorems of many of its files.
+use Rattle.std.proofs.Common.{◌≡◌, ℕ, ◌+◌, ◌<◌, ◌≤◌, Bool, true, false, List, [], ◌∷◌, ◌++◌, length}
+use Rattle.std.proofs.Common.{Option, Some, None, Ok, Err, ◌⊎◌, inl, inr, ⊎_elim, refl, ap, ◌∙◌}
+use Rattle.std.proofs.Common.{sym, subst, arith, append_assoc}
+use Rattle.std.specs.Prelude.{Result, IfErr}
+use Rattle.std.specs.List.{AllZip}
+use Rattle.std.proofs.lemmas.Bool.{cases_lt}
+use Rattle.std.proofs.lemmas.List.{append-nil}
+use Rattle.refusals.specs.declared.fault.Fault.{Fault}
+use Rattle.refusals.specs.declared.refusal.Refusal.{Refusal}
+use Rattle.refusals.specs.declared.refusal.Refusal.TheVariants.{BadLine}
+use Rattle.dmlw_script.specs.Lines.{is_ascii_line, is_skipped, unskipped}
+use Rattle.dmlw_script.specs.FirstFault.{is_memory}
+use Rattle.dmlw_script.specs.inside.Readers.{and_then, at_line, read_by, step_if, IsFault, Reads}
+use Rattle.dmlw_script.proofs.FoldLaws.{memory_is, reads_on, stopped, StopsAt}
+use Rattle.dmlw_script.proofs.ReaderLaws.{kept_line, lines_spell, one_said, one_script, one_told}
+use Rattle.dmlw_script.proofs.ReaderLaws.{reached, skipped_line, strange_line, reached_spells}
+use Rattle.dmlw_script.proofs.ReaderLaws.{reads, spelled_lines, takes, Reached, Reader}
+
+-- ---- lines in two parts
+
+-- lines in two parts, the first of which is longer than another
+pub record Longer (short_part : List (List ℕ)) (rest long_part : List (List ℕ)) : Type 0 where
+  pub line : List ℕ
+  pub between : List (List ℕ)
+  pub tail : List (List ℕ)
+  pub long_is : long_part ≡ short_part ++ line ∷ between
+  pub rest_is : rest ≡ line ∷ tail
+
+-- a longer first part has the shorter one and the line after it
+pub longer : (a x b y : List (List ℕ)) → a ++ x ≡ b ++ y → length a < length b → Longer a x b
+longer [] x (line ∷ b) y same less =
+    record { line = line; between = b; tail = b ++ y; long_is = refl; rest_is = same }
+longer (first ∷ a) x (line ∷ b) y same less =
+    let firsts : first ≡ line = cc in
+    let rests : a ++ x ≡ b ++ y = cc in
+    let more = longer a x b y rests (omega arith) in
+    let long = more.long_is in
+    record {
+      line = more.line;
+      between = more.between;
+      tail = more.tail;
+      long_is = cc;
+      rest_is = more.rest_is;
+    }
+longer a x b y same less = absurd (omega arith)
+
+-- first parts of one length are one, and so is what is after them
+same_parts : (a x b y : List (List ℕ)) → a ++ x ≡ b ++ y → length a ≡ length b → (a ≡ b) × (x ≡ y)
+same_parts [] x [] y same lens = (refl, same)
+same_parts (first ∷ a) x (line ∷ b) y same lens =
+    let firsts : first ≡ line = cc in
+    let rests : a ++ x ≡ b ++ y = cc in
+    let more = same_parts a x b y rests (omega arith) in
+    let heads = more.0 in
+    (cc, more.1)
+same_parts a x b y same lens = absurd (omega arith)
+
+-- ---- what is known of a reader's faults
+
+-- lines that are missing to a script
+pub record Completes {S W A : Type 0} (r : Reader S W A) (s : S) (number : ℕ) : Type 0 where
+  pub more : List (List ℕ)
+  pub plan : A
+  pub read : read_by (takes r) r.finish s number more ≡ Ok plan
+
+-- what may stand behind what was read, why a step is refused, and which lines begin a script, are
+-- at fault, and have a first fault, by the definitions of the clauses
+pub record Faults {S W A : Type 0} (r : Reader S W A) (P : Type 0) : Type 1 where
+  pub after : List W → P
+  pub Stands : P → W → Type 0
+  pub prefix_of : S → P
+  pub after_lines : (s : S) → r.IsBegun s → after (r.lines_so_far s) ≡ prefix_of s
+  pub line_refusal : A → W → Option Refusal
+  pub step_refused : (s : S) (w : W) (refusal : Refusal) → r.step s w ≡ Err refusal
+      → ((Stands (prefix_of s) w → ⊥) × (BadLine ≡ refusal))
+      ⊎ (Stands (prefix_of s) w × (plan : A) × (r.finish s ≡ Ok plan)
+      × (line_refusal plan w ≡ Some refusal))
+  pub completes : (s : S) (number : ℕ) → r.IsBegun s → Completes r s number
+  pub unfinished_is : (s : S) (refusal : Refusal) → r.finish s ≡ Err refusal → refusal ≡ BadLine
+  pub Begins : List (List ℕ) → Type 0
+  pub begins : (lines more : List (List ℕ)) (plan : A) → r.Spells (lines ++ more) plan
+      → Begins lines
+  pub begun : (lines : List (List ℕ)) → Begins lines
+      → (more : List (List ℕ)) × (plan : A) × r.Spells (lines ++ more) plan
+  pub LineAfter : List (List ℕ) → List ℕ → W → Type 0
+  pub line_after : (before : List (List ℕ)) (line : List ℕ) (w : W) (said : List W)
+      → is_ascii_line line ≡ true → r.Says line w → AllZip r.Says (unskipped before) said
+      → Stands (after said) w → LineAfter before line w
+  pub line_parts : (before : List (List ℕ)) (line : List ℕ) (w : W) → LineAfter before line w
+      → (is_ascii_line line ≡ true) × r.Says line w × (said : List W)
+      × AllZip r.Says (unskipped before) said × Stands (after said) w
+  pub LineFault : List (List ℕ) → List ℕ → Refusal → Type 0
+  pub bad_line : (before : List (List ℕ)) (line : List ℕ)
+      → ((w : W) → LineAfter before line w → ⊥) → LineFault before line BadLine
+  pub refused : (before : List (List ℕ)) (line : List ℕ) (w : W) (plan : A) (refusal : Refusal)
+      → LineAfter before line w → r.Spells before plan → line_refusal plan w ≡ Some refusal
+      → LineFault before line refusal
+  pub why : (before : List (List ℕ)) (line : List ℕ) (refusal : Refusal)
+      → LineFault before line refusal
+      → (((w : W) → LineAfter before line w → ⊥) × (refusal ≡ BadLine))
+      ⊎ ((w : W) × (plan : A) × LineAfter before line w × r.Spells before plan
+      × (line_refusal plan w ≡ Some refusal))
+  pub FaultAfter : List (List ℕ) → List (List ℕ) → Refusal → Type 0
+  pub fault_end : (before : List (List ℕ)) (refusal : Refusal) → refusal ≡ BadLine
+      → ((plan : A) → r.Spells before plan → ⊥) → FaultAfter before [] refusal
+  pub end_fault : (before : List (List ℕ)) (refusal : Refusal) → FaultAfter before [] refusal
+      → (refusal ≡ BadLine) × ((plan : A) → r.Spells before plan → ⊥)
+  pub fault_line : (before : List (List ℕ)) (line : List ℕ) (more : List (List ℕ))
+      (refusal : Refusal) → (Begins (before ++ line ∷ []) → ⊥) → LineFault before line refusal
+      → FaultAfter before (line ∷ more) refusal
+  pub line_fault : (before : List (List ℕ)) (line : List ℕ) (more : List (List ℕ))
+      (refusal : Refusal) → FaultAfter before (line ∷ more) refusal
+      → (Begins (before ++ line ∷ []) → ⊥) × LineFault before line refusal
+  pub FirstFault : List (List ℕ) → ℕ → Refusal → Type 0
+  pub first : (lines before more : List (List ℕ)) (line : ℕ) (refusal : Refusal)
+      → lines ≡ before ++ more → line ≡ length before + 1 → Begins before
+      → FaultAfter before more refusal → FirstFault lines line refusal
+  pub first_parts : (lines : List (List ℕ)) (line : ℕ) (refusal : Refusal)
+      → FirstFault lines line refusal
+      → (before : List (List ℕ)) × (more : List (List ℕ)) × (lines ≡ before ++ more)
+      × (line ≡ length before + 1) × Begins before × FaultAfter before more refusal
+
+module _ {S W A P : Type 0} (r : Reader S W A) (f : Faults r P) where
+  -- ---- where reading ends, the first fault is
+
+  -- what is read behind lines that lead somewhere
+  read_behind : (before more : List (List ℕ)) (s : S) → Reached r before s
+      → reads r 1 (before ++ more) ≡ read_by (takes r) r.finish s (1 + length before) more
+  read_behind before more s here = reads_on (takes r) r.finish r.start s 1 before more here.gone
+
+  -- lines that lead somewhere begin a script
+  reached_begins : (before : List (List ℕ)) (s : S) → Reached r before s → f.Begins before
+  reached_begins before s here =
+      let c = f.completes s (1 + length before) here.begun in
+      f.begins before c.more c.plan
+      (lines_spell r 1 (before ++ c.more) c.plan (read_behind before c.more s here ∙ c.read))
+
+  -- no script begins with lines of which the last is refused
+  refused_ends : (before : List (List ℕ)) (s : S) (line : List ℕ) (refusal : Refusal)
+      → Reached r before s → takes r s line ≡ Err refusal → f.Begins (before ++ line ∷ []) → ⊥
+  refused_ends before s line refusal here step begins =
+      let b = f.begun (before ++ line ∷ []) begins in
+      let whole : (before ++ line ∷ []) ++ b.0 ≡ before ++ line ∷ b.0 =
+      append_assoc before (line ∷ []) b.0 in
+      let read =
+      sym (spelled_lines r 1 (before ++ line ∷ b.0) b.1
+      (subst (λ (x : List (List ℕ)). r.Spells x b.1) whole b.2))
+      ∙ read_behind before (line ∷ b.0) s here
+      ∙ ap (λ x. and_then (at_line (1 + length before) x)
+      (λ t. read_by (takes r) r.finish t (1 + length before + 1) b.0)) step in
+      cc
+
+  -- lines after which the text can't end are no script
+  unfinished : (before : List (List ℕ)) (s : S) (refusal : Refusal) → Reached r before s
+      → r.finish s ≡ Err refusal → (plan : A) → r.Spells before plan → ⊥
+  unfinished before s refusal here finish plan spells =
+      let read =
+      sym (spelled_lines r 1 before plan spells) ∙ ap (reads r 1) (sym (append-nil before))
+      ∙ read_behind before [] s here
+      ∙ ap (at_line (1 + length before)) finish in
+      cc
+
+  -- what may not stand behind lines doesn't
+  never_after : (before : List (List ℕ)) (s : S) (line : List ℕ) (w : W) → Reached r before s
+      → r.Says line w → (f.Stands (f.prefix_of s) w → ⊥) → (v : W) → f.LineAfter before line v → ⊥
+  never_after before s line w here says never v at =
+      let p = f.line_parts before line v at in
+      let same : v ≡ w = one_said r line v w p.1 says in
+      let told : p.2 ≡ r.lines_so_far s =
+      one_told r (unskipped before) p.2 (r.lines_so_far s) p.3 here.tells.says in
+      let there : f.after p.2 ≡ f.prefix_of s = ap f.after told ∙ f.after_lines s here.begun in
+      never (subst (λ (x : W). f.Stands (f.prefix_of s) x) same
+      (subst (λ (prefix : P). f.Stands prefix v) there p.4))
+
+  -- why a line that says this is refused
+  said_fault : (before : List (List ℕ)) (s : S) (line : List ℕ) (w : W) (refusal : Refusal)
+      → Reached r before s → is_ascii_line line ≡ true → r.Says line w
+      → r.step s w ≡ Err refusal → f.LineFault before line refusal
+  said_fault before s line w refusal here plain says e =
+      ⊎_elim
+      (λ (h : (f.Stands (f.prefix_of s) w → ⊥) × (BadLine ≡ refusal)).
+      subst (λ (x : Refusal). f.LineFault before line x) h.1
+      (f.bad_line before line (never_after before s line w here says h.0)))
+      (λ (h : f.Stands (f.prefix_of s) w × (plan : A) × (r.finish s ≡ Ok plan)
+      × (f.line_refusal plan w ≡ Some refusal)).
+      f.refused before line w h.1 refusal
+      (f.line_after before line w (r.lines_so_far s) plain says here.tells.says
+      (subst (λ (prefix : P). f.Stands prefix w) (sym (f.after_lines s here.begun)) h.0))
+      (reached_spells r before s h.1 here h.2) h.3)
+      (f.step_refused s w refusal e)
+
+  -- why a line is refused after lines that lead somewhere
+  refused_line : (before : List (List ℕ)) (s : S) (line : List ℕ) (refusal : Refusal)
+      → Reached r before s → takes r s line ≡ Err refusal → f.LineFault before line refusal
+  refused_line before s line refusal here e =
+      by_tests (is_ascii_line line) (is_skipped line) refl refl
+    where
+      bad : BadLine ≡ refusal → ((w : W) → f.LineAfter before line w → ⊥)
+          → f.LineFault before line refusal
+      bad same none =
+          subst (λ (x : Refusal). f.LineFault before line x) same (f.bad_line before line none)
+
+      heard : (o : Option W) → is_ascii_line line ≡ true → r.parse line ≡ o
+          → step_if r.step s o ≡ Err refusal → f.LineFault before line refusal
+      heard None plain is step =
+          bad (cc) (λ w at.
+          let again = sym is ∙ r.says_parse line w (f.line_parts before line w at).1 in cc)
+      heard (Some w) plain is step =
+          said_fault before s line w refusal here plain (r.parse_says line w is) step
+
+      by_tests : (plain skipped : Bool) → is_ascii_line line ≡ plain → is_skipped line ≡ skipped
+          → f.LineFault before line refusal
+      by_tests false skipped strange is =
+          bad
+          (let step = sym
+          (strange_line r s line strange) ∙ e in cc)
+          (λ w at. let both = sym strange ∙ (f.line_parts before line w at).0 in cc)
+      by_tests true true plain skipped =
+          absurd
+          (let step = sym
+          (skipped_line r s line plain skipped)
+          ∙ e in cc)
+      by_tests true false plain kept =
+          heard (r.parse line) plain refl
+          (sym (kept_line r s line plain kept) ∙ e)
+
+  -- what is wrong where reading ended
+  fault_behind : (before more : List (List ℕ)) (s : S) (refusal : Refusal) → Reached r before s
+      → StopsAt (takes r) r.finish s more refusal → f.FaultAfter before more refusal
+  fault_behind before [] s refusal here ends =
+      f.fault_end before refusal (f.unfinished_is s refusal ends)
+      (unfinished before s refusal here ends)
+  fault_behind before (line ∷ more) s refusal here ends =
+      f.fault_line before line more refusal (refused_ends before s line refusal here ends)
+      (refused_line before s line refusal here ends)
+
+  -- a fault is reported with the first line that is at fault
+  pub first_fault : (lines : List (List ℕ)) (fault : Fault) (number : ℕ)
+      → fault.line ≡ Some number → reads r 1 lines ≡ Err fault
+      → f.FirstFault lines number fault.refusal
+  first_fault lines fault number is e =
+      let at = stopped (takes r) r.finish r.start 1 lines fault e in
+      let here = reached r at.before at.reached at.gone in
+      let place : number ≡ 1 + length at.before = (let both = sym is ∙ at.place in cc) in
+      f.first lines at.before at.more number fault.refusal at.split (place ∙ omega arith)
+      (reached_begins at.before at.reached here)
+      (fault_behind at.before at.more at.reached fault.refusal here at.ends)
+
+  -- a fault names the first line that is at fault, or memory ran out
+  pub fault_found : (IsAt : Fault → Option ℕ → Type 0) (lines : List (List ℕ))
+      (answer : Result A Fault)
+      → ((fault : Fault) (line : ℕ) → f.FirstFault lines line fault.refusal
+      → IsAt fault (Some line))
+      → ((fault : Fault) → fault ≡ is_memory → IsAt fault None)
+      → Reads answer (reads r 1 lines) → IfErr answer (λ fault. IsAt fault fault.line)
+  fault_found IsAt lines (Ok plan) here memory read = tt
+  fault_found IsAt lines (Err fault) here memory read = by_line fault.line refl read
+    where
+      by_line : (line : Option ℕ) → fault.line ≡ line → IsFault line fault (reads r 1 lines)
+          → IsAt fault line
+      by_line None is it = memory fault (memory_is fault None is refl it)
+      by_line (Some number) is it = here fault number (first_fault lines fault number is it)
+
+  -- lines are those of a script, or have a first fault
+  pub script_or_fault : (lines : List (List ℕ)) → ((plan : A) × r.Spells lines plan)
+      ⊎ ((line : ℕ) × (refusal : Refusal) × f.FirstFault lines line refusal)
+  script_or_fault lines = by_reading (reads r 1 lines) refl
+    where
+      by_reading : (read : Result A Fault) → reads r 1 lines ≡ read
+          → ((plan : A) × r.Spells lines plan)
+          ⊎ ((line : ℕ) × (refusal : Refusal) × f.FirstFault lines line refusal)
+      by_reading (Ok plan) e = inl (plan, lines_spell r 1 lines plan e)
+      by_reading (Err fault) e =
+          let at = stopped (takes r) r.finish r.start 1 lines fault e in
+          inr (
+            1 + length at.before,
+            fault.refusal,
+            first_fault lines fault (1 + length at.before) at.place e,
+          )
+
+  -- ---- there is one first fault
+
+  -- what was said is refused after a script
+  abbrev RefusedSaid : List (List ℕ) → List ℕ → Refusal → Type 0
+  RefusedSaid before line refusal =
+      (w : W) × (plan : A) × f.LineAfter before line w × r.Spells before plan
+      × (f.line_refusal plan w ≡ Some refusal)
+
+  -- a line has one first reason why it can't stand there
+  one_reason : (before : List (List ℕ)) (line : List ℕ) (x y : Refusal)
+      → f.LineFault before line x → f.LineFault before line y → x ≡ y
+  one_reason before line x y fault other =
+      ⊎_elim
+      (λ (a : ((w : W) → f.LineAfter before line w → ⊥) × (x ≡ BadLine)).
+      ⊎_elim
+      (λ (b : ((w : W) → f.LineAfter before line w → ⊥) × (y ≡ BadLine)). a.1 ∙ sym b.1)
+      (λ (b : RefusedSaid before line y). absurd (a.0 b.0 b.2)) (f.why before line y other))
+      (λ (a : RefusedSaid before line x).
+      ⊎_elim
+      (λ (b : ((w : W) → f.LineAfter before line w → ⊥) × (y ≡ BadLine)). absurd (b.0 a.0 a.2))
+      (λ (b : RefusedSaid before line y).
+      let says = (f.line_parts before line a.0 a.2).1 in
+      let again = (f.line_parts before line b.0 b.2).1 in
+      let both : Some x ≡ Some y =
+      sym a.4 ∙ ap (f.line_refusal a.1) (one_said r line a.0 b.0 says again)
+      ∙ ap (λ (plan : A). f.line_refusal plan b.0) (one_script r before a.1 b.1 a.3 b.3) ∙ b.4 in
+      cc)
+      (f.why before line y other))
+      (f.why before line x fault)
+
+  -- lines that begin a script begin by lines that do
+  begins_before : (before more : List (List ℕ)) → f.Begins (before ++ more) → f.Begins before
+  begins_before before more begins =
+      let b = f.begun (before ++ more) begins in
+      f.begins before (more ++ b.0) b.1
+      (subst (λ (lines : List (List ℕ)). r.Spells lines b.1) (append_assoc before more b.0) b.2)
+
+  -- after the same lines there is one reason
+  one_behind : (before more : List (List ℕ)) (x y : Refusal) → f.FaultAfter before more x
+      → f.FaultAfter before more y → x ≡ y
+  one_behind before [] x y fault other =
+      (f.end_fault before x fault).0 ∙ sym (f.end_fault before y other).0
+  one_behind before (line ∷ more) x y fault other =
+      one_reason before line x y (f.line_fault before line more x fault).1
+      (f.line_fault before line more y other).1
+
+  -- after a fault no lines begin a script
+  none_longer : (a x b : List (List ℕ)) (refusal : Refusal) → f.FaultAfter a x refusal
+      → Longer a x b → f.Begins b → ⊥
+  none_longer a x b refusal fault more begins =
+      let there : f.FaultAfter a (more.line ∷ more.tail) refusal =
+      subst (λ (ls : List (List ℕ)). f.FaultAfter a ls refusal) more.rest_is fault in
+      let regrouped : b ≡ (a ++ more.line ∷ []) ++ more.between =
+      more.long_is ∙ sym (append_assoc a (more.line ∷ []) more.between) in
+      (f.line_fault a more.line more.tail refusal there).0
+      (begins_before (a ++ more.line ∷ []) more.between
+      (subst (λ (ls : List (List ℕ)). f.Begins ls) regrouped begins))
+
+  -- no first fault is after another
+  not_behind : (a x b y : List (List ℕ)) (refusal : Refusal) → a ++ x ≡ b ++ y
+      → f.FaultAfter a x refusal → f.Begins b → length b ≤ length a
+  not_behind a x b y refusal split fault begins =
+      ⊎_elim
+      (λ (less : length a < length b). absurd
+      (none_longer a x b refusal fault (longer a x b y split less) begins))
+      (λ (more : length b ≤ length a). more)
+      (cases_lt (length a) (length b))
+
+  -- a text has one first fault
+  pub one_first_fault : (lines : List (List ℕ)) (m n : ℕ) (x y : Refusal)
+      → f.FirstFault lines m x → f.FirstFault lines n y → (m ≡ n) × (x ≡ y)
+  one_first_fault lines m n x y fault other =
+      let a = f.first_parts lines m x fault in
+      let b = f.first_parts lines n y other in
+      let split : a.0 ++ a.1 ≡ b.0 ++ b.1 = sym a.2 ∙ b.2 in
+      let up = not_behind a.0 a.1 b.0 b.1 x split a.5 b.4 in
+      let down = not_behind b.0 b.1 a.0 a.1 y (sym split) b.5 a.4 in
+      let long : length a.0 ≡ length b.0 = omega arith in
+      let parts = same_parts a.0 a.1 b.0 b.1 split long in
+      let there : f.FaultAfter a.0 a.1 y =
+      subst (λ (ls : List (List ℕ)). f.FaultAfter ls a.1 y) (sym parts.0)
+      (subst (λ (ls : List (List ℕ)). f.FaultAfter b.0 ls y) (sym parts.1) b.5) in
+      (a.3 ∙ ap (λ (k : ℕ). k + 1) long ∙ sym b.3, one_behind a.0 a.1 x y a.5 there)
+
+  -- lines of a script have none after lines that begin one
+  whole_behind : (before more : List (List ℕ)) (plan : A) (refusal : Refusal)
+      → r.Spells (before ++ more) plan → f.FaultAfter before more refusal → ⊥
+  whole_behind before [] plan refusal spells fault =
+      (f.end_fault before refusal fault).1 plan
+      (subst (λ (lines : List (List ℕ)). r.Spells lines plan) (append-nil before) spells)
+  whole_behind before (line ∷ more) plan refusal spells fault =
+      (f.line_fault before line more refusal fault).0 (f.begins (before ++ line ∷ []) more plan
+      (subst (λ (lines : List (List ℕ)). r.Spells lines plan)
+      (sym (append_assoc before (line ∷ []) more)) spells))
+
+  -- a script has no fault
+  pub no_fault : (lines : List (List ℕ)) (plan : A) (m : ℕ) (refusal : Refusal)
+      → r.Spells lines plan → f.FirstFault lines m refusal → ⊥
+  no_fault lines plan m refusal spells fault =
+      let p = f.first_parts lines m refusal fault in
+      whole_behind p.0 p.1 plan refusal
+      (subst (λ (ls : List (List ℕ)). r.Spells ls plan) p.2 spells) p.5

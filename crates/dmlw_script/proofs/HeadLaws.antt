@@ -1,0 +1,452 @@
+-- Laws of a head, which scripts of both kinds have: when a line of it is taken, why one is refused,
+-- and that the lines of layers give them again.
+-- Its own crate alone cites it, for theorems of many of its files.
+use Rattle.std.proofs.Common.{◌≡◌, ℕ, ◌+◌, ◌<◌, ◌≤◌, Bool, true, false, cond, List, [], ◌∷◌, ◌++◌}
+use Rattle.std.proofs.Common.{length, append_assoc, Option, Some, None, Ok, Err, ◌⊎◌, inl, inr}
+use Rattle.std.proofs.Common.{⊎_elim, refl, ap, ◌∙◌, sym, subst, arith}
+use Rattle.std.specs.Prelude.{◌/◌, map, nat_le, nat_lt, Result, IfOk}
+use Rattle.std.proofs.lemmas.Bool.{and_from, and_parts, cond-true, le-leb, leb-true, lt-ltb}
+use Rattle.std.proofs.lemmas.Bool.{ltb-false, ltb-true}
+use Rattle.std.proofs.lemmas.List.{append-nil, length-append, map-append}
+use Rattle.bio.specs.declared.sector_size.SectorSize.{SectorSize}
+use Rattle.bio.specs.Sizes.{bytes_of}
+use Rattle.refusals.specs.declared.refusal.Refusal.{Refusal}
+use Rattle.refusals.specs.declared.refusal.Refusal.TheVariants.{BadLine, OutOfRange}
+use Rattle.table_line.specs.LayerOrder.{top_sectors, CanStand}
+use Rattle.table_line.specs.LineLaws.{asks_in_range}
+use Rattle.table_line.specs.Ranges.{IsLayerSpec}
+use Rattle.table_line.specs.Refusals.{table_refusal}
+use Rattle.table_line.specs.declared.layer_spec.LayerSpec.{LayerSpec}
+use Rattle.table_line.specs.declared.table_error.TableError.{TableError}
+use Rattle.dmlw_script.specs.declared.disk_name.DiskName.{DiskName}
+use Rattle.dmlw_script.specs.declared.disk_name.DiskName.TheVariants as disks
+use Rattle.dmlw_script.specs.LineMeaning as parsed_lines
+use Rattle.dmlw_script.specs.declared.line.HeadLine.{HeadLine}
+use Rattle.dmlw_script.specs.declared.line.HeadLine.TheVariants as head_lines
+use Rattle.dmlw_script.specs.inside.Stages.{Stage}
+use Rattle.dmlw_script.specs.inside.Stages as heads
+use Rattle.dmlw_script.specs.inside.Heads.{asked_layer, data_layer, head_step, layer_step}
+use Rattle.dmlw_script.specs.inside.Heads.{long_layer, with_log}
+use Rattle.dmlw_script.specs.Grammar.{ParsesAs}
+use Rattle.dmlw_script.specs.Plans.{is_disk_size, is_log_disk_size, is_within, least_sectors}
+use Rattle.dmlw_script.specs.Plans.{top_of, Disk, IsDisk}
+use Rattle.dmlw_script.specs.FirstFault.{bare, with_layer}
+use Rattle.dmlw_script.proofs.DiskLaws.{bare_disk, disk_push, long_below, long_enough, top_push}
+use Rattle.dmlw_script.proofs.DiskLaws.{top_within, AreLong}
+use Rattle.dmlw_script.proofs.FoldLaws.{bind_at, fold, fold_append, made_err, made_ok}
+use Rattle.refusals.specs.Words.{words_of}
+
+-- ---- tests
+
+-- a test that is passed leaves what it guards
+pub tested_ok : {A : Type 0} (t : Bool) (r : Result A Refusal) (y : A) (refusal : Refusal)
+    → cond t r (Err refusal) ≡ Ok y → (t ≡ true) × (r ≡ Ok y)
+tested_ok true r y refusal e = (refl, e)
+tested_ok false r y refusal e = absurd (cc)
+
+-- the same where that is a value
+cond_ok : {A : Type 0} (t : Bool) (x y : A) (refusal : Refusal) → cond t (Ok x) (Err refusal) ≡ Ok y
+    → (t ≡ true) × (x ≡ y)
+cond_ok true x y refusal e = (refl, cc)
+cond_ok false x y refusal e = absurd (cc)
+
+-- a test that fails leaves its refusal
+pub tested_err : {A : Type 0} (t : Bool) (r : Result A Refusal) (bad refusal : Refusal)
+    → cond t r (Err bad) ≡ Err refusal
+    → ((t ≡ false) × (bad ≡ refusal)) ⊎ ((t ≡ true) × (r ≡ Err refusal))
+tested_err true r bad refusal e = inr (refl, e)
+tested_err false r bad refusal e = inl (refl, cc)
+
+-- the same before a value
+pub cond_err : {A : Type 0} (t : Bool) (x : A) (bad refusal : Refusal)
+    → cond t (Ok x) (Err bad) ≡ Err refusal → (t ≡ false) × (bad ≡ refusal)
+cond_err true x bad refusal e = absurd (cc)
+cond_err false x bad refusal e = (refl, cc)
+
+-- ---- disks
+
+-- a disk of so many sectors under these layers
+abbrev pub under : ℕ → List LayerSpec → Disk
+under sectors layers = record { sectors = sectors; layers = layers }
+
+-- a disk with no layers is bare
+pub bare_is : (d : Disk) → d.layers ≡ [] → bare d.sectors ≡ d
+bare_is d none = ap (under d.sectors) (sym none)
+
+-- a sector of the log fits on the top of its disk
+abbrev pub HasRoom : SectorSize → Disk → Type 0
+HasRoom size disk = bytes_of size / 512 ≤ top_of disk
+
+-- the disks that were read are those of a script
+abbrev pub IsHead : Stage → Type 0
+IsHead heads.Empty = Unit {0}
+IsHead (heads.Data d) = IsDisk d × (d.layers ≡ [])
+IsHead (heads.Whole d l size) = IsDisk d × IsDisk l × HasRoom size l
+IsHead (heads.Ended d l size picks) = IsDisk d × IsDisk l × HasRoom size l
+
+-- what is known of a line of the head from its words alone
+abbrev pub IsFineHead : HeadLine → Type 0
+IsFineHead (head_lines.Data sectors) = Unit {0}
+IsFineHead (head_lines.Log sectors size) = Unit {0}
+IsFineHead (head_lines.Layer over asked) = IfOk asked IsLayerSpec
+
+-- what such a line says is fine
+pub fine_head : (line : List ℕ) (said : HeadLine) → ParsesAs line (parsed_lines.Head said)
+    → IsFineHead said
+fine_head line (head_lines.Layer over (Ok spec)) says =
+    asks_in_range (words_of says.text) spec says.asks
+fine_head line said says = tt
+
+-- ---- lines that are taken
+
+-- a layer of at least so many sectors may stand over a disk
+pub record Fits (least : ℕ) (disk : Disk) (spec : LayerSpec) : Type 0 where
+  pub few : length disk.layers < 4
+  pub within : is_within spec (top_of disk) ≡ true
+  pub long : least ≤ spec.length
+
+-- what a line of the head makes of what was read, where layers may no more come or still may
+pub data Takes (closed : Bool) : Stage → HeadLine → Stage → Type 0 where
+  data_size : (n : ℕ) → is_disk_size n ≡ true
+      → Takes closed heads.Empty (head_lines.Data n) (heads.Data (bare n))
+  log_size : (d : Disk) (n : ℕ) (size : SectorSize) → is_log_disk_size (bytes_of size) n ≡ true
+      → Takes closed (heads.Data d) (head_lines.Log n size) (heads.Whole d (bare n) size)
+  data_top : (d l : Disk) (size : SectorSize) (spec : LayerSpec) → closed ≡ false → l.layers ≡ []
+      → Fits (least_sectors disks.Data size) d spec
+      → Takes closed (heads.Whole d l size) (head_lines.Layer disks.Data (Ok spec))
+      (heads.Whole (with_layer d spec) l size)
+  log_top : (d l : Disk) (size : SectorSize) (spec : LayerSpec) → closed ≡ false
+      → Fits (least_sectors disks.Log size) l spec
+      → Takes closed (heads.Whole d l size) (head_lines.Layer disks.Log (Ok spec))
+      (heads.Whole d (with_layer l spec) size)
+
+-- a layer that is taken fits
+layered : (least : ℕ) (disk top : Disk) (asked : Result LayerSpec TableError)
+    → layer_step least disk asked ≡ Ok top
+    → (spec : LayerSpec) × (Ok spec ≡ asked) × Fits least disk spec × (with_layer disk spec ≡ top)
+layered least disk top (Err error) e =
+    let p = tested_ok (nat_lt (length disk.layers) 4) _ top BadLine e in
+    absurd (let none = p.1 in cc)
+layered least disk top (Ok spec) e =
+    let p = tested_ok (nat_lt (length disk.layers) 4) _ top BadLine e in
+    let q = tested_ok (is_within spec (top_of disk)) (long_layer least disk spec) top OutOfRange
+    p.1 in
+    let s = cond_ok (nat_le least spec.length) (with_layer disk spec) top BadLine q.1 in (
+      spec,
+      refl,
+      record {
+        few = ltb-true _ _ p.0;
+        within = q.0;
+        long = leb-true least spec.length s.0;
+      },
+      s.1,
+    )
+
+-- a layer of the data disk that is taken
+data_taken : (d l : Disk) (size : SectorSize) (k : Stage) (asked : Result LayerSpec TableError)
+    (layers : List LayerSpec) → l.layers ≡ layers → data_layer layers d l size asked ≡ Ok k
+    → Takes false (heads.Whole d l size) (head_lines.Layer disks.Data asked) k
+data_taken d l size k asked (layer ∷ layers) are e = absurd (cc)
+data_taken d l size k asked [] none e =
+    let r = made_ok (layer_step (least_sectors disks.Data size) d asked)
+    (λ (x : Disk). heads.Whole x l size) k e in
+    let y = layered (least_sectors disks.Data size) d r.0 asked r.1 in
+    let top : heads.Whole (with_layer d y.0) l size ≡ k =
+    ap (λ (x : Disk). heads.Whole x l size) y.3 ∙ r.2 in
+    subst (λ (x : Stage). Takes false (heads.Whole d l size) (head_lines.Layer disks.Data asked) x)
+    top
+    (subst (λ (a : Result LayerSpec TableError). Takes false (heads.Whole d l size)
+    (head_lines.Layer disks.Data a) (heads.Whole (with_layer d y.0) l size)) y.1
+    (data_top d l size y.0 refl none y.2))
+
+-- one of the log disk that is taken
+log_taken : (d l : Disk) (size : SectorSize) (k : Stage) (asked : Result LayerSpec TableError)
+    → with_log d (layer_step (least_sectors disks.Log size) l asked) size ≡ Ok k
+    → Takes false (heads.Whole d l size) (head_lines.Layer disks.Log asked) k
+log_taken d l size k asked e =
+    let r = made_ok (layer_step (least_sectors disks.Log size) l asked)
+    (λ (x : Disk). heads.Whole d x size) k e in
+    let y = layered (least_sectors disks.Log size) l r.0 asked r.1 in
+    let top : heads.Whole d (with_layer l y.0) size ≡ k =
+    ap (λ (x : Disk). heads.Whole d x size) y.3 ∙ r.2 in
+    subst (λ (x : Stage). Takes false (heads.Whole d l size) (head_lines.Layer disks.Log asked) x)
+    top
+    (subst (λ (a : Result LayerSpec TableError). Takes false (heads.Whole d l size)
+    (head_lines.Layer disks.Log a) (heads.Whole d (with_layer l y.0) size)) y.1
+    (log_top d l size y.0 refl y.2))
+
+-- a line of the head that is taken
+pub head_taken : (h k : Stage) (line : HeadLine) (closed : Bool) → head_step h closed line ≡ Ok k
+    → Takes closed h line k
+head_taken heads.Empty k (head_lines.Data n) closed e =
+    let p = cond_ok (is_disk_size n) (heads.Data (bare n)) k BadLine e in
+    subst (λ (x : Stage). Takes closed heads.Empty (head_lines.Data n) x) p.1 (data_size n p.0)
+head_taken (heads.Data d) k (head_lines.Log n size) closed e =
+    let p = cond_ok (is_log_disk_size (bytes_of size) n) (heads.Whole d (bare n) size)
+    k BadLine e in
+    subst (λ (x : Stage). Takes closed (heads.Data d) (head_lines.Log n size) x) p.1
+    (log_size d n size p.0)
+head_taken (heads.Whole d l size) k (head_lines.Layer disks.Data asked) false e =
+    data_taken d l size k asked l.layers refl e
+head_taken (heads.Whole d l size) k (head_lines.Layer disks.Log asked) false e =
+    log_taken d l size k asked e
+head_taken h k line closed e = absurd (cc e)
+
+-- it leaves a script's disks
+pub head_kept : (closed : Bool) (h k : Stage) (line : HeadLine) → Takes closed h line k
+    → IsFineHead line → IsHead h → IsHead k
+head_kept closed h k line (data_size n fits) fine is = (bare_disk n fits, refl)
+head_kept closed h k line (log_size d n size fits) fine is =
+    let both : (is_disk_size n ≡ true) × (nat_le (bytes_of size / 512) n ≡ true) =
+    and_parts (is_disk_size n) (nat_le (bytes_of size / 512) n) fits in
+    (is.0, bare_disk n both.0, leb-true (bytes_of size / 512) n both.1)
+head_kept closed h k line (data_top d l size spec may none fits) fine is =
+    (disk_push d spec is.0 fits.few fine fits.within, is.1, is.2)
+head_kept closed h k line (log_top d l size spec may fits) fine is = (
+  is.0,
+  disk_push l spec is.1 fits.few fine fits.within,
+  subst (λ (top : ℕ). bytes_of size / 512 ≤ top) (sym (top_push l.sectors l.layers spec)) fits.long,
+)
+
+-- ---- the lines of layers
+
+-- one more line at the end
+pub map_push : {A W : Type 0} (line : A → W) (first : List W) (xs : List A) (x : A)
+    → first ++ map line (xs ++ x ∷ []) ≡ (first ++ map line xs) ++ line x ∷ []
+map_push {W = W} line first xs x =
+    ap (λ (ls : List W). first ++ ls) (map-append line xs (x ∷ []))
+    ∙ sym (append_assoc first (map line xs) (line x ∷ []))
+
+-- one more line, where none of a body stands behind it
+pub bodiless : {W : Type 0} (ls more : List W) (w : W) → more ≡ ls ++ w ∷ []
+    → more ++ [] ≡ (ls ++ []) ++ w ∷ []
+bodiless {W = W} ls more w e =
+    append-nil more ∙ e ∙ ap (λ (ws : List W). ws ++ w ∷ []) (sym (append-nil ls))
+
+-- the lines of a head behind those of its disks
+module _ {W : Type 0} (on_data on_log : LayerSpec → W) where
+  -- the lines of the layers of both disks
+  abbrev pub layer_lines : Disk → Disk → List W
+  layer_lines d l = map on_data d.layers ++ map on_log l.layers
+
+  -- one more layer of the data disk, where there are none of the log disk
+  pub data_push : (d l : Disk) (spec : LayerSpec) → l.layers ≡ []
+      → layer_lines (with_layer d spec) l ≡ layer_lines d l ++ on_data spec ∷ []
+  data_push d l spec none =
+      rw none (append-nil (map on_data (d.layers ++ spec ∷ []))
+      ∙ map-append on_data d.layers (spec ∷ [])
+      ∙ ap (λ (ls : List W). ls ++ on_data spec ∷ []) (sym (append-nil (map on_data d.layers))))
+
+  -- one more of the log disk
+  pub log_push : (d l : Disk) (spec : LayerSpec)
+      → layer_lines d (with_layer l spec) ≡ layer_lines d l ++ on_log spec ∷ []
+  log_push d l spec = map_push on_log (map on_data d.layers) l.layers spec
+
+  -- the layers of a disk are read again
+  some_again : {S : Type 0} (step : S → W → Result S Refusal) (line : LayerSpec → W)
+      (least sectors : ℕ) (at : List LayerSpec → S)
+      → ((done : List LayerSpec) (layer : LayerSpec)
+      → layer_step least (under sectors done) (Ok layer)
+      ≡ Ok (under sectors (done ++ layer ∷ []))
+      → step (at done) (line layer) ≡ Ok (at (done ++ layer ∷ [])))
+      → (done layers : List LayerSpec) → length done + length layers ≤ 4
+      → CanStand (top_sectors sectors done) layers → AreLong least layers
+      → fold step (at done) (map line layers) ≡ Ok (at (done ++ layers))
+  some_again step line least sectors at one done [] few stand long =
+      ap (λ (ls : List LayerSpec). Ok (at ls)) (sym (append-nil done))
+  some_again step line least sectors at one done (layer ∷ layers) few stand long =
+      let taken : layer_step least (under sectors done) (Ok layer)
+      ≡ Ok (under sectors (done ++ layer ∷ [])) =
+      cond-true _ _ _ (lt-ltb (length done) 4 (omega (arith, few)))
+      ∙ cond-true _ _ _ (le-leb _ _ stand.1) ∙ cond-true _ _ _ (le-leb _ _ long.0) in
+      bind_at _ _ _ _ (one done layer taken)
+      (some_again step line least sectors at one (done ++ layer ∷ []) layers
+      (omega (arith, few, length-append done (layer ∷ [])))
+      (subst (λ (top : ℕ). CanStand top layers) (sym (top_push sectors done layer)) stand.2) long.1
+      ∙ ap (λ (ls : List LayerSpec). Ok (at ls)) (append_assoc done (layer ∷ []) layers))
+
+  -- the layers of both disks are read again
+  pub layers_again : {S : Type 0} (step : S → W → Result S Refusal) (at : Disk → Disk → S)
+      (size : SectorSize)
+      → ((d top l : Disk) (layer : LayerSpec) → l.layers ≡ []
+      → layer_step (least_sectors disks.Data size) d (Ok layer) ≡ Ok top
+      → step (at d l) (on_data layer) ≡ Ok (at top l))
+      → ((d l top : Disk) (layer : LayerSpec)
+      → layer_step (least_sectors disks.Log size) l (Ok layer) ≡ Ok top
+      → step (at d l) (on_log layer) ≡ Ok (at d top))
+      → (d l : Disk) → IsDisk d → IsDisk l → HasRoom size l
+      → fold step (at (bare d.sectors) (bare l.sectors)) (layer_lines d l) ≡ Ok (at d l)
+  layers_again step at size one other d l is_data is_log room =
+      fold_append step (at (bare d.sectors) (bare l.sectors)) (at d (bare l.sectors))
+      (map on_data d.layers) (map on_log l.layers)
+      (some_again step on_data (least_sectors disks.Data size) d.sectors
+      (λ (ls : List LayerSpec). at (under d.sectors ls) (bare l.sectors))
+      (λ done layer taken. one (under d.sectors done) (under d.sectors (done ++ layer ∷ []))
+      (bare l.sectors) layer refl taken) [] d.layers (omega (arith, is_data.few)) is_data.stand
+      (long_enough d.sectors d.layers is_data.stand))
+      ∙ some_again step on_log (least_sectors disks.Log size) l.sectors
+      (λ (ls : List LayerSpec). at d (under l.sectors ls))
+      (λ done layer taken. other d (under l.sectors done) (under l.sectors (done ++ layer ∷ []))
+      layer taken) [] l.layers (omega (arith, is_log.few)) is_log.stand
+      (long_below (bytes_of size / 512) l.sectors l.layers is_log.stand room)
+
+  -- how much was read with lines, by what each makes of it
+  module _ {P : Type 0} (next : P → W → P) (after : P → List W → P)
+      (nothing : (p : P) → after p [] ≡ p)
+      (more : (p : P) (w : W) (ws : List W) → after p (w ∷ ws) ≡ after (next p w) ws) where
+    -- with lines, and then others
+    pub after_both : (p : P) (ws vs : List W) → after p (ws ++ vs) ≡ after (after p ws) vs
+    after_both p [] vs = ap (λ (x : P). after x vs) (sym (nothing p))
+    after_both p (w ∷ ws) vs =
+        more p w (ws ++ vs) ∙ after_both (next p w) ws vs
+        ∙ ap (λ (x : P). after x vs) (sym (more p w ws))
+
+    -- with those of the layers of a disk
+    after_some : (line : LayerSpec → W) (at : List LayerSpec → P)
+        → ((done : List LayerSpec) (layer : LayerSpec)
+        → next (at done) (line layer) ≡ at (done ++ layer ∷ [])) →
+        (done layers : List LayerSpec) → after (at done) (map line layers) ≡ at (done ++ layers)
+    after_some line at one done [] = nothing (at done) ∙ ap at (sym (append-nil done))
+    after_some line at one done (layer ∷ layers) =
+        more (at done) (line layer) (map line layers)
+        ∙ ap (λ (x : P). after x (map line layers)) (one done layer)
+        ∙ after_some line at one (done ++ layer ∷ []) layers
+        ∙ ap at (append_assoc done (layer ∷ []) layers)
+
+    -- with those of the layers of both
+    pub after_layers : (at : Disk → Disk → P)
+        → ((d l : Disk) (layer : LayerSpec)
+        → next (at d l) (on_data layer) ≡ at (with_layer d layer) l)
+        → ((d l : Disk) (layer : LayerSpec)
+        → next (at d l) (on_log layer) ≡ at d (with_layer l layer))
+        → (d l : Disk) → after (at (bare d.sectors) (bare l.sectors)) (layer_lines d l) ≡ at d l
+    after_layers at one other d l =
+        after_both (at (bare d.sectors) (bare l.sectors)) (map on_data d.layers)
+        (map on_log l.layers)
+        ∙ ap (λ (x : P). after x (map on_log l.layers))
+        (after_some on_data (λ (ls : List LayerSpec). at (under d.sectors ls) (bare l.sectors))
+        (λ done layer. one (under d.sectors done) (bare l.sectors) layer) [] d.layers)
+        ∙ after_some on_log (λ (ls : List LayerSpec). at d (under l.sectors ls))
+        (λ done layer. other d (under l.sectors done) layer) [] l.layers
+
+-- the sizes of disks under layers are those of disks
+pub sizes_again : (d l : Disk) (size : SectorSize) → IsDisk d → IsDisk l → HasRoom size l
+    → (is_disk_size d.sectors ≡ true) × (is_log_disk_size (bytes_of size) l.sectors ≡ true)
+sizes_again d l size is_data is_log room =
+    let above : top_of l ≤ l.sectors = top_within l.sectors l.layers is_log.stand in
+    (is_data.size, and_from _ _ is_log.size (le-leb _ _ (omega (arith, room, above))))
+
+-- ---- lines that are refused
+
+-- a line of the head may stand there
+abbrev pub HeadStands : Stage → HeadLine → Bool → Type 0
+HeadStands heads.Empty (head_lines.Data n) closed = is_disk_size n ≡ true
+HeadStands (heads.Data d) (head_lines.Log n size) closed =
+    is_log_disk_size (bytes_of size) n ≡ true
+HeadStands (heads.Whole d l size) (head_lines.Layer disks.Data asked) false =
+    (length d.layers < 4) × (l.layers ≡ [])
+HeadStands (heads.Whole d l size) (head_lines.Layer disks.Log asked) false = length l.layers < 4
+HeadStands _ _ _ = ⊥
+
+-- the disk of this name
+abbrev pub disk_over : DiskName → Disk → Disk → Disk
+disk_over disks.Data d l = d
+disk_over disks.Log d l = l
+
+-- why a line asks for no layer over a disk, whose layers have at least so many sectors
+abbrev pub asked_refusal : (least : ℕ) → Disk → Result LayerSpec TableError → Option Refusal
+asked_refusal least disk (Err error) = Some (table_refusal error)
+asked_refusal least disk (Ok spec) =
+    cond (is_within spec (top_of disk)) (cond (nat_le least spec.length) None (Some BadLine))
+    (Some OutOfRange)
+
+-- why a line of the head is refused: it may not stand there, or asks for no layer
+pub data HeadRefused (closed : Bool) (refusal : Refusal) : Stage → HeadLine → Type 0 where
+  misplaced : (h : Stage) (line : HeadLine) → (HeadStands h line closed → ⊥) → BadLine ≡ refusal
+      → HeadRefused closed refusal h line
+  no_layer : (d l : Disk) (size : SectorSize) (over : DiskName)
+      (asked : Result LayerSpec TableError) → closed ≡ false
+      → HeadStands (heads.Whole d l size) (head_lines.Layer over asked) false
+      → asked_refusal (least_sectors over size) (disk_over over d l) asked ≡ Some refusal
+      → HeadRefused closed refusal (heads.Whole d l size) (head_lines.Layer over asked)
+
+-- a layer that is refused doesn't fit, or is too short
+asked_err : (least : ℕ) (disk : Disk) (asked : Result LayerSpec TableError) (refusal : Refusal)
+    → asked_layer least disk asked ≡ Err refusal → asked_refusal least disk asked ≡ Some refusal
+asked_err least disk (Err error) refusal e = cc
+asked_err least disk (Ok spec) refusal e =
+    by_tests (is_within spec (top_of disk)) (nat_le least spec.length) e
+  where
+    by_tests : (within long : Bool)
+        → cond within (cond long (Ok (with_layer disk spec)) (Err BadLine)) (Err OutOfRange)
+        ≡ Err refusal
+        → cond within (cond long None (Some BadLine)) (Some OutOfRange) ≡ Some refusal
+    by_tests true true e = absurd (cc)
+    by_tests true false e = cc
+    by_tests false long e = cc
+
+-- four layers stand there, or one more is refused for its own reason
+layer_err : (least : ℕ) (disk : Disk) (asked : Result LayerSpec TableError) (refusal : Refusal)
+    → layer_step least disk asked ≡ Err refusal
+    → ((4 ≤ length disk.layers) × (BadLine ≡ refusal))
+    ⊎ ((length disk.layers < 4) × (asked_refusal least disk asked ≡ Some refusal))
+layer_err least disk asked refusal e =
+    ⊎_elim
+    (λ (h : (nat_lt (length disk.layers) 4 ≡ false) × (BadLine ≡ refusal)).
+    inl (ltb-false _ _ h.0, h.1))
+    (λ (h : (nat_lt (length disk.layers) 4 ≡ true) × (asked_layer least disk asked ≡ Err refusal)).
+    inr (ltb-true _ _ h.0, asked_err least disk asked refusal h.1))
+    (tested_err (nat_lt (length disk.layers) 4) (asked_layer least disk asked) BadLine refusal e)
+
+-- a layer that is refused
+over_refused : (d l : Disk) (size : SectorSize) (over : DiskName)
+    (asked : Result LayerSpec TableError) (refusal : Refusal)
+    → (HeadStands (heads.Whole d l size) (head_lines.Layer over asked) false
+    → length (disk_over over d l).layers < 4)
+    → (length (disk_over over d l).layers < 4
+    → HeadStands (heads.Whole d l size) (head_lines.Layer over asked) false)
+    → layer_step (least_sectors over size) (disk_over over d l) asked ≡ Err refusal
+    → HeadRefused false refusal (heads.Whole d l size) (head_lines.Layer over asked)
+over_refused d l size over asked refusal stood stands e =
+    ⊎_elim
+    (λ (h : (4 ≤ length (disk_over over d l).layers) × (BadLine ≡ refusal)).
+    misplaced (heads.Whole d l size) (head_lines.Layer over asked)
+    (λ here. absurd (let few : length (disk_over over d l).layers < 4 = stood here in
+    omega (arith, h.0))) h.1)
+    (λ (h : (length (disk_over over d l).layers < 4)
+    × (asked_refusal (least_sectors over size) (disk_over over d l) asked ≡ Some refusal)).
+    no_layer d l size over asked refl (stands h.0) h.1)
+    (layer_err (least_sectors over size) (disk_over over d l) asked refusal e)
+
+-- one of the data disk that is refused
+data_refused : (d l : Disk) (size : SectorSize) (asked : Result LayerSpec TableError)
+    (refusal : Refusal) (layers : List LayerSpec) → l.layers ≡ layers
+    → data_layer layers d l size asked ≡ Err refusal
+    → HeadRefused false refusal (heads.Whole d l size) (head_lines.Layer disks.Data asked)
+data_refused d l size asked refusal (layer ∷ layers) are e =
+    misplaced (heads.Whole d l size) (head_lines.Layer disks.Data asked)
+    (λ stands. let both = sym are ∙ stands.1 in cc) (cc)
+data_refused d l size asked refusal [] none e =
+    over_refused d l size disks.Data asked refusal (λ stands. stands.0) (λ few. (few, none))
+    (made_err (layer_step (least_sectors disks.Data size) d asked)
+    (λ (x : Disk). heads.Whole x l size) refusal e)
+
+-- a line of the head that is refused
+pub head_refused : (h : Stage) (line : HeadLine) (closed : Bool) (refusal : Refusal)
+    → head_step h closed line ≡ Err refusal → HeadRefused closed refusal h line
+head_refused heads.Empty (head_lines.Data n) closed refusal e =
+    let p = cond_err (is_disk_size n) (heads.Data (bare n)) BadLine refusal e in
+    misplaced heads.Empty (head_lines.Data n) (λ stands. let both = sym stands ∙ p.0 in cc) p.1
+head_refused (heads.Data d) (head_lines.Log n size) closed refusal e =
+    let p =
+    cond_err (is_log_disk_size (bytes_of size) n)
+    (heads.Whole d (bare n) size) BadLine refusal e in
+    misplaced (heads.Data d) (head_lines.Log n size)
+    (λ stands. let both = sym stands ∙ p.0 in cc) p.1
+head_refused (heads.Whole d l size) (head_lines.Layer disks.Data asked) false refusal e =
+    data_refused d l size asked refusal l.layers refl e
+head_refused (heads.Whole d l size) (head_lines.Layer disks.Log asked) false refusal e =
+    over_refused d l size disks.Log asked refusal (λ stands. stands) (λ few. few)
+    (made_err (layer_step (least_sectors disks.Log size) l asked)
+    (λ (x : Disk). heads.Whole d x size) refusal e)
+head_refused h line closed refusal e = misplaced h line (λ stands. stands) (cc)

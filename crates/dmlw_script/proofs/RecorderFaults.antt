@@ -1,0 +1,381 @@
+-- Why a recorder's reader refuses a text, as `FaultLaws` asks for it.
+-- Its own crate alone cites it, for theorems of many of its files.
+use Rattle.std.proofs.Common.{◌≡◌, ℕ, ◌+◌, ◌<◌, ◌≤◌, true, false, not, List, [], ◌∷◌}
+use Rattle.std.proofs.Common.{◌++◌, Option, Some, None, Ok, Err, ◌⊎◌, inl, inr, ⊎_elim, refl, ap}
+use Rattle.std.proofs.Common.{◌∙◌, sym, arith, append_assoc}
+use Rattle.std.specs.Prelude.{nat_lt, Result, codes}
+use Rattle.std.specs.List.{list_any}
+use Rattle.std.proofs.lemmas.Bool.{cond-true, cond-false, cases_Bool, ltb-true}
+use Rattle.bio.specs.declared.request.BadBio.{BadBio}
+use Rattle.bio.specs.declared.sector_size.SectorSize.{SectorSize}
+use Rattle.bio.specs.declared.sector_size.SectorSize.TheVariants as sizes
+use Rattle.bio.specs.Sizes.{bytes_of}
+use Rattle.refusals.specs.declared.refusal.Refusal.{Refusal}
+use Rattle.refusals.specs.declared.refusal.Refusal.TheVariants.{BadLine, BadId}
+use Rattle.table_line.specs.declared.layer_spec.LayerSpec.{LayerSpec}
+use Rattle.table_line.specs.declared.table_error.TableError.{TableError}
+use Rattle.dmlw_script.specs.declared.command.Command.{Command}
+use Rattle.dmlw_script.specs.declared.command.Command.TheVariants as commands
+use Rattle.dmlw_script.specs.declared.command.Step.{Step}
+use Rattle.dmlw_script.specs.declared.command.Step.TheVariants as steps
+use Rattle.dmlw_script.specs.declared.disk_name.DiskName.{DiskName}
+use Rattle.dmlw_script.specs.declared.disk_name.DiskName.TheVariants as disks
+use Rattle.dmlw_script.specs.declared.script_id.ScriptId.{ScriptId}
+use Rattle.dmlw_script.specs.LineMeaning.{LineMeaning}
+use Rattle.dmlw_script.specs.LineMeaning as parsed_lines
+use Rattle.dmlw_script.specs.declared.line.HeadLine.{HeadLine}
+use Rattle.dmlw_script.specs.declared.line.HeadLine.TheVariants as head_lines
+use Rattle.dmlw_script.specs.declared.line.BodyLine.{BodyLine}
+use Rattle.dmlw_script.specs.declared.line.BodyLine.TheVariants as body_lines
+use Rattle.dmlw_script.specs.declared.command.Submission.{Submission}
+use Rattle.dmlw_script.specs.inside.Stages.{Stage}
+use Rattle.dmlw_script.specs.inside.Stages as heads
+use Rattle.dmlw_script.specs.inside.Heads.{head_step}
+use Rattle.dmlw_script.specs.inside.Drafts.{◌>>=◌, body_step, ended_next, named_next, as_refusal}
+use Rattle.dmlw_script.specs.inside.Drafts.{step_test, with_command, Body}
+use Rattle.dmlw_script.specs.Grammar.{AreLinesOf}
+use Rattle.dmlw_script.specs.Ids.{same_name}
+use Rattle.dmlw_script.specs.Plans.{disk_of, is_ended, least_sectors, moment_after, request_of}
+use Rattle.dmlw_script.specs.Plans.{step_answer, submission_answer, top_of, Disk, ScriptValue}
+use Rattle.dmlw_script.specs.Plans.{head_of, layer_line, lines_of_body, moment_at_step}
+use Rattle.dmlw_script.specs.Plans.{moment_from}
+use Rattle.dmlw_script.specs.inside.Readers.{body_line, crash_line, finish_step, finished}
+use Rattle.dmlw_script.specs.inside.Readers.{has_begun, parsed_step, Progress}
+use Rattle.dmlw_script.specs.FirstFault.{at_end, bad_line, bare, body_refusal, data_due}
+use Rattle.dmlw_script.specs.FirstFault.{head_refusal, in_body, in_head, is_open, log_due, next}
+use Rattle.dmlw_script.specs.FirstFault.{prefix_after, refused, test_refusal, BeginsScript}
+use Rattle.dmlw_script.specs.FirstFault.{ComesInTime, FaultAfter, IsFirstFault, IsLineAfter}
+use Rattle.dmlw_script.specs.FirstFault.{IsLineFault, Prefix, StandsAfter, line_refusal}
+use Rattle.dmlw_script.proofs.FoldLaws.{barred_err, made_err}
+use Rattle.dmlw_script.proofs.BodyLaws.{in_draft, unlisted}
+use Rattle.dmlw_script.proofs.DraftLemmas.{listed}
+use Rattle.dmlw_script.proofs.HeadLaws.{after_both, after_layers, asked_refusal, bare_is}
+use Rattle.dmlw_script.proofs.HeadLaws.{head_refused, layer_lines, misplaced, no_layer}
+use Rattle.dmlw_script.proofs.HeadLaws.{HeadRefused, HeadStands}
+use Rattle.dmlw_script.proofs.RecorderLaws.{at, ended_plan, lines_of_progress, plan_of, recorder}
+use Rattle.dmlw_script.proofs.RecorderLaws.{IsBegun}
+use Rattle.dmlw_script.proofs.FaultLaws.{Completes, Faults}
+
+-- ---- what was read begins a script
+
+-- the lines of the head that are missing complete a script
+pub completes : (h : Stage) (b : Body) (number : ℕ) → Completes recorder (at h b) number
+completes (heads.Whole d l size) b number =
+    record { more = []; plan = plan_of d l size b; read = refl }
+completes (heads.Ended d l size picks) b number =
+    record { more = []; plan = ended_plan d l size (Some picks) b; read = refl }
+completes (heads.Data d) b number =
+    record { more = codes "log 1" ∷ []; plan = plan_of d (bare 1) sizes.B512 b; read = refl }
+completes heads.Empty b number =
+    record {
+      more = codes "data 1" ∷ codes "log 1" ∷ [];
+      plan = plan_of (bare 1) (bare 1) sizes.B512 b;
+      read = refl;
+    }
+
+-- a text that can't end yet is a bad line
+pub unfinished_is : (h : Stage) (b : Body) (refusal : Refusal) → finished h b ≡ Err refusal
+    → refusal ≡ BadLine
+unfinished_is (heads.Data d) b refusal e = cc
+unfinished_is heads.Empty b refusal e = cc
+unfinished_is h b refusal e = absurd (cc)
+
+-- ---- what comes next
+
+-- how much a head of these disks and these commands are
+abbrev pub body_prefix : Disk → Disk → List Command → Prefix
+body_prefix d l [] = in_head d l
+body_prefix d l (command ∷ body) = in_body d l (moment_after (command ∷ body))
+
+-- how much was read
+abbrev pub prefix_of : Stage → List Command → Prefix
+prefix_of heads.Empty body = data_due
+prefix_of (heads.Data d) body = log_due d
+prefix_of (heads.Whole d l size) body = body_prefix d l body
+prefix_of (heads.Ended d l size picks) body = at_end
+
+-- how much was read, with the commands
+abbrev pub prefix_at : Progress → Prefix
+prefix_at p = prefix_of p.head p.body.body
+
+-- after the lines of commands, behind others
+after_more : (d l : Disk) (names : List ScriptId) (n moment : ℕ) (body : List Command)
+    → prefix_after (in_body d l moment) (lines_of_body names n body)
+    ≡ in_body d l (moment_from moment body)
+after_more d l names n moment [] = refl
+after_more d l names n moment (commands.Submit submission ∷ body) =
+    after_more d l names (n + 1) moment body
+after_more d l names n moment (commands.Complete request ∷ body) =
+    after_more d l names n moment body
+after_more d l names n moment (commands.Step step ∷ body) =
+    after_more d l names n (moment_at_step moment step) body
+
+-- after those of a body
+after_body : (d l : Disk) (names : List ScriptId) (body : List Command)
+    → prefix_after (in_head d l) (lines_of_body names 0 body) ≡ body_prefix d l body
+after_body d l names [] = refl
+after_body d l names (commands.Submit submission ∷ body) = after_more d l names 1 0 body
+after_body d l names (commands.Complete request ∷ body) = after_more d l names 0 0 body
+after_body d l names (commands.Step step ∷ body) =
+    after_more d l names 0 (moment_at_step 0 step) body
+
+-- a crash comes next after a head, or after commands
+next_crash : (d l : Disk) (body : List Command) (picks : List ℕ)
+    → next (body_prefix d l body) (parsed_lines.Crash picks) ≡ at_end
+next_crash d l [] picks = refl
+next_crash d l (command ∷ body) picks = refl
+
+-- after the lines behind those of both disks
+after_disks : (d l : Disk) (names : List ScriptId) (body : List Command)
+    → prefix_after (in_head (bare d.sectors) (bare l.sectors))
+    (layer_lines (layer_line disks.Data) (layer_line disks.Log) d l ++ lines_of_body names 0 body)
+    ≡ body_prefix d l body
+after_disks d l names body =
+    let start = in_head (bare d.sectors) (bare l.sectors) in
+    let layers = layer_lines (layer_line disks.Data) (layer_line disks.Log) d l in
+    after_both (layer_line disks.Data) (layer_line disks.Log) next prefix_after (λ p. refl)
+    (λ p s ss. refl) start layers (lines_of_body names 0 body)
+    ∙ ap (λ (p : Prefix). prefix_after p (lines_of_body names 0 body))
+    (after_layers (layer_line disks.Data) (layer_line disks.Log) next prefix_after (λ p. refl)
+    (λ p s ss. refl) in_head (λ x y layer. refl) (λ x y layer. refl) d l)
+    ∙ after_body d l names body
+
+-- after the lines that were read
+pub after_lines : (h : Stage) (b : Body) → IsBegun (at h b)
+    → prefix_after data_due (lines_of_progress (at h b)) ≡ prefix_at (at h b)
+after_lines heads.Empty b begun =
+    ap (λ (x : Body). prefix_after data_due (lines_of_progress (at heads.Empty x))) begun.1
+after_lines (heads.Data d) b begun =
+    ap (λ (x : Body). prefix_after data_due (lines_of_progress (at (heads.Data d) x))) begun.1
+    ∙ ap log_due (bare_is d begun.0.1)
+after_lines (heads.Whole d l size) b begun = after_disks d l b.names b.body
+after_lines (heads.Ended d l size picks) b begun =
+    let lines = head_of d l size ++ lines_of_body b.names 0 b.body in
+    ap (prefix_after data_due) (sym (append_assoc (head_of d l size)
+    (lines_of_body b.names 0 b.body) (parsed_lines.Crash picks ∷ [])))
+    ∙ after_both (layer_line disks.Data) (layer_line disks.Log) next prefix_after (λ p. refl)
+    (λ p s ss. refl) data_due lines (parsed_lines.Crash picks ∷ [])
+    ∙ ap (λ (p : Prefix). next p (parsed_lines.Crash picks)) (after_disks d l b.names b.body)
+    ∙ next_crash d l b.body picks
+
+-- ---- why a line is refused
+
+-- why a line is refused that says this: it may not stand there, or what was read is a script after
+-- which it is refused
+abbrev pub Refuses : Progress → LineMeaning → Refusal → Type 0
+Refuses p s refusal =
+    ((StandsAfter (prefix_at p) s → ⊥) × (BadLine ≡ refusal))
+    ⊎ (StandsAfter (prefix_at p) s × (plan : ScriptValue) × (finish_step p ≡ Ok plan)
+    × (line_refusal plan s ≡ Some refusal))
+
+-- a test of sectors that is refused
+pub answered_err : (r : Result (Unit {0}) BadBio) (refusal : Refusal) → as_refusal r ≡ Err refusal
+    → test_refusal r ≡ Some refusal
+answered_err (Ok u) refusal e = absurd (cc)
+answered_err (Err bad) refusal e = cc
+
+-- an id with a request is among the names
+listed_place : (name : ScriptId) (names : List ScriptId) (request : ℕ)
+    → request_of name names ≡ Some request → list_any (same_name name) names ≡ true
+listed_place name names request e =
+    ⊎_elim
+    (λ (any : list_any (same_name name) names ≡ true). any)
+    (λ (none : list_any (same_name name) names ≡ false). absurd
+    (let absent : request_of name names
+    ≡ None = cond-false _ _ _ (listed (same_name name) names ∙ none) in cc))
+    (cases_Bool (list_any (same_name name) names))
+
+-- why a submission is refused
+submit_refused : (d l : Disk) (size : SectorSize) (b : Body) (name : ScriptId)
+    (submission : Submission) (refusal : Refusal) (o : Option ℕ) → request_of name b.names ≡ o
+    → (named_next o b name >>= λ submitted. as_refusal
+    (submission_answer (bytes_of size) (top_of d) submission) >>= λ fine. Ok
+    (with_command submitted (commands.Submit submission))) ≡ Err refusal
+    → body_refusal (plan_of d l size b) (body_lines.Submit name submission) ≡ Some refusal
+submit_refused d l size b name submission refusal None is e =
+    cond-false _ _ _ (unlisted name b.names is)
+    ∙ answered_err (submission_answer (bytes_of size) (top_of d) submission) refusal
+    (made_err (as_refusal (submission_answer (bytes_of size) (top_of d) submission)) _ refusal e)
+submit_refused d l size b name submission refusal (Some request) is e =
+    cond-true _ _ _ (listed_place name b.names request is) ∙ cc
+
+-- why an end is refused
+end_refused : (d l : Disk) (size : SectorSize) (b : Body) (name : ScriptId) (refusal : Refusal)
+    (o : Option ℕ) → request_of name b.names ≡ o → ended_next o b ≡ Err refusal
+    → body_refusal (plan_of d l size b) (body_lines.Complete name) ≡ Some refusal
+end_refused d l size b name refusal None is e =
+    cond-false _ _ _ (ap (λ (o : Option ℕ). is_open o (plan_of d l size b)) is) ∙ cc
+end_refused d l size b name refusal (Some request) is e =
+    let h =
+    barred_err (is_ended request b.body) BadId
+    (with_command b (commands.Complete request)) refusal e in
+    cond-false _ _ _ (ap (λ (o : Option ℕ). is_open o (plan_of d l size b)) is ∙ ap not h.0)
+    ∙ ap Some h.1
+
+-- why a line of the body is refused: it doesn't come in time, or for its own reason
+abbrev pub BodyRefused : Disk → Disk → SectorSize → Body → BodyLine → Refusal → Type 0
+BodyRefused d l size b line refusal =
+    ((ComesInTime (moment_after b.body) line → ⊥) × (BadLine ≡ refusal))
+    ⊎ (ComesInTime (moment_after b.body) line
+    × (body_refusal (plan_of d l size b) line ≡ Some refusal))
+
+-- why a line that names no request is refused
+step_refused : (d l : Disk) (size : SectorSize) (b : Body) (step : Step) (refusal : Refusal)
+    → step_test (bytes_of size) (top_of d) (moment_after b.body) step ≡ Err refusal
+    → BodyRefused d l size b (body_lines.Step step) refusal
+step_refused d l size b (steps.Read first count) refusal e =
+    inr (
+      tt,
+      answered_err (step_answer (bytes_of size) (top_of d)
+          (steps.Read first count)) refusal e,
+    )
+step_refused d l size b (steps.At later) refusal e =
+    let p = barred_err (nat_lt later (moment_after b.body)) BadLine tt refusal e in
+    let back : later < moment_after b.body = ltb-true _ _ p.0 in
+    inl (λ in_time. absurd (let forth : moment_after b.body ≤ later = in_time in omega arith), p.1)
+step_refused d l size b step refusal e = absurd (cc)
+
+-- why a line of the body is refused by its own words
+body_refused : (d l : Disk) (size : SectorSize) (b : Body) (line : BodyLine) (refusal : Refusal)
+    → body_step (bytes_of size) (top_of d) b line ≡ Err refusal
+    → BodyRefused d l size b line refusal
+body_refused d l size b (body_lines.Submit name submission) refusal e =
+    inr (tt, submit_refused d l size b name submission refusal (request_of name b.names) refl e)
+body_refused d l size b (body_lines.Complete name) refusal e =
+    inr (tt, end_refused d l size b name refusal (request_of name b.names) refl e)
+body_refused d l size b (body_lines.Step step) refusal e =
+    step_refused d l size b step refusal
+    (made_err (step_test (bytes_of size) (top_of d) (moment_after b.body) step)
+    (λ (fine : Unit {0}). with_command b (commands.Step step)) refusal e)
+
+-- a line of the body that comes in time may stand after a head, or after commands
+stands_body : (d l : Disk) (body : List Command) (line : BodyLine)
+    → ComesInTime (moment_after body) line
+    → StandsAfter (body_prefix d l body) (parsed_lines.Body line)
+stands_body d l [] line in_time = in_time
+stands_body d l (command ∷ body) line in_time = in_time
+
+-- and no other
+stood_body : (d l : Disk) (body : List Command) (line : BodyLine)
+    → StandsAfter (body_prefix d l body) (parsed_lines.Body line)
+    → ComesInTime (moment_after body) line
+stood_body d l [] line stands = stands
+stood_body d l (command ∷ body) line stands = stands
+
+-- why a line of the body is refused
+body_refuses : (h : Stage) (b : Body) (s : BodyLine) (refusal : Refusal)
+    → body_line h (at h b) s ≡ Err refusal → Refuses (at h b) (parsed_lines.Body s) refusal
+body_refuses (heads.Whole d l size) b s refusal e =
+    ⊎_elim
+    (λ (h : (ComesInTime (moment_after b.body) s → ⊥) × (BadLine ≡ refusal)).
+    inl (λ stands. h.0 (stood_body d l b.body s stands), h.1))
+    (λ (h : ComesInTime (moment_after b.body) s
+    × (body_refusal (plan_of d l size b) s ≡ Some refusal)).
+    inr (stands_body d l b.body s h.0, plan_of d l size b, refl, h.1))
+    (body_refused d l size b s refusal
+    (made_err (body_step (bytes_of size) (top_of d) b s)
+    (λ (x : Body). in_draft d l size x) refusal e))
+body_refuses h b s refusal e = inl (λ stands. stands, cc)
+
+-- why a crash is refused
+crash_refuses : (h : Stage) (b : Body) (picks : List ℕ) (refusal : Refusal)
+    → crash_line h (at h b) picks ≡ Err refusal
+    → Refuses (at h b) (parsed_lines.Crash picks) refusal
+crash_refuses (heads.Whole d l size) b picks refusal e = absurd (cc)
+crash_refuses h b picks refusal e = inl (λ stands. stands, cc)
+
+-- a line of the head that may stand after what was read may stand in the head
+stood_head : (h : Stage) (body : List Command) (line : HeadLine)
+    → StandsAfter (prefix_of h body) (parsed_lines.Head line) → HeadStands h line (has_begun body)
+stood_head heads.Empty body (head_lines.Data n) stands = stands
+stood_head (heads.Data d) body (head_lines.Log n size) stands = stands
+stood_head (heads.Whole d l size) [] (head_lines.Layer disks.Data asked) stands = stands
+stood_head (heads.Whole d l size) [] (head_lines.Layer disks.Log asked) stands = stands
+stood_head h body line stands = absurd stands
+
+-- it is why a line of the head is refused
+head_refusal_is : (plan : ScriptValue) (over : DiskName) (asked : Result LayerSpec TableError)
+    → head_refusal plan (head_lines.Layer over asked)
+    ≡ asked_refusal (least_sectors over plan.log_size) (disk_of over plan) asked
+head_refusal_is plan over (Err error) = refl
+head_refusal_is plan over (Ok spec) = refl
+
+-- why a line of the head is refused
+head_refuses : (h : Stage) (names : List ScriptId) (body : List Command) (line : HeadLine)
+    (refusal : Refusal) → HeadRefused (has_begun body) refusal h line
+    → Refuses (at h (record { names = names; body = body })) (parsed_lines.Head line) refusal
+head_refuses h names body line refusal (misplaced k said never same) =
+    inl (λ stands. never (stood_head h body line stands), same)
+head_refuses h names [] line refusal (no_layer d l size disks.Data asked may stands why) =
+    let plan = plan_of d l size (record { names = names; body = [] }) in
+    inr (stands, plan, refl, head_refusal_is plan disks.Data asked ∙ why)
+head_refuses h names [] line refusal (no_layer d l size disks.Log asked may stands why) =
+    let plan = plan_of d l size (record { names = names; body = [] }) in
+    inr (stands, plan, refl, head_refusal_is plan disks.Log asked ∙ why)
+head_refuses h names (command ∷ body) line refusal (no_layer d l size over asked may stands why) =
+    absurd (cc)
+
+-- why a line is refused
+pub line_refuses : (p : Progress) (s : LineMeaning) (refusal : Refusal)
+    → parsed_step p s ≡ Err refusal → Refuses p s refusal
+line_refuses p (parsed_lines.Head line) refusal e =
+    head_refuses p.head p.body.names p.body.body line refusal
+    (head_refused p.head line (has_begun p.body.body) refusal
+    (made_err (head_step p.head (has_begun p.body.body) line)
+    (λ (h : Stage). at h p.body) refusal e))
+line_refuses p (parsed_lines.Body line) refusal e = body_refuses p.head p.body line refusal e
+line_refuses p (parsed_lines.Crash picks) refusal e = crash_refuses p.head p.body picks refusal e
+
+-- why a line is at fault
+pub why_fault : (before : List (List ℕ)) (line : List ℕ) (refusal : Refusal)
+    → IsLineFault before line refusal
+    → (((s : LineMeaning) → IsLineAfter before line s → ⊥) × (refusal ≡ BadLine))
+    ⊎ ((s : LineMeaning) × (plan : ScriptValue) × IsLineAfter before line s × AreLinesOf before plan
+    × (line_refusal plan s ≡ Some refusal))
+why_fault before line refusal (bad_line never) = inl (never, refl)
+why_fault before line refusal (refused s plan why at spells is) = inr (s, plan, at, spells, is)
+
+-- the faults of a recorder's texts
+abbrev pub recorder_faults : Faults recorder Prefix
+recorder_faults = record {
+  after = prefix_after data_due;
+  Stands = StandsAfter;
+  prefix_of = prefix_at;
+  after_lines = λ p. after_lines p.head p.body;
+  line_refusal = line_refusal;
+  step_refused = line_refuses;
+  completes = λ p number begun. completes p.head p.body number;
+  unfinished_is = λ p. unfinished_is p.head p.body;
+  Begins = BeginsScript;
+  begins = λ lines more plan spells. record { more = more; plan = plan; spells = spells };
+  begun = λ lines it. (it.more, it.plan, it.spells);
+  LineAfter = IsLineAfter;
+  line_after = λ before line s said plain says before_says stands. record {
+    plain = plain;
+    says = says;
+    said = said;
+    before_says = before_says;
+    stands = stands;
+  };
+  line_parts = λ before line s it. (it.plain, it.says, it.said, it.before_says, it.stands);
+  LineFault = IsLineFault;
+  bad_line = λ before line never. bad_line never;
+  refused = λ before line s plan refusal at spells is. refused s plan refusal at spells is;
+  why = why_fault;
+  FaultAfter = FaultAfter;
+  fault_end = λ before refusal is none. (is, none);
+  end_fault = λ before refusal it. it;
+  fault_line = λ before line more refusal none fault. (none, fault);
+  line_fault = λ before line more refusal it. it;
+  FirstFault = IsFirstFault;
+  first = λ lines before more line refusal split place begins fault. record {
+    before = before;
+    more = more;
+    split = split;
+    place = place;
+    begins = begins;
+    fault = fault;
+  };
+  first_parts = λ lines line refusal it.
+      (it.before, it.more, it.split, it.place, it.begins, it.fault);
+}

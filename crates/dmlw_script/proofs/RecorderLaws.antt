@@ -1,0 +1,341 @@
+-- What a recorder's reader has read, as `ReaderLaws` asks for it.
+-- Its own crate alone cites it, for theorems of many of its files.
+use Rattle.std.proofs.Common.{◌≡◌, ℕ, ◌<◌, ◌^◌, List, [], ◌∷◌, ◌++◌, append_assoc, Option, Some}
+use Rattle.std.proofs.Common.{None, Ok, refl, ap, ◌∙◌, sym, subst}
+use Rattle.std.specs.Prelude.{Result}
+use Rattle.std.specs.List.{AllByRecursion, AllZip, IsDistinct}
+use Rattle.std.proofs.lemmas.Bool.{and_parts, cond-true, ltb-true}
+use Rattle.bio.specs.declared.sector_size.SectorSize.{SectorSize}
+use Rattle.bio.specs.Sizes.{bytes_of}
+use Rattle.refusals.specs.declared.refusal.Refusal.{Refusal}
+use Rattle.table_line.specs.declared.layer_spec.LayerSpec.{LayerSpec}
+use Rattle.dmlw_script.specs.declared.command.Command.{Command}
+use Rattle.dmlw_script.specs.declared.disk_name.DiskName.TheVariants as disks
+use Rattle.dmlw_script.specs.declared.script_id.ScriptId.{ScriptId}
+use Rattle.dmlw_script.specs.LineMeaning.{LineMeaning}
+use Rattle.dmlw_script.specs.LineMeaning as parsed_lines
+use Rattle.dmlw_script.specs.declared.line.HeadLine.{HeadLine}
+use Rattle.dmlw_script.specs.declared.line.HeadLine.TheVariants as head_lines
+use Rattle.dmlw_script.specs.declared.line.BodyLine.{BodyLine}
+use Rattle.dmlw_script.specs.declared.line.BodyLine.TheVariants as body_lines
+use Rattle.dmlw_script.specs.declared.command.Submission.TheVariants as submits
+use Rattle.dmlw_script.specs.declared.command.Step.TheVariants as steps
+use Rattle.dmlw_script.specs.inside.Stages.{Stage}
+use Rattle.dmlw_script.specs.inside.Stages as heads
+use Rattle.dmlw_script.specs.inside.Heads.{data_layer, head_step, with_data, with_log}
+use Rattle.dmlw_script.specs.inside.Drafts.{◌>>=◌, body_step, Body}
+use Rattle.dmlw_script.specs.Grammar.{ParsesAs, AreLinesOf}
+use Rattle.dmlw_script.specs.Plans.{data_line, log_line, head_of, lines_of_body, layer_line}
+use Rattle.dmlw_script.specs.Plans.{lines_of_script, top_of, with_ending, ArePicks, Disk, IsPlan}
+use Rattle.dmlw_script.specs.Plans.{ScriptValue}
+use Rattle.dmlw_script.specs.FirstFault.{bare, with_layer}
+use Rattle.refusals.specs.WordLaws.{number_low}
+use Rattle.refusals.specs.Words.{number_value, IsNumber}
+use Rattle.dmlw_script.specs.inside.Readers.{body_line, crash_line, finish_step, finished}
+use Rattle.dmlw_script.specs.inside.Readers.{has_begun, nothing, parsed_step, with_head, Progress}
+use Rattle.dmlw_script.specs.inside.LineParser.{parse_line}
+use Rattle.dmlw_script.proofs.BodyLaws.{in_draft, lines_grow, lines_of_draft, run, run_again}
+use Rattle.dmlw_script.proofs.BodyLaws.{step_grows, IsFine, IsSound}
+use Rattle.dmlw_script.proofs.FoldLaws.{bind_at, fold_append, made_ok}
+use Rattle.dmlw_script.proofs.LineParserLaws.{parsed_again, parsed_read}
+use Rattle.dmlw_script.proofs.HeadLaws.{bodiless, data_push, fine_head, head_kept, head_taken}
+use Rattle.dmlw_script.proofs.HeadLaws.{layer_lines, layers_again, log_push, sizes_again}
+use Rattle.dmlw_script.proofs.HeadLaws.{data_size, data_top, log_size, log_top, Takes, IsFineHead}
+use Rattle.dmlw_script.proofs.HeadLaws.{IsHead}
+use Rattle.dmlw_script.proofs.ReaderLaws.{Reader}
+
+-- ---- what is heard of single lines
+
+-- what is known of a line from its words alone
+abbrev pub IsFineLine : LineMeaning → Type 0
+IsFineLine (parsed_lines.Head line) = IsFineHead line
+IsFineLine (parsed_lines.Body line) = IsFine line
+IsFineLine (parsed_lines.Crash picks) = AllByRecursion (λ pick. pick < 2 ^ 64) picks
+
+-- numbers are below 2 ^ 64
+numbers_low : (words : List (List ℕ)) (picks : List ℕ) → AllZip IsNumber words picks
+    → AllByRecursion (λ pick. pick < 2 ^ 64) picks
+numbers_low [] [] says = tt
+numbers_low (word ∷ words) (pick ∷ picks) says =
+    let low : number_value word < 2 ^ 64 = ltb-true _ _ (and_parts _ _ says.0.0).1 in
+    (subst (λ (n : ℕ). n < 2 ^ 64) says.0.1 low, numbers_low words picks says.1)
+numbers_low words picks says = absurd says
+
+-- what a line says is fine
+pub fine_said : (line : List ℕ) (s : LineMeaning) → ParsesAs line s → IsFineLine s
+fine_said line (parsed_lines.Head said) says = fine_head line said says
+fine_said line (parsed_lines.Body (body_lines.Submit name (submits.Write first count byte options)))
+    says = ((says.id_word, says.id.0, says.id.1), says.is_byte)
+fine_said line (parsed_lines.Body (body_lines.Submit name submits.Flush)) says =
+    ((says.word, says.id.0, says.id.1), tt)
+fine_said line (parsed_lines.Body (body_lines.Submit name (submits.Discard first count))) says =
+    ((says.id_word, says.id.0, says.id.1), tt)
+fine_said line (parsed_lines.Body (body_lines.Step (steps.Mark text))) says = says.plain
+fine_said line (parsed_lines.Body (body_lines.Step (steps.At moment))) says =
+    number_low says.word moment says.number
+fine_said line (parsed_lines.Body (body_lines.Step (steps.Message over layer text))) says =
+    (number_low says.layer_word layer says.number, says.plain)
+fine_said line (parsed_lines.Crash picks) says = numbers_low says.words picks says.numbers
+fine_said line s says = tt
+
+-- ---- what was read
+
+-- nothing was read of the body
+abbrev pub no_body : Body
+no_body = record { names = []; body = [] }
+
+-- nothing is sound
+pub no_body_sound : (bytes sectors : ℕ) → IsSound bytes sectors no_body
+unfolding IsDistinct
+no_body_sound bytes sectors = record { ids = tt; distinct = tt; numbered = refl; well_formed = tt }
+
+-- a body's plan, with the crash that ends it
+abbrev pub ended_plan : Disk → Disk → SectorSize → Option (List ℕ) → Body → ScriptValue
+ended_plan d l size ending b =
+    record {
+      data_disk = d;
+      log_disk = l;
+      log_size = size;
+      names = b.names;
+      commands = b.body;
+      ending = ending;
+    }
+
+-- a body's plan, with no crash
+abbrev pub plan_of : Disk → Disk → SectorSize → Body → ScriptValue
+plan_of d l size b = ended_plan d l size None b
+
+-- this was read
+abbrev pub at : Stage → Body → Progress
+at h b = record { head = h; body = b }
+
+-- what was read of the body is the beginning of one
+abbrev pub HasBody : Stage → Body → Type 0
+HasBody heads.Empty b = b ≡ no_body
+HasBody (heads.Data d) b = b ≡ no_body
+HasBody (heads.Whole d l size) b = IsSound (bytes_of size) (top_of d) b
+HasBody (heads.Ended d l size picks) b =
+    IsSound (bytes_of size) (top_of d) b × AllByRecursion (λ pick. pick < 2 ^ 64) picks
+
+-- what was read is the beginning of a script
+abbrev pub IsBegun : Progress → Type 0
+IsBegun p = IsHead p.head × HasBody p.head p.body
+
+-- the lines of the head, as far as it was read
+abbrev pub lines_of_head : Stage → List LineMeaning
+lines_of_head heads.Empty = []
+lines_of_head (heads.Data d) = parsed_lines.Head (head_lines.Data d.sectors) ∷ []
+lines_of_head (heads.Whole d l size) = head_of d l size
+lines_of_head (heads.Ended d l size picks) = head_of d l size
+
+-- the crash that was read, if one was
+abbrev pub ending_of : Stage → Option (List ℕ)
+ending_of heads.Empty = None
+ending_of (heads.Data d) = None
+ending_of (heads.Whole d l size) = None
+ending_of (heads.Ended d l size picks) = Some picks
+
+-- the lines that were read
+abbrev pub lines_of_progress : Progress → List LineMeaning
+lines_of_progress p = lines_of_head p.head ++ with_ending (ending_of p.head) (lines_of_draft p.body)
+
+-- what was read is the beginning of a script, and its lines are these and one more
+abbrev pub GrowsBy : Progress → Progress → LineMeaning → Type 0
+GrowsBy p q s = IsBegun q × (lines_of_progress q ≡ lines_of_progress p ++ s ∷ [])
+
+-- a body with no commands is sound over any sectors
+sound_anew : (bytes sectors other : ℕ) (names : List ScriptId)
+    → IsSound bytes sectors (record { names = names; body = [] })
+    → IsSound bytes other (record { names = names; body = [] })
+sound_anew bytes sectors other names sound =
+    record {
+      ids = sound.ids;
+      distinct = sound.distinct;
+      numbered = sound.numbered;
+      well_formed = tt;
+    }
+
+-- the lines of both disks, and others
+abbrev first_two : Disk → Disk → SectorSize → List LineMeaning → List LineMeaning
+first_two d l size more = data_line d.sectors ∷ log_line l.sectors size ∷ more
+
+-- what a line of the head leaves of the body, and the lines that were read with it
+head_adds : (h k : Stage) (names : List ScriptId) (body : List Command) (line : HeadLine)
+    → Takes (has_begun body) h line k → IsBegun (at h (record { names = names; body = body }))
+    → HasBody k (record { names = names; body = body })
+    × (lines_of_progress (at k (record { names = names; body = body }))
+    ≡ lines_of_progress (at h (record { names = names; body = body }))
+    ++ parsed_lines.Head line ∷ [])
+head_adds h k names body line (data_size n fits) begun =
+    let none : lines_of_body names 0 body ≡ [] = ap lines_of_draft begun.1 in
+    (begun.1, rw none refl)
+head_adds h k names body line (log_size d n size fits) begun =
+    let none : lines_of_body names 0 body ≡ [] = ap lines_of_draft begun.1 in (
+      subst (IsSound (bytes_of size) (top_of d)) (sym begun.1)
+          (no_body_sound (bytes_of size) (top_of d)),
+      rw (none, begun.0.1) refl,
+    )
+head_adds h k names [] line (data_top d l size spec may none fits) begun = (
+  sound_anew (bytes_of size) (top_of d) (top_of (with_layer d spec)) names begun.1,
+  ap (first_two d l size) (bodiless _ _ _ (data_push (layer_line disks.Data)
+      (layer_line disks.Log) d l spec none)),
+)
+head_adds h k names [] line (log_top d l size spec may fits) begun = (
+  begun.1,
+  ap (first_two d l size) (bodiless _ _ _ (log_push (layer_line disks.Data)
+      (layer_line disks.Log) d l spec)),
+)
+head_adds h k names (command ∷ body) line (data_top d l size spec may none fits) begun =
+    absurd (cc)
+head_adds h k names (command ∷ body) line (log_top d l size spec may fits) begun = absurd (cc)
+
+-- one more line of the body
+body_grows : (h : Stage) (b : Body) (q : Progress) (line : BodyLine)
+    → body_line h (at h b) line ≡ Ok q → IsFine line → IsBegun (at h b)
+    → GrowsBy (at h b) q (parsed_lines.Body line)
+body_grows (heads.Whole d l size) b q line e fine begun =
+    let p : Progress = in_draft d l size b in
+    let r = made_ok (body_step (bytes_of size) (top_of d) b line)
+    (λ (x : Body). at (heads.Whole d l size) x) q e in
+    let g = step_grows (bytes_of size) (top_of d) b r.0 line r.1 fine begun.1 in
+    subst (λ (x : Progress). GrowsBy p x (parsed_lines.Body line)) r.2 (
+      (begun.0, g.0),
+      ap (λ (ls : List LineMeaning). lines_of_head (heads.Whole d l size) ++ ls)
+          (lines_grow (bytes_of size) (top_of d) b r.0 line begun.1 g.1)
+          ∙ sym (append_assoc (head_of d l size) (lines_of_draft b) (parsed_lines.Body line ∷ [])),
+    )
+body_grows h b q line e fine begun = absurd (cc e)
+
+-- a crash
+crash_grows : (h : Stage) (b : Body) (q : Progress) (picks : List ℕ)
+    → crash_line h (at h b) picks ≡ Ok q → AllByRecursion (λ pick. pick < 2 ^ 64) picks
+    → IsBegun (at h b) → GrowsBy (at h b) q (parsed_lines.Crash picks)
+crash_grows (heads.Whole d l size) b q picks e low begun =
+    let p : Progress = in_draft d l size b in
+    let same : at (heads.Ended d l size picks) b ≡ q = cc in
+    subst (λ (x : Progress). GrowsBy p x (parsed_lines.Crash picks)) same (
+      (begun.0, (begun.1, low)),
+      sym (append_assoc (head_of d l size) (lines_of_draft b) (parsed_lines.Crash picks ∷ [])),
+    )
+crash_grows h b q picks e low begun = absurd (cc e)
+
+-- one more line
+pub line_grows : (p q : Progress) (s : LineMeaning) → parsed_step p s ≡ Ok q → IsFineLine s
+    → IsBegun p → GrowsBy p q s
+line_grows p q (parsed_lines.Head line) e fine begun =
+    let r = made_ok (head_step p.head (has_begun p.body.body) line)
+    (λ (h : Stage). at h p.body) q e in
+    let taken = head_taken p.head r.0 line (has_begun p.body.body) r.1 in
+    let more = head_adds p.head r.0 p.body.names p.body.body line taken begun in
+    subst (λ (x : Progress). GrowsBy p x (parsed_lines.Head line)) r.2
+    ((head_kept (has_begun p.body.body) p.head r.0 line taken fine begun.0, more.0), more.1)
+line_grows p q (parsed_lines.Body line) e fine begun = body_grows p.head p.body q line e fine begun
+line_grows p q (parsed_lines.Crash picks) e fine begun =
+    crash_grows p.head p.body q picks e fine begun
+
+-- a sound body makes a script
+sound_plan : (d l : Disk) (size : SectorSize) (ending : Option (List ℕ)) (b : Body)
+    → IsHead (heads.Whole d l size) → IsSound (bytes_of size) (top_of d) b → ArePicks ending
+    → IsPlan (ended_plan d l size ending b)
+sound_plan d l size ending b is sound picks = record {
+  data_disk = is.0;
+  log_disk = is.1;
+  room = is.2;
+  ids = sound.ids;
+  distinct = sound.distinct;
+  numbered = sound.numbered;
+  well_formed = sound.well_formed;
+  picks = picks;
+}
+
+-- what was read, at the end of a text
+pub finished_read : (h : Stage) (b : Body) (plan : ScriptValue) → finished h b ≡ Ok plan
+    → IsBegun (at h b) → (lines_of_progress (at h b) ≡ lines_of_script plan) × IsPlan plan
+finished_read (heads.Whole d l size) b plan e begun =
+    let same : plan_of d l size b ≡ plan = cc in
+    subst (λ (x : ScriptValue). (lines_of_script (plan_of d l size b) ≡ lines_of_script x)
+    × IsPlan x) same (refl, sound_plan d l size None b begun.0 begun.1 tt)
+finished_read (heads.Ended d l size picks) b plan e begun =
+    let same : ended_plan d l size (Some picks) b ≡ plan = cc in
+    subst (λ (x : ScriptValue).
+    (lines_of_script (ended_plan d l size (Some picks) b) ≡ lines_of_script x) × IsPlan x) same
+    (refl, sound_plan d l size (Some picks) b begun.0 begun.1.0 begun.1.1)
+finished_read h b plan e begun = absurd (cc e)
+
+-- ---- the lines of a script are read as it
+
+-- a body's lines and the crash behind them lead to the script that it ends
+ending_again : (d l : Disk) (size : SectorSize) (b : Body) (ss : List LineMeaning)
+    (ending : Option (List ℕ)) → run (in_draft d l size no_body) ss ≡ Ok (in_draft d l size b)
+    → (q : Progress) × (run (in_draft d l size no_body) (with_ending ending ss) ≡ Ok q)
+    × (finish_step q ≡ Ok (ended_plan d l size ending b))
+ending_again d l size b ss None read = (in_draft d l size b, read, refl)
+ending_again d l size b ss (Some picks) read = (
+  at (heads.Ended d l size picks) b,
+  fold_append parsed_step (in_draft d l size no_body) (in_draft d l size b) ss
+      (parsed_lines.Crash picks ∷ []) read ∙ refl,
+  refl,
+)
+
+-- the lines of a script are read as it
+pub script_again : (plan : ScriptValue) → IsPlan plan
+    → (run nothing (lines_of_script plan) >>= finish_step) ≡ Ok plan
+script_again plan is =
+    let d = plan.data_disk in
+    let l = plan.log_disk in
+    let size = plan.log_size in
+    let sized : Progress = in_draft (bare d.sectors) (bare l.sectors) size no_body in
+    let start : Progress = in_draft d l size no_body in
+    let first : Progress = at (heads.Data (bare d.sectors)) no_body in
+    let lines = lines_of_body plan.names 0 plan.commands in
+    let sizes = sizes_again d l size is.data_disk is.log_disk is.room in
+    let one : parsed_step nothing (data_line d.sectors) ≡ Ok first =
+    ap (with_head nothing) (cond-true _ _ _ sizes.0) in
+    let two : parsed_step first (log_line l.sectors size) ≡ Ok sized =
+    ap (with_head first) (cond-true _ _ _ sizes.1) in
+    let layers =
+    layers_again (layer_line disks.Data) (layer_line disks.Log) parsed_step
+    (λ (x y : Disk). in_draft x y size no_body) size
+    (λ x top y layer none taken.
+    ap (λ (ls : List LayerSpec). with_head (in_draft x y size no_body)
+    (data_layer ls x y size (Ok layer))) none
+    ∙ ap (λ (r : Result Disk Refusal). with_head (in_draft x y size no_body)
+    (with_data r y size)) taken)
+    (λ x y top layer taken. ap (λ (r : Result Disk Refusal). with_head (in_draft x y size no_body)
+    (with_log x r size)) taken) d l is.data_disk is.log_disk is.room in
+    let end =
+    ending_again d l size (record { names = plan.names; body = plan.commands }) lines plan.ending
+    (run_again d l size plan.names [] plan.names [] plan.commands refl is.distinct refl is.numbered
+    is.well_formed) in
+    let rest =
+    fold_append parsed_step sized start
+    (layer_lines (layer_line disks.Data) (layer_line disks.Log) d l)
+    (with_ending plan.ending lines) layers
+    ∙ end.1 in
+    bind_at _ _ _ _ (bind_at _ _ _ _ one (bind_at _ _ _ _ two rest)) end.2
+
+-- a recorder's reader
+abbrev pub recorder : Reader Progress LineMeaning ScriptValue
+recorder = record {
+  parse = parse_line;
+  Says = ParsesAs;
+  parse_says = parsed_read;
+  says_parse = parsed_again;
+  start = nothing;
+  step = parsed_step;
+  finish = finish_step;
+  lines_of_script = lines_of_script;
+  IsScript = IsPlan;
+  Spells = AreLinesOf;
+  spells = λ lines plan told is. record { plain = told.plain; says = told.says; script = is };
+  spelled = λ lines plan it. (record { plain = it.plain; says = it.says }, it.script);
+  IsFine = IsFineLine;
+  fine_said = fine_said;
+  IsBegun = IsBegun;
+  lines_so_far = lines_of_progress;
+  start_begun = (tt, refl);
+  start_lines = refl;
+  step_grows = line_grows;
+  finish_grows = λ p plan. finished_read p.head p.body plan;
+  script_again = script_again;
+}

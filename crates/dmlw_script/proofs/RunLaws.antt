@@ -1,0 +1,302 @@
+-- What a run's reader has read, as `ReaderLaws` asks for it.
+-- Its own crate alone cites it, for the theorems of src/laws.rt and src/run_reader.rt.
+use Rattle.std.proofs.Common.{◌≡◌, ℕ, ◌≤◌, true, List, [], ◌∷◌, ◌++◌, append_assoc, Option, Some}
+use Rattle.std.proofs.Common.{None, Ok, refl, ap, ◌∙◌, sym, subst}
+use Rattle.std.specs.Prelude.{map, nat_le, nat_lt, Result}
+use Rattle.std.specs.List.{AllByRecursion}
+use Rattle.std.proofs.lemmas.Bool.{and_from, and_parts, cond-true, le-leb, leb-true, lt-ltb}
+use Rattle.std.proofs.lemmas.Bool.{ltb-true}
+use Rattle.std.proofs.lemmas.List.{append-nil}
+use Rattle.bio.specs.declared.sector_size.SectorSize.{SectorSize}
+use Rattle.bio.specs.Sizes.{bytes_of}
+use Rattle.refusals.specs.declared.refusal.Refusal.{Refusal}
+use Rattle.refusals.specs.declared.refusal.Refusal.TheVariants.{BadLine}
+use Rattle.table_line.specs.declared.layer_spec.LayerSpec.{LayerSpec}
+use Rattle.dmlw_script.specs.declared.command.Submission.TheVariants as submits
+use Rattle.dmlw_script.specs.declared.line.HeadLine.{HeadLine}
+use Rattle.dmlw_script.specs.declared.line.HeadLine.TheVariants as head_lines
+use Rattle.dmlw_script.specs.declared.run_line.RunLine.{RunLine}
+use Rattle.dmlw_script.specs.declared.run_line.RunLine.TheVariants as run_lines
+use Rattle.dmlw_script.specs.declared.seat_call.Call.{Call}
+use Rattle.dmlw_script.specs.declared.seat_call.Call.TheVariants as calls
+use Rattle.dmlw_script.specs.declared.seat_call.SeatCall.{SeatCall}
+use Rattle.dmlw_script.specs.Plans.{top_of, Disk}
+use Rattle.dmlw_script.specs.FirstFault.{bare}
+use Rattle.dmlw_script.specs.RunGrammar.{AreRunLines, SaysCall, SaysLine}
+use Rattle.dmlw_script.specs.RunPlans.{call_answer, data_layer, lines_of_run, log_layer, run_head}
+use Rattle.dmlw_script.specs.RunPlans.{CanStand, FitsLine, IsRunPlan, RunPlan}
+use Rattle.dmlw_script.specs.inside.Drafts.{◌>>=◌, as_refusal}
+use Rattle.dmlw_script.specs.inside.Heads as heads_inside
+use Rattle.dmlw_script.specs.inside.Heads.{head_step, layer_step, with_log}
+use Rattle.dmlw_script.specs.inside.RunLineParser.{parse_run_line}
+use Rattle.dmlw_script.specs.inside.RunReaders.{call_line, finished_run, is_closed, is_seat_count}
+use Rattle.dmlw_script.specs.inside.RunReaders.{nothing_read, run_finish_step, said_step}
+use Rattle.dmlw_script.specs.inside.RunReaders.{seats_line, with_call, with_run_head, RunProgress}
+use Rattle.dmlw_script.specs.inside.Stages.{Stage}
+use Rattle.dmlw_script.specs.inside.Stages as heads
+use Rattle.dmlw_script.proofs.FoldLaws.{all_append, bind_at, fold, fold_append, made_ok}
+use Rattle.dmlw_script.proofs.BodyLaws.{told_ok}
+use Rattle.dmlw_script.proofs.RunLines.{parses_run, says_run}
+use Rattle.dmlw_script.proofs.HeadLaws.{bodiless, data_push, fine_head, head_kept, head_taken}
+use Rattle.dmlw_script.proofs.HeadLaws.{layer_lines, layers_again, log_push, map_push}
+use Rattle.dmlw_script.proofs.HeadLaws.{sizes_again, tested_ok, data_size, data_top, log_size}
+use Rattle.dmlw_script.proofs.HeadLaws.{log_top, Takes, IsFineHead, IsHead}
+use Rattle.dmlw_script.proofs.ReaderLaws.{Reader}
+
+-- ---- what is known of single lines
+
+-- what is known of a line from its words alone
+abbrev pub IsFineRunLine : RunLine → Type 0
+IsFineRunLine (run_lines.Head line) = IsFineHead line
+IsFineRunLine (run_lines.Seats count) = Unit {0}
+IsFineRunLine (run_lines.Body line) = FitsLine line.call
+
+-- what a call says may stand in a line
+fine_call : (words : List ℕ) (call : Call) → SaysCall words call → FitsLine call
+fine_call words (calls.Submit (submits.Write first count byte options)) says = says.is_byte
+fine_call words (calls.Mark text) says = says.0
+fine_call words call says = tt
+
+-- what a line says is fine
+pub fine_run_line : (line : List ℕ) (said : RunLine) → SaysLine line said → IsFineRunLine said
+fine_run_line line (run_lines.Head said) says = fine_head line said says
+fine_run_line line (run_lines.Seats count) says = tt
+fine_run_line line (run_lines.Body said) says = fine_call says.words said.call says.says
+
+-- ---- what was read begins a script
+
+-- what was read
+abbrev pub run_at : Stage → Option ℕ → List SeatCall → RunProgress
+run_at head seats calls = record { head = head; seats = seats; calls = calls }
+
+-- the head is whole, with so many seats, and these lines of the body were read
+abbrev pub seated : Disk → Disk → SectorSize → ℕ → List SeatCall → RunProgress
+seated d l size seats calls = run_at (heads.Whole d l size) (Some seats) calls
+
+-- the script of these
+abbrev pub run_plan : Disk → Disk → SectorSize → ℕ → List SeatCall → RunPlan
+run_plan d l size seats calls =
+    record { data_disk = d; log_disk = l; log_size = size; seats = seats; calls = calls }
+
+-- the number of seats and the calls that were read are those of a script
+abbrev pub HasSeats : Stage → Option ℕ → List SeatCall → Type 0
+HasSeats heads.Empty None [] = Unit {0}
+HasSeats (heads.Data d) None [] = Unit {0}
+HasSeats (heads.Whole d l size) None [] = (d.layers ≡ []) × (l.layers ≡ [])
+HasSeats (heads.Whole d l size) (Some seats) calls =
+    (1 ≤ seats) × (seats ≤ 64) × AllByRecursion (CanStand (bytes_of size) (top_of d) seats) calls
+HasSeats _ _ _ = ⊥
+
+-- what was read is the beginning of a script
+abbrev pub IsRunBegun : RunProgress → Type 0
+IsRunBegun p = IsHead p.head × HasSeats p.head p.seats p.calls
+
+-- the lines that were read
+abbrev pub lines_so_far : Stage → Option ℕ → List SeatCall → List RunLine
+lines_so_far (heads.Data d) seats calls = run_lines.Head (head_lines.Data d.sectors) ∷ []
+lines_so_far (heads.Whole d l size) None calls =
+    run_lines.Head (head_lines.Data d.sectors) ∷ run_lines.Head (head_lines.Log l.sectors size) ∷ []
+lines_so_far (heads.Whole d l size) (Some seats) calls =
+    lines_of_run (run_plan d l size seats calls)
+lines_so_far _ seats calls = []
+
+-- the same of all that was read
+abbrev pub lines_of_progress : RunProgress → List RunLine
+lines_of_progress p = lines_so_far p.head p.seats p.calls
+
+-- what was read is the beginning of a script, and its lines are these and one more
+abbrev pub GrowsTo : RunProgress → RunProgress → RunLine → Type 0
+GrowsTo p q said =
+    IsRunBegun q × (lines_of_progress q ≡ lines_of_progress p ++ said ∷ [])
+
+-- the first three lines of a head, and others
+abbrev three : Disk → Disk → SectorSize → ℕ → List RunLine → List RunLine
+three d l size seats more =
+    run_lines.Head (head_lines.Data d.sectors) ∷ run_lines.Head
+    (head_lines.Log l.sectors size) ∷ run_lines.Seats seats ∷ more
+
+-- what a line of the head leaves of the seats, and the lines that were read with it
+head_adds : (h k : Stage) (seats : Option ℕ) (done : List SeatCall) (line : HeadLine)
+    → Takes (is_closed seats done) h line k → IsRunBegun (run_at h seats done)
+    → HasSeats k seats done
+    × (lines_so_far k seats done ≡ lines_so_far h seats done ++ run_lines.Head line ∷ [])
+head_adds h k None [] line (data_size n fits) begun = (tt, refl)
+head_adds h k None [] line (log_size d n size fits) begun = ((begun.0.1, refl), refl)
+head_adds h k (Some seats) [] line (data_top d l size spec may none fits) begun = (
+  begun.1,
+  ap (three d l size seats) (bodiless _ _ _ (data_push data_layer log_layer d l spec none)),
+)
+head_adds h k (Some seats) [] line (log_top d l size spec may fits) begun = (
+  begun.1,
+  ap (three d l size seats) (bodiless _ _ _ (log_push data_layer log_layer d l spec)),
+)
+head_adds h k None done line (data_top d l size spec may none fits) begun = absurd (cc)
+head_adds h k None done line (log_top d l size spec may fits) begun = absurd (cc)
+head_adds h k (Some seats) (one ∷ done) line (data_top d l size spec may none fits) begun =
+    absurd (cc)
+head_adds h k (Some seats) (one ∷ done) line (log_top d l size spec may fits) begun = absurd (cc)
+head_adds h k seats done line taken begun = absurd (begun.1)
+
+-- the number of seats
+seats_grown : (h : Stage) (seats : Option ℕ) (done : List SeatCall) (q : RunProgress) (count : ℕ)
+    → seats_line h seats (run_at h seats done) count ≡ Ok q → IsRunBegun (run_at h seats done)
+    → GrowsTo (run_at h seats done) q (run_lines.Seats count)
+seats_grown (heads.Whole d l size) None (one ∷ done) q count e begun = absurd (begun.1)
+seats_grown (heads.Whole d l size) None [] q count e begun =
+    let p = tested_ok (is_seat_count count) (Ok (seated d l size count [])) q BadLine e in
+    let same : seated d l size count [] ≡ q = (let last = p.1 in cc) in
+    let few : (nat_le 1 count ≡ true) × (nat_le count 64 ≡ true) =
+    and_parts (nat_le 1 count) (nat_le count 64) p.0 in
+    subst (λ (x : RunProgress). GrowsTo (run_at (heads.Whole d l size) None []) x
+    (run_lines.Seats count)) same (
+      (begun.0, (leb-true 1 count few.0, leb-true count 64 few.1, tt)),
+      rw (begun.1.0, begun.1.1) refl,
+    )
+seats_grown h seats done q count e begun = absurd (cc e)
+
+-- one more line of the body
+call_grown : (h : Stage) (seats : Option ℕ) (done : List SeatCall) (q : RunProgress)
+    (line : SeatCall) → call_line h seats (run_at h seats done) line ≡ Ok q →
+    FitsLine line.call → IsRunBegun (run_at h seats done) →
+    GrowsTo (run_at h seats done) q (run_lines.Body line)
+call_grown (heads.Whole d l size) (Some seats) done q line e fine begun =
+    let p = seated d l size seats done in
+    let answer = call_answer (bytes_of size) (top_of d) line.call in
+    let g = tested_ok (nat_lt line.seat seats) (with_call p line (as_refusal answer)) q BadLine e in
+    let r = made_ok (as_refusal answer)
+    (λ (fine : Unit {0}). seated d l size seats (done ++ line ∷ [])) q g.1 in
+    let stands : CanStand (bytes_of size) (top_of d) seats line =
+    record {
+      seat = ltb-true line.seat seats g.0;
+      tested = told_ok answer r.0 r.1;
+      spelled = fine;
+    } in
+    subst (λ (x : RunProgress). GrowsTo p x (run_lines.Body line)) r.2 (
+      (
+        begun.0,
+        (
+          begun.1.0,
+          begun.1.1,
+          all_append (CanStand (bytes_of size) (top_of d) seats) done (line ∷ []) begun.1.2
+              (stands, tt),
+        ),
+      ),
+      map_push run_lines.Body (run_head (run_plan d l size seats done)) done line,
+    )
+call_grown h seats done q line e fine begun = absurd (cc e)
+
+-- one more line
+pub said_grown : (p q : RunProgress) (said : RunLine) → said_step p said ≡ Ok q
+    → IsFineRunLine said → IsRunBegun p → GrowsTo p q said
+said_grown p q (run_lines.Head line) e fine begun =
+    let r = made_ok (head_step p.head (is_closed p.seats p.calls) line)
+    (λ (h : Stage). run_at h p.seats p.calls) q e in
+    let taken = head_taken p.head r.0 line (is_closed p.seats p.calls) r.1 in
+    let more = head_adds p.head r.0 p.seats p.calls line taken begun in
+    subst (λ (x : RunProgress). GrowsTo p x (run_lines.Head line)) r.2
+    ((head_kept (is_closed p.seats p.calls) p.head r.0 line taken fine begun.0, more.0), more.1)
+said_grown p q (run_lines.Seats count) e fine begun =
+    seats_grown p.head p.seats p.calls q count e begun
+said_grown p q (run_lines.Body line) e fine begun =
+    call_grown p.head p.seats p.calls q line e fine begun
+
+-- what was read, at the end of a text
+pub finished_grown : (h : Stage) (seats : Option ℕ) (done : List SeatCall) (plan : RunPlan)
+    → finished_run h seats done ≡ Ok plan → IsRunBegun (run_at h seats done)
+    → (lines_so_far h seats done ≡ lines_of_run plan) × IsRunPlan plan
+finished_grown (heads.Whole d l size) (Some seats) done plan e begun =
+    let same : run_plan d l size seats done ≡ plan = cc in
+    subst (λ (x : RunPlan). (lines_of_run (run_plan d l size seats done) ≡ lines_of_run x)
+    × IsRunPlan x) same (
+      refl,
+      record {
+        data_disk = begun.0.0;
+        log_disk = begun.0.1;
+        room = begun.0.2;
+        some_seat = begun.1.0;
+        few_seats = begun.1.1;
+        calls = begun.1.2;
+      },
+    )
+finished_grown h seats done plan e begun = absurd (cc e)
+
+-- ---- the lines of a script are read as it
+
+-- the lines of a body give it again: those after its
+-- beginning lead from there to all of it
+calls_read : (d l : Disk) (size : SectorSize) (seats : ℕ) (done lines : List SeatCall)
+    → AllByRecursion (CanStand (bytes_of size) (top_of d) seats) lines →
+    fold said_step (seated d l size seats done) (map run_lines.Body lines)
+    ≡ Ok (seated d l size seats (done ++ lines))
+calls_read d l size seats done [] all =
+    ap (λ (ls : List SeatCall). Ok (seated d l size seats ls)) (sym (append-nil done))
+calls_read d l size seats done (line ∷ lines) all =
+    let p = seated d l size seats done in
+    let stands = all.0 in
+    bind_at _ _ _ _ (cond-true _ _ _ (lt-ltb line.seat seats stands.seat)
+    ∙ ap (λ r. with_call p line (as_refusal r)) stands.tested)
+    (calls_read d l size seats (done ++ line ∷ []) lines all.1
+    ∙ ap (λ (ls : List SeatCall). Ok (seated d l size seats ls))
+    (append_assoc done (line ∷ []) lines))
+
+-- the lines of a script lead to it
+pub script_read : (plan : RunPlan) → IsRunPlan plan
+    → (fold said_step nothing_read (lines_of_run plan) >>= run_finish_step) ≡ Ok plan
+script_read plan is =
+    let d = plan.data_disk in
+    let l = plan.log_disk in
+    let size = plan.log_size in
+    let seats = plan.seats in
+    let sized = run_at (heads.Whole (bare d.sectors) (bare l.sectors) size) None [] in
+    let counted = seated (bare d.sectors) (bare l.sectors) size seats [] in
+    let headed = seated d l size seats [] in
+    let first = run_at (heads.Data (bare d.sectors)) None [] in
+    let sizes = sizes_again d l size is.data_disk is.log_disk is.room in
+    let few : is_seat_count seats ≡ true =
+    and_from _ _ (le-leb 1 seats is.some_seat) (le-leb seats 64 is.few_seats) in
+    let one : said_step nothing_read (run_lines.Head (head_lines.Data d.sectors)) ≡ Ok first =
+    ap (with_run_head nothing_read) (cond-true _ _ _ sizes.0) in
+    let two : said_step first (run_lines.Head (head_lines.Log l.sectors size)) ≡ Ok sized =
+    ap (with_run_head first) (cond-true _ _ _ sizes.1) in
+    let third : said_step sized (run_lines.Seats seats) ≡ Ok counted = cond-true _ _ _ few in
+    let layers =
+    layers_again data_layer log_layer said_step (λ (x y : Disk). seated x y size seats []) size
+    (λ x top y layer none taken.
+    ap (λ (ls : List LayerSpec). with_run_head (seated x y size seats [])
+    (heads_inside.data_layer ls x y size (Ok layer))) none
+    ∙ ap (λ (r : Result Disk Refusal). with_run_head (seated x y size seats [])
+    (heads_inside.with_data r y size)) taken)
+    (λ x y top layer taken. ap (λ (r : Result Disk Refusal).
+    with_run_head (seated x y size seats []) (with_log x r size)) taken)
+    d l is.data_disk is.log_disk is.room in
+    let rest =
+    fold_append said_step counted headed (layer_lines data_layer log_layer d l)
+    (map run_lines.Body plan.calls) layers
+    ∙ calls_read d l size seats [] plan.calls is.calls in
+    bind_at _ _ _ _ (bind_at _ _ _ _ one (bind_at _ _ _ _ two (bind_at _ _ _ _ third rest))) refl
+
+-- a run's reader
+abbrev pub runner : Reader RunProgress RunLine RunPlan
+runner = record {
+  parse = parse_run_line;
+  Says = SaysLine;
+  parse_says = says_run;
+  says_parse = parses_run;
+  start = nothing_read;
+  step = said_step;
+  finish = run_finish_step;
+  lines_of_script = lines_of_run;
+  IsScript = IsRunPlan;
+  Spells = AreRunLines;
+  spells = λ lines plan told is. record { plain = told.plain; says = told.says; script = is };
+  spelled = λ lines plan it. (record { plain = it.plain; says = it.says }, it.script);
+  IsFine = IsFineRunLine;
+  fine_said = fine_run_line;
+  IsBegun = IsRunBegun;
+  lines_so_far = lines_of_progress;
+  start_begun = (tt, tt);
+  start_lines = refl;
+  step_grows = said_grown;
+  finish_grows = λ p plan. finished_grown p.head p.seats p.calls plan;
+  script_again = script_read;
+}

@@ -1,0 +1,367 @@
+-- Laws of whole scripts: their texts, skipped lines, the lines of commands, and ends of requests.
+-- Serves `scripts_have_own_texts` and `requests_end_once`, among other laws of `laws.rt`.
+-- Its own crate alone cites it, for the theorems of src/laws.rt.
+use Rattle.std.proofs.Common.{◌≡◌, ℕ, zero, suc, ◌+◌, ◌<◌, ◌≤◌, Bool, true, false, not, ◌||◌, cond}
+use Rattle.std.proofs.Common.{List, [], ◌∷◌, ◌++◌, length, Option, Some, None, ⊎_elim, get_or, refl}
+use Rattle.std.proofs.Common.{ap, ◌∙◌, sym, subst, arith, append_assoc}
+use Rattle.std.specs.Prelude.{is_some, map, slice_get}
+use Rattle.std.specs.List.{AllByRecursion, AllZip}
+use Rattle.std.proofs.lemmas.Bool.{cases_lt, eq-eqb}
+use Rattle.std.proofs.lemmas.List.{append-nil, length-append, length-map}
+use Rattle.std.proofs.lemmas.List.Elements.{filter-append}
+use Rattle.std.proofs.lemmas.Slice.Zip.{AllZip-long}
+use Rattle.std.proofs.lemmas.Option.{slice_get-get_or, slice_get_past}
+use Rattle.dmlw_script.proofs.FoldLaws.{kept_said, kept_skipped}
+use Rattle.std.proofs.Math.Bool.{or-true}
+use Rattle.bio.specs.Sizes.{bytes_of}
+use Rattle.dmlw_script.specs.declared.command.Command.{Command}
+use Rattle.dmlw_script.specs.declared.command.Command.TheVariants as commands
+use Rattle.dmlw_script.specs.declared.script_id.ScriptId.{ScriptId}
+use Rattle.dmlw_script.specs.declared.disk_name.DiskName.TheVariants as disks
+use Rattle.dmlw_script.specs.LineMeaning.{LineMeaning}
+use Rattle.dmlw_script.specs.LineMeaning as parsed_lines
+use Rattle.dmlw_script.specs.Grammar.{IsLineOf, ParsesAs, IsTextOf, AreLinesOf}
+use Rattle.dmlw_script.specs.Lines.{command_line, is_ascii_line, is_skipped, unskipped}
+use Rattle.dmlw_script.specs.Lines.{unskipped_numbers, lines_of}
+use Rattle.dmlw_script.specs.Plans.{count_after_command, count_behind_head, head_count, head_of}
+use Rattle.dmlw_script.specs.Plans.{layer_line, lines_behind_head, lines_of_body, is_end_of}
+use Rattle.dmlw_script.specs.Plans.{is_ended, lines_of_script, top_of, with_ending, IsWellFormed}
+use Rattle.dmlw_script.specs.Plans.{IsPlan, CanFollow, ScriptValue}
+use Rattle.dmlw_script.specs.CanonicalText.{canonical_text}
+use Rattle.dmlw_script.proofs.CanonicalTextLaws.{spelling_spells}
+use Rattle.dmlw_script.proofs.FaultLaws.{longer}
+use Rattle.dmlw_script.proofs.ReaderLaws.{one_script}
+use Rattle.dmlw_script.proofs.RecorderLaws.{recorder}
+use Rattle.dmlw_script.proofs.LineParserLaws.{said_kept}
+
+-- ---- spellings
+
+-- scripts of one text are one
+pub same_from_spelling : (plan other : ScriptValue) → IsPlan plan → IsPlan other
+    → canonical_text plan ≡ canonical_text other → plan ≡ other
+same_from_spelling plan other is_plan is_other same =
+    one_script recorder (lines_of (canonical_text plan)) plan other (spelling_spells plan is_plan)
+    (subst (λ (text : List ℕ). IsTextOf text other) (sym same) (spelling_spells other is_other))
+
+-- ---- skipped lines
+
+-- a line that is skipped isn't kept
+kept_without : (before after : List (List ℕ)) (line : List ℕ) → is_skipped line ≡ true
+    → unskipped (before ++ line ∷ after) ≡ unskipped (before ++ after)
+kept_without before after line skipped =
+    filter-append (λ l. not (is_skipped l)) before (line ∷ after)
+    ∙ ap (λ (ks : List (List ℕ)). unskipped before ++ ks) (kept_skipped line after skipped)
+    ∙ sym (filter-append (λ l. not (is_skipped l)) before after)
+
+-- lines with one more are plain where they are, and it is
+plain_with : (before after : List (List ℕ)) (line : List ℕ) → is_ascii_line line ≡ true
+    → AllByRecursion (λ l. is_ascii_line l ≡ true) (before ++ after)
+    → AllByRecursion (λ l. is_ascii_line l ≡ true) (before ++ line ∷ after)
+plain_with [] after line plain all = (plain, all)
+plain_with (first ∷ before) after line plain all = (all.0, plain_with before after line plain all.1)
+
+-- and without it
+plain_without : (before after : List (List ℕ)) (line : List ℕ)
+    → AllByRecursion (λ l. is_ascii_line l ≡ true) (before ++ line ∷ after)
+    → AllByRecursion (λ l. is_ascii_line l ≡ true) (before ++ after)
+plain_without [] after line all = all.1
+plain_without (first ∷ before) after line all = (all.0, plain_without before after line all.1)
+
+-- a skipped line may be put between the lines of a script
+pub spells_with : (before after : List (List ℕ)) (line : List ℕ) (plan : ScriptValue)
+    → is_ascii_line line ≡ true → is_skipped line ≡ true
+    → AreLinesOf (before ++ after) plan → AreLinesOf (before ++ line ∷ after) plan
+spells_with before after line plan plain skipped spells = record {
+  plain = plain_with before after line plain spells.plain;
+  says =
+      subst (λ (ks : List (List ℕ)). AllZip ParsesAs ks (lines_of_script plan))
+      (sym (kept_without before after line skipped)) spells.says;
+  script = spells.script;
+}
+
+-- and may be left out
+pub spells_without : (before after : List (List ℕ)) (line : List ℕ) (plan : ScriptValue)
+    → is_skipped line ≡ true
+    → AreLinesOf (before ++ line ∷ after) plan → AreLinesOf (before ++ after) plan
+spells_without before after line plan skipped spells = record {
+  plain = plain_without before after line spells.plain;
+  says =
+      subst (λ (ks : List (List ℕ)). AllZip ParsesAs ks (lines_of_script plan))
+      (kept_without before after line skipped) spells.says;
+  script = spells.script;
+}
+
+-- ---- the lines of commands
+
+-- the line of this number, where the first line has that number, is kept at this place
+record KeptAt (number : ℕ) (lines : List (List ℕ)) (i n : ℕ) : Type 0 where
+  pub before : List (List ℕ)
+  pub line : List ℕ
+  pub more : List (List ℕ)
+  pub split : lines ≡ before ++ line ∷ more
+  pub number_is : n ≡ number + length before
+  pub after_byte : length (unskipped before) ≡ i
+  pub there : slice_get (unskipped lines) i ≡ Some line
+
+-- what stands behind others, counted from there
+get_behind : {A : Type 0} (front rest : List A) (place : ℕ)
+    → slice_get (front ++ rest) (place + length front) ≡ slice_get rest place
+get_behind [] rest place = ap (slice_get rest) (omega arith)
+get_behind (s ∷ front) rest place =
+    let next : place + length (s ∷ front) ≡ suc (place + length front) = omega arith in
+    ap (slice_get (s ∷ (front ++ rest))) next ∙ get_behind front rest place
+
+-- one line in front, of which this is kept
+kept_behind : (number : ℕ) (first : List ℕ) (lines kept : List (List ℕ)) (i j n : ℕ)
+    → ((ls : List (List ℕ)) → unskipped (first ∷ ls) ≡ kept ++ unskipped ls) → j ≡ i + length kept
+    → KeptAt (number + 1) lines i n → KeptAt number (first ∷ lines) j n
+kept_behind number first lines kept i j n is place rest =
+    let at : n ≡ number + 1 + length rest.before = rest.number_is in
+    let count : length (unskipped rest.before) ≡ i = rest.after_byte in
+    let both = length-append kept (unskipped rest.before) in
+    record {
+      before = first ∷ rest.before;
+      line = rest.line;
+      more = rest.more;
+      split = ap (λ (ls : List (List ℕ)). first ∷ ls) rest.split;
+      number_is = omega arith;
+      after_byte = ap length (is rest.before) ∙ both ∙ omega arith;
+      there =
+          ap (λ (ks : List (List ℕ)). slice_get ks j) (is lines)
+          ∙ ap (slice_get (kept ++ unskipped lines)) place
+          ∙ get_behind kept (unskipped lines) i ∙ rest.there;
+    }
+
+-- a line in front that is the one
+kept_first : (number : ℕ) (first : List ℕ) (lines : List (List ℕ)) (n : ℕ)
+    → is_skipped first ≡ false → Some number ≡ Some n → KeptAt number (first ∷ lines) zero n
+kept_first number first lines n kept same =
+    let is : number ≡ n = cc in
+    record {
+      before = [];
+      line = first;
+      more = lines;
+      split = refl;
+      number_is = sym is ∙ omega arith;
+      after_byte = refl;
+      there = ap (λ (ks : List (List ℕ)). slice_get ks zero) (kept_said first lines kept);
+    }
+
+-- one more line in front
+kept_step : (number : ℕ) (first : List ℕ) (lines : List (List ℕ)) (i n : ℕ) (t : Bool)
+    → is_skipped first ≡ t
+    → slice_get (cond t (unskipped_numbers (number + 1) lines)
+    (number ∷ unskipped_numbers (number + 1) lines)) i ≡ Some n
+    → ((j : ℕ) → slice_get (unskipped_numbers (number + 1) lines) j ≡ Some n
+    → KeptAt (number + 1) lines j n) → KeptAt number (first ∷ lines) i n
+kept_step number first lines i n true skipped e rest =
+    kept_behind number first lines [] i i n (λ ls. kept_skipped first ls skipped) (omega arith)
+    (rest i e)
+kept_step number first lines zero n false kept e rest = kept_first number first lines n kept e
+kept_step number first lines (suc i) n false kept e rest =
+    kept_behind number first lines (first ∷ []) i (suc i) n (λ ls. kept_said first ls kept)
+    (omega arith) (rest i e)
+
+-- a number of the lines that aren't skipped is that of a kept line
+kept_at : (number : ℕ) (lines : List (List ℕ)) (i n : ℕ)
+    → slice_get (unskipped_numbers number lines) i ≡ Some n → KeptAt number lines i n
+kept_at number [] i n e = absurd (cc)
+kept_at number (first ∷ lines) i n e =
+    kept_step number first lines i n (is_skipped first) refl e
+    (λ j found. kept_at (number + 1) lines j n found)
+
+-- what a line says, which has this place among those that say something
+said_at : (lines : List (List ℕ)) (ss : List LineMeaning) (i : ℕ) (line : List ℕ)
+    → AllZip ParsesAs lines ss → slice_get lines i ≡ Some line
+    → (s : LineMeaning) × (slice_get ss i ≡ Some s) × ParsesAs line s
+said_at [] [] i line says e = absurd (cc)
+said_at (first ∷ lines) (s ∷ ss) zero line says e =
+    let same : first ≡ line = cc in
+    (s, refl, subst (λ (l : List ℕ). ParsesAs l s) same says.0)
+said_at (first ∷ lines) (s ∷ ss) (suc i) line says e = said_at lines ss i line says.1 e
+said_at lines ss i line says e = absurd (says)
+
+-- as many lines are in a head as its disks and layers
+length-head : (plan : ScriptValue)
+    → length (head_of plan.data_disk plan.log_disk plan.log_size) ≡ head_count plan
+length-head plan =
+    let d = plan.data_disk.layers in
+    let l = plan.log_disk.layers in
+    let both = length-append (map (layer_line disks.Data) d) (map (layer_line disks.Log) l) in
+    let of_data = length-map d (layer_line disks.Data) in
+    let of_log = length-map l (layer_line disks.Log) in
+    omega arith
+
+-- the line of a command is the one that says it
+pub line_says : (text : List ℕ) (plan : ScriptValue) (place number : ℕ) → IsTextOf text plan
+    → command_line text (place + head_count plan) ≡ Some number
+    → IsLineOf (lines_of text) plan place number
+line_says text plan place number spells e =
+    let found = kept_at 1 (lines_of text) (place + head_count plan) number e in
+    let head = head_of plan.data_disk plan.log_disk plan.log_size in
+    let said =
+    said_at (unskipped (lines_of text)) (lines_of_script plan)
+    (place + head_count plan) found.line spells.says found.there in
+    let at : number ≡ 1 + length found.before = found.number_is in
+    record {
+      before = found.before;
+      line = found.line;
+      more = found.more;
+      split = found.split;
+      number_is = omega arith;
+      after_byte = found.after_byte;
+      parsed = said.0;
+      command =
+          sym (get_behind head (lines_behind_head plan) place)
+          ∙ ap (λ (n : ℕ). slice_get (lines_of_script plan) (place + n)) (length-head plan)
+          ∙ said.1;
+      says = said.2;
+    }
+
+-- as many numbers are printed as lines are kept
+length-unskipped_numbers : (number : ℕ) (lines : List (List ℕ))
+    → length (unskipped_numbers number lines) ≡ length (unskipped lines)
+length-unskipped_numbers number [] = refl
+length-unskipped_numbers number (line ∷ lines) =
+    counted_step (is_skipped line) number line (unskipped_numbers (number + 1) lines)
+    (unskipped lines) (length-unskipped_numbers (number + 1) lines)
+  where
+    counted_step : (t : Bool) (n : ℕ) (l : List ℕ) (ns : List ℕ) (ks : List (List ℕ))
+        → length ns ≡ length ks → length (cond t ns (n ∷ ns)) ≡ length (cond (not t) (l ∷ ks) ks)
+    counted_step true n l ns ks same = same
+    counted_step false n l ns ks same = ap suc same
+
+-- a body's commands have a line each
+length-lines_of_body : (names : List ScriptId) (before : ℕ) (body : List Command)
+    → length (lines_of_body names before body) ≡ length body
+length-lines_of_body names before [] = refl
+length-lines_of_body names before (command ∷ body) =
+    ap suc (length-lines_of_body names (count_after_command before command) body)
+
+-- lines and the crash behind them
+length-with_ending : (ending : Option (List ℕ)) (ss : List LineMeaning)
+    → length (with_ending ending ss) ≡ length ss + cond (is_some ending) 1 0
+length-with_ending None ss = omega arith
+length-with_ending (Some picks) ss = length-append ss (parsed_lines.Crash picks ∷ [])
+
+-- as many lines are kept as the head, the commands and the crash have
+length-unskipped : (text : List ℕ) (plan : ScriptValue) → IsTextOf text plan
+    → length (unskipped_numbers 1 (lines_of text)) ≡ count_behind_head plan + head_count plan
+length-unskipped text plan spells =
+    let numbers = length-unskipped_numbers 1 (lines_of text) in
+    let says =
+    AllZip-long ParsesAs (unskipped (lines_of text)) (lines_of_script plan) spells.says in
+    let body = length-lines_of_body plan.names 0 plan.commands in
+    let ending = length-with_ending plan.ending (lines_of_body plan.names 0 plan.commands) in
+    let parts =
+    length-append (head_of plan.data_disk plan.log_disk plan.log_size)
+    (lines_behind_head plan) in
+    let head = length-head plan in
+    omega arith
+
+-- each command of a script has a line
+pub line_found : (text : List ℕ) (plan : ScriptValue) (place : ℕ) → IsTextOf text plan
+    → place < count_behind_head plan
+    → (number : ℕ) × (command_line text (place + head_count plan) ≡ Some number)
+line_found text plan place spells within =
+    let all = length-unskipped text plan spells in (
+      get_or (unskipped_numbers 1 (lines_of text)) (place + head_count plan) 0,
+      slice_get-get_or (unskipped_numbers 1 (lines_of text)) (place + head_count plan) 0
+          (omega arith),
+    )
+
+-- just the commands of a script have a line
+pub lined : (text : List ℕ) (plan : ScriptValue) (place : ℕ) → IsTextOf text plan
+    → count_behind_head plan ≤ place → command_line text (place + head_count plan) ≡ None
+lined text plan place spells past =
+    let all = length-unskipped text plan spells in
+    slice_get_past (unskipped_numbers 1 (lines_of text)) (place + head_count plan) (omega arith)
+
+-- more lines are kept after one that isn't skipped
+kept_more : (before between : List (List ℕ)) (line : List ℕ) → is_skipped line ≡ false
+    → length (unskipped before) < length (unskipped (before ++ line ∷ between))
+kept_more before between line kept =
+    let both = ap length (filter-append (λ l. not (is_skipped l)) before (line ∷ between)
+    ∙ ap (λ (ks : List (List ℕ)). unskipped before ++ ks) (kept_said line between kept)) in
+    let sum = length-append (unskipped before) (line ∷ unskipped between) in
+    omega arith
+
+-- no line of a command is after another
+not_later : (lines : List (List ℕ)) (plan : ScriptValue) (place m n : ℕ)
+    → IsLineOf lines plan place m → IsLineOf lines plan place n → n ≤ m
+not_later lines plan place m n a b =
+    let here : m ≡ length a.before + 1 = a.number_is in
+    let there : n ≡ length b.before + 1 = b.number_is in
+    ⊎_elim
+    (λ (less : m < n).
+    let more =
+    longer a.before (a.line ∷ a.more) b.before (b.line ∷ b.more) (sym a.split ∙ b.split)
+    (omega arith) in
+    let rest : a.line ∷ a.more ≡ more.line ∷ more.tail = more.rest_is in
+    let line : a.line ≡ more.line = cc in
+    let kept : is_skipped more.line ≡ false =
+    ap is_skipped (sym line) ∙ said_kept a.line a.parsed a.says in
+    let grown = kept_more a.before more.between more.line kept in
+    let counted = ap (λ (ls : List (List ℕ)). length (unskipped ls)) more.long_is in
+    let few : length (unskipped a.before) ≡ place + head_count plan = a.after_byte in
+    let many : length (unskipped b.before) ≡ place + head_count plan = b.after_byte in
+    absurd (omega arith))
+    (λ (no_less : n ≤ m). no_less)
+    (cases_lt m n)
+
+-- a command has one line
+pub one_line : (lines : List (List ℕ)) (plan : ScriptValue) (place m n : ℕ)
+    → IsLineOf lines plan place m → IsLineOf lines plan place n → m ≡ n
+one_line lines plan place m n a b =
+    let up = not_later lines plan place m n a b in
+    let down = not_later lines plan place n m b a in
+    omega arith
+
+-- ---- ends
+
+-- a command of a well-formed body may come after those before it
+well_formed_at : (bytes sectors : ℕ) (done before : List Command) (command : Command)
+    (rest : List Command) → IsWellFormed bytes sectors done (before ++ command ∷ rest)
+    → CanFollow bytes sectors (done ++ before) command
+well_formed_at bytes sectors done [] command rest well_formed =
+    subst (λ (x : List Command). CanFollow bytes sectors x command)
+    (sym (append-nil done)) well_formed.0
+well_formed_at bytes sectors done (first ∷ before) command rest well_formed =
+    subst (λ (x : List Command). CanFollow bytes sectors x command)
+    (append_assoc done (first ∷ []) before)
+    (well_formed_at bytes sectors (done ++ first ∷ []) before command rest well_formed.1)
+
+-- each command of a script may come after those before it
+pub can_follow : (plan : ScriptValue) (before : List Command) (command : Command)
+    (rest : List Command) → IsPlan plan → plan.commands ≡ before ++ command ∷ rest
+    → CanFollow (bytes_of plan.log_size) (top_of plan.data_disk) before command
+can_follow plan before command rest is split =
+    well_formed_at (bytes_of plan.log_size) (top_of plan.data_disk) [] before command rest
+    (subst (λ (x : List Command). IsWellFormed (bytes_of plan.log_size)
+    (top_of plan.data_disk) [] x) split is.well_formed)
+
+-- a request that a command ends has ended after it
+ended_behind : (request : ℕ) (before between : List Command)
+    → is_ended request (before ++ commands.Complete request ∷ between) ≡ true
+ended_behind request [] between =
+    ap (λ (t : Bool). t || is_ended request between) (eq-eqb request request refl)
+ended_behind request (first ∷ before) between =
+    ap (λ (t : Bool). is_end_of request first || t) (ended_behind request before between)
+    ∙ or-true (is_end_of request first)
+
+-- no request ends twice
+pub ends_once : (plan : ScriptValue) (before between rest : List Command) (request : ℕ)
+    → IsPlan plan
+    → plan.commands ≡ before
+    ++ commands.Complete request ∷ (between ++ commands.Complete request ∷ rest) → ⊥
+ends_once plan before between rest request is split =
+    let regrouped : plan.commands ≡ (before ++ commands.Complete request ∷ between)
+    ++ commands.Complete request ∷ rest =
+    split ∙ sym (append_assoc before (commands.Complete request ∷ between)
+    (commands.Complete request ∷ rest)) in
+    let may =
+    can_follow plan (before ++ commands.Complete request ∷ between)
+    (commands.Complete request) rest is regrouped in
+    let closed = ended_behind request before between in
+    let not_ended = may.1 in
+    cc

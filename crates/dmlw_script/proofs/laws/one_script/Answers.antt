@@ -1,0 +1,8 @@
+-- Answers to the goals of `one_script` (src/laws.rt) that the search leaves.
+use Rattle.dmlw_script.specs.Lines.{lines_of}
+use Rattle.dmlw_script.proofs.ReaderLaws.{one_script}
+use Rattle.dmlw_script.proofs.RecorderLaws.{recorder}
+use Rattle.dmlw_script.proofs.laws.one_script.Goals as goal
+
+pub returns : goal.returns
+returns c text plan other = one_script recorder (lines_of text) plan other

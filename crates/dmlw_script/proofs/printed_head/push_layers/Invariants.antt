@@ -1,0 +1,11 @@
+-- What holds at the calls and the turns of the loops of `push_layers` (src/printed_head.rt).
+use Rattle.std.proofs.Common.{◌≡◌, ◌++◌, drop}
+use Rattle.std.specs.Prelude.{flat_map, map}
+use Rattle.dmlw_script.specs.CanonicalText.{ended_line}
+use Rattle.dmlw_script.specs.Plans.{layer_line}
+use Rattle.dmlw_script.proofs.printed_head.push_layers.Given as goal
+
+abbrev pub invariant-loop-layer : goal.invariant-loop-layer
+invariant-loop-layer l =
+    l.out.items ++ flat_map ended_line (map (layer_line l.over) (drop l.layer-index l.layers))
+    ≡ l.fn.out.items ++ flat_map ended_line (map (layer_line l.over) l.layers)

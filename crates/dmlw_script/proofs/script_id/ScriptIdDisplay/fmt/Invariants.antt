@@ -1,0 +1,13 @@
+-- What holds at the calls and the turns of the loops of `ScriptIdDisplay::fmt` (src/script_id.rt).
+use Rattle.std.proofs.Common.{take}
+use Rattle.std.specs.Char.{encode_utf8}
+use Rattle.std.specs.Fmt.{HasWritten, IsPlainFormatter}
+use Rattle.std.specs.List.{flat_map}
+use Rattle.dmlw_script.proofs.script_id.ScriptIdDisplay.fmt.Given as goal
+
+-- the characters so far are written
+abbrev pub invariant-loop-letter : goal.invariant-loop-letter
+invariant-loop-letter g l =
+    IsPlainFormatter l.initial.f
+    → HasWritten g.W.Write.write_str_gives l.initial.f
+    (flat_map encode_utf8 (take l.letter-index l.letter-items)) l.f

@@ -1,0 +1,188 @@
+-- What reading answers to a text that is no script: the first line that is at fault, and why.
+-- Any crate above may cite it.
+use Rattle.std.specs.Prelude.{◌≡◌, ℕ, ◌+◌, ◌<◌, Bool, true, false, not, List, [], ◌∷◌, ◌++◌, Option}
+use Rattle.std.specs.Prelude.{Some, None, Err, Result, Ok, length, nat_le, if◌then◌else◌}
+use Rattle.std.specs.List.{list_any, AllZip}
+use Rattle.bio.specs.Refusals.{bad_bio_refusal}
+use Rattle.bio.specs.Sizes.{bytes_of}
+use Rattle.refusals.specs.declared.refusal.Refusal.{Refusal}
+use Rattle.refusals.specs.declared.refusal.Refusal.TheVariants.{BadLine, BadId, Memory, OutOfRange}
+use Rattle.bio.specs.declared.request.BadBio.{BadBio}
+use Rattle.refusals.specs.declared.fault.Fault.{Fault}
+use Rattle.dmlw_script.specs.declared.disk_name.DiskName.TheVariants as disks
+use Rattle.dmlw_script.specs.LineMeaning.{LineMeaning}
+use Rattle.dmlw_script.specs.LineMeaning as parsed_lines
+use Rattle.dmlw_script.specs.declared.line.HeadLine.{HeadLine}
+use Rattle.dmlw_script.specs.declared.line.HeadLine.TheVariants as head_lines
+use Rattle.dmlw_script.specs.declared.line.BodyLine.{BodyLine}
+use Rattle.dmlw_script.specs.declared.line.BodyLine.TheVariants as body_lines
+use Rattle.dmlw_script.specs.Grammar.{ParsesAs, AreLinesOf}
+use Rattle.dmlw_script.specs.Lines.{is_ascii_line, unskipped, lines_of}
+use Rattle.dmlw_script.specs.Ids.{same_name}
+use Rattle.dmlw_script.specs.Plans.{disk_of, is_disk_size, is_ended, is_log_disk_size, is_within}
+use Rattle.dmlw_script.specs.Plans.{least_sectors, moment_at_step, request_of, step_answer}
+use Rattle.dmlw_script.specs.Plans.{submission_answer, top_of, Disk, IsInTime, ScriptValue}
+use Rattle.table_line.specs.declared.layer_spec.LayerSpec.{LayerSpec}
+use Rattle.table_line.specs.Refusals.{table_refusal}
+
+-- some lines after these make a script of them
+pub record BeginsScript (lines : List (List ℕ)) : Type 0 where
+  pub more : List (List ℕ)
+  pub plan : ScriptValue
+  pub spells : AreLinesOf (lines ++ more) plan
+
+-- how much of a script was read, as far as it says what may come next: nothing; the data disk's
+-- sectors; a head, which may have more layers; a head and some of a body, at this moment; or all,
+-- so that nothing may come
+pub data Prefix : Type 0 where
+  data_due : Prefix
+  log_due : Disk → Prefix
+  in_head : Disk → Disk → Prefix
+  in_body : Disk → Disk → ℕ → Prefix
+  at_end : Prefix
+
+-- a disk with no layers
+abbrev pub bare : ℕ → Disk
+bare sectors = record { sectors = sectors; layers = [] }
+
+-- a disk with one more layer on top
+abbrev pub with_layer : Disk → LayerSpec → Disk
+with_layer disk spec = record disk { layers = disk.layers ++ spec ∷ [] }
+
+-- the moment after a line of the body, before which it was this
+abbrev pub moment_at_line : ℕ → BodyLine → ℕ
+moment_at_line moment (body_lines.Submit name submission) = moment
+moment_at_line moment (body_lines.Complete name) = moment
+moment_at_line moment (body_lines.Step step) = moment_at_step moment step
+
+-- how much was read with a line that says this; nothing may
+-- come behind a crash, nor behind what may not stand there
+abbrev pub next : Prefix → LineMeaning → Prefix
+next data_due (parsed_lines.Head (head_lines.Data sectors)) = log_due (bare sectors)
+next (log_due data_disk) (parsed_lines.Head (head_lines.Log sectors size)) =
+    in_head data_disk (bare sectors)
+next (in_head data_disk log_disk) (parsed_lines.Head (head_lines.Layer disks.Data (Ok spec))) =
+    in_head (with_layer data_disk spec) log_disk
+next (in_head data_disk log_disk) (parsed_lines.Head (head_lines.Layer disks.Log (Ok spec))) =
+    in_head data_disk (with_layer log_disk spec)
+next (in_head data_disk log_disk) (parsed_lines.Body line) =
+    in_body data_disk log_disk (moment_at_line 0 line)
+next (in_body data_disk log_disk moment) (parsed_lines.Body line) =
+    in_body data_disk log_disk (moment_at_line moment line)
+next _ _ = at_end
+
+-- how much was read with lines that say this
+abbrev pub prefix_after : Prefix → List LineMeaning → Prefix
+prefix_after prefix [] = prefix
+prefix_after prefix (s ∷ ss) = prefix_after (next prefix s) ss
+
+-- a line of the body comes in time: no moment is less than before
+abbrev pub ComesInTime : ℕ → BodyLine → Type 0
+ComesInTime moment (body_lines.Submit name submission) = Unit {0}
+ComesInTime moment (body_lines.Complete name) = Unit {0}
+ComesInTime moment (body_lines.Step step) = IsInTime moment step
+
+-- what a line says may stand behind so much, as far as its words say: first the size of the data
+-- disk, then that of the log disk, on which one of the log's sectors fits, then up to four layers
+-- of the data disk, then up to four of the log disk, then the body, whose moments don't go back,
+-- and nothing behind a crash
+abbrev pub StandsAfter : Prefix → LineMeaning → Type 0
+StandsAfter data_due (parsed_lines.Head (head_lines.Data sectors)) = is_disk_size sectors ≡ true
+StandsAfter (log_due data_disk) (parsed_lines.Head (head_lines.Log sectors size)) =
+    is_log_disk_size (bytes_of size) sectors ≡ true
+StandsAfter (in_head data_disk log_disk) (parsed_lines.Head (head_lines.Layer disks.Data asked)) =
+    (length data_disk.layers < 4) × (log_disk.layers ≡ [])
+StandsAfter (in_head data_disk log_disk) (parsed_lines.Head (head_lines.Layer disks.Log asked)) =
+    length log_disk.layers < 4
+StandsAfter (in_head data_disk log_disk) (parsed_lines.Body line) = ComesInTime 0 line
+StandsAfter (in_head data_disk log_disk) (parsed_lines.Crash picks) = Unit {0}
+StandsAfter (in_body data_disk log_disk moment) (parsed_lines.Body line) = ComesInTime moment line
+StandsAfter (in_body data_disk log_disk moment) (parsed_lines.Crash picks) = Unit {0}
+StandsAfter _ _ = ⊥
+
+-- the line is of the grammar after these, which say this, and says s
+pub record IsLineAfter (before : List (List ℕ)) (line : List ℕ) (s : LineMeaning) : Type 0 where
+  pub plain : is_ascii_line line ≡ true
+  pub says : ParsesAs line s
+  pub said : List LineMeaning
+  pub before_says : AllZip ParsesAs (unskipped before) said
+  pub stands : StandsAfter (prefix_after data_due said) s
+
+-- the request was submitted and hasn't ended
+abbrev pub is_open : Option ℕ → ScriptValue → Bool
+is_open None plan = false
+is_open (Some request) plan = not (is_ended request plan.commands)
+
+-- why a test of sectors refuses, if it does
+abbrev pub test_refusal : Result (Unit {0}) BadBio → Option Refusal
+test_refusal (Ok fine) = None
+test_refusal (Err bad) = Some (bad_bio_refusal bad)
+
+-- why a line of the body is refused after a script, if it is: the id of a submission isn't new, or
+-- that of an end isn't one of a request that is open; or else its sectors don't pass the test
+abbrev pub body_refusal : ScriptValue → BodyLine → Option Refusal
+body_refusal plan (body_lines.Submit name submission) =
+    if list_any (same_name name) plan.names then Some BadId
+    else test_refusal (submission_answer (bytes_of plan.log_size)
+    (top_of plan.data_disk) submission)
+body_refusal plan (body_lines.Complete name) =
+    if is_open (request_of name plan.names) plan then None else Some BadId
+body_refusal plan (body_lines.Step step) =
+    test_refusal (step_answer (bytes_of plan.log_size) (top_of plan.data_disk) step)
+
+-- why a line of the head is refused after a script, if it is: its table line asks for no layer, or
+-- for one that isn't within what stands beneath it, or for one of too few sectors
+abbrev pub head_refusal : ScriptValue → HeadLine → Option Refusal
+head_refusal plan (head_lines.Data sectors) = None
+head_refusal plan (head_lines.Log sectors size) = None
+head_refusal plan (head_lines.Layer over (Err error)) = Some (table_refusal error)
+head_refusal plan (head_lines.Layer over (Ok spec)) =
+    if is_within spec (top_of (disk_of over plan)) then
+    (if nat_le (least_sectors over plan.log_size) spec.length then None else Some BadLine)
+    else Some OutOfRange
+
+-- why a line is refused after a script, if it is
+abbrev pub line_refusal : ScriptValue → LineMeaning → Option Refusal
+line_refusal plan (parsed_lines.Head line) = head_refusal plan line
+line_refusal plan (parsed_lines.Body line) = body_refusal plan line
+line_refusal plan (parsed_lines.Crash picks) = None
+
+-- why a line can't stand after these: it isn't of the grammar there; or else these are a script,
+-- after which it is refused
+pub data IsLineFault (before : List (List ℕ)) (line : List ℕ) : Refusal → Type 0 where
+  bad_line : ((s : LineMeaning) → IsLineAfter before line s → ⊥) → IsLineFault before line BadLine
+  refused : (s : LineMeaning) (plan : ScriptValue) (refusal : Refusal) → IsLineAfter before line s
+      → AreLinesOf before plan → line_refusal plan s ≡ Some refusal →
+      IsLineFault before line refusal
+
+-- what is wrong after lines that begin a script: the text ends
+-- inside its head, or no script begins with the next line too
+abbrev pub FaultAfter : List (List ℕ) → List (List ℕ) → Refusal → Type 0
+FaultAfter before [] refusal =
+    (refusal ≡ BadLine) × ((plan : ScriptValue) → AreLinesOf before plan → ⊥)
+FaultAfter before (line ∷ more) refusal =
+    (BeginsScript (before ++ line ∷ []) → ⊥) × IsLineFault before line refusal
+
+-- the first line, counted from 1, at which no continuation
+-- is a script, and why; it may be the one after the last
+pub record IsFirstFault (lines : List (List ℕ)) (line : ℕ) (refusal : Refusal) : Type 0 where
+  pub before : List (List ℕ)
+  pub more : List (List ℕ)
+  pub split : lines ≡ before ++ more
+  pub place : line ≡ length before + 1
+  pub begins : BeginsScript before
+  pub fault : FaultAfter before more refusal
+
+-- memory ran out
+abbrev pub is_memory : Fault
+is_memory = record { line = None; refusal = Memory }
+
+-- a fault names the first line that is at fault, or memory ran out
+abbrev pub IsFaultOf : List ℕ → Fault → Option ℕ → Type 0
+IsFaultOf text fault (Some line) = IsFirstFault (lines_of text) line fault.refusal
+IsFaultOf text fault None = fault ≡ is_memory
+
+-- the script was read, or memory ran out
+abbrev pub IsReadAs : ScriptValue → Result ScriptValue Fault → Type 0
+IsReadAs plan (Ok script) = script ≡ plan
+IsReadAs plan (Err fault) = fault ≡ is_memory

@@ -1,0 +1,144 @@
+-- What reading answers to a text that is no run's script: the first line that is at fault, and why.
+-- Any crate above may cite it.
+use Rattle.std.specs.Prelude.{◌≡◌, ℕ, ◌+◌, ◌<◌, ◌≤◌, List, [], ◌∷◌, ◌++◌, Option, Some, None}
+use Rattle.std.specs.Prelude.{Result, Ok, Err, length, nat_le, true, if◌then◌else◌}
+use Rattle.std.specs.List.{AllZip}
+use Rattle.bio.specs.Sizes.{bytes_of}
+use Rattle.refusals.specs.declared.fault.Fault.{Fault}
+use Rattle.refusals.specs.declared.refusal.Refusal.{Refusal}
+use Rattle.refusals.specs.declared.refusal.Refusal.TheVariants.{BadLine, OutOfRange}
+use Rattle.dmlw_script.specs.declared.disk_name.DiskName.{DiskName}
+use Rattle.dmlw_script.specs.declared.disk_name.DiskName.TheVariants as disks
+use Rattle.dmlw_script.specs.declared.line.HeadLine.{HeadLine}
+use Rattle.dmlw_script.specs.declared.line.HeadLine.TheVariants as head_lines
+use Rattle.dmlw_script.specs.Lines.{is_ascii_line, lines_of, unskipped}
+use Rattle.dmlw_script.specs.Plans.{is_disk_size, is_log_disk_size, is_within, least_sectors}
+use Rattle.dmlw_script.specs.Plans.{top_of, Disk}
+use Rattle.dmlw_script.specs.FirstFault.{bare, is_memory, test_refusal, with_layer}
+use Rattle.dmlw_script.specs.RunGrammar.{AreRunLines, SaysLine}
+use Rattle.dmlw_script.specs.RunPlans.{call_answer, RunPlan}
+use Rattle.dmlw_script.specs.declared.run_line.RunLine.{RunLine}
+use Rattle.dmlw_script.specs.declared.run_line.RunLine.TheVariants as run_lines
+use Rattle.table_line.specs.Refusals.{table_refusal}
+
+-- some lines after these make a run's script of them
+pub record BeginsRun (lines : List (List ℕ)) : Type 0 where
+  pub more : List (List ℕ)
+  pub plan : RunPlan
+  pub spells : AreRunLines (lines ++ more) plan
+
+-- how much of a run's script was read, as far as it says what may come next: nothing; the data
+-- disk's sectors; the log disk's too; a head with this many seats, which may have more layers; a
+-- head and some of a body; or what nothing may stand behind
+pub data RunPrefix : Type 0 where
+  data_due : RunPrefix
+  log_due : Disk → RunPrefix
+  seats_due : Disk → Disk → RunPrefix
+  in_head : Disk → Disk → ℕ → RunPrefix
+  in_body : ℕ → RunPrefix
+  at_end : RunPrefix
+
+-- how much was read with a line that says this
+abbrev pub next : RunPrefix → RunLine → RunPrefix
+next data_due (run_lines.Head (head_lines.Data sectors)) = log_due (bare sectors)
+next (log_due data_disk) (run_lines.Head (head_lines.Log sectors size)) =
+    seats_due data_disk (bare sectors)
+next (seats_due data_disk log_disk) (run_lines.Seats count) = in_head data_disk log_disk count
+next (in_head data_disk log_disk count) (run_lines.Head (head_lines.Layer disks.Data (Ok spec))) =
+    in_head (with_layer data_disk spec) log_disk count
+next (in_head data_disk log_disk count) (run_lines.Head (head_lines.Layer disks.Log (Ok spec))) =
+    in_head data_disk (with_layer log_disk spec) count
+next (in_head data_disk log_disk count) (run_lines.Body said) = in_body count
+next (in_body count) (run_lines.Body said) = in_body count
+next _ _ = at_end
+
+-- how much was read with lines that say this
+abbrev pub prefix_after : RunPrefix → List RunLine → RunPrefix
+prefix_after prefix [] = prefix
+prefix_after prefix (said ∷ more) = prefix_after (next prefix said) more
+
+-- what a line says may stand behind so much, as far as its words say: first the size of the data
+-- disk, then that of the log disk, on which one of the log's sectors fits, then 1 to 64 seats, then
+-- up to four layers of the data disk, then up to four of the log disk, then the body, each line of
+-- which is of one of the seats
+abbrev pub StandsBehind : RunPrefix → RunLine → Type 0
+StandsBehind data_due (run_lines.Head (head_lines.Data sectors)) = is_disk_size sectors ≡ true
+StandsBehind (log_due data_disk) (run_lines.Head (head_lines.Log sectors size)) =
+    is_log_disk_size (bytes_of size) sectors ≡ true
+StandsBehind (seats_due data_disk log_disk) (run_lines.Seats count) = (1 ≤ count) × (count ≤ 64)
+StandsBehind (in_head data_disk log_disk count)
+    (run_lines.Head (head_lines.Layer disks.Data asked)) = (length data_disk.layers < 4)
+    × (log_disk.layers ≡ [])
+StandsBehind (in_head data_disk log_disk count)
+    (run_lines.Head (head_lines.Layer disks.Log asked)) = length log_disk.layers < 4
+StandsBehind (in_head data_disk log_disk count) (run_lines.Body said) = said.seat < count
+StandsBehind (in_body count) (run_lines.Body said) = said.seat < count
+StandsBehind _ _ = ⊥
+
+-- the line is of the grammar after these, which say this, and says s
+pub record IsRunLineAfter (before : List (List ℕ)) (line : List ℕ) (s : RunLine) : Type 0 where
+  pub plain : is_ascii_line line ≡ true
+  pub says : SaysLine line s
+  pub said : List RunLine
+  pub before_says : AllZip SaysLine (unskipped before) said
+  pub stands : StandsBehind (prefix_after data_due said) s
+
+-- the disk of this name
+abbrev pub run_disk : DiskName → RunPlan → Disk
+run_disk disks.Data plan = plan.data_disk
+run_disk disks.Log plan = plan.log_disk
+
+-- why a layer is refused after a script, if it is: it isn't
+-- within what stands beneath it, or has too few sectors
+abbrev pub head_refusal : RunPlan → HeadLine → Option Refusal
+head_refusal plan (head_lines.Data sectors) = None
+head_refusal plan (head_lines.Log sectors size) = None
+head_refusal plan (head_lines.Layer over (Err error)) = Some (table_refusal error)
+head_refusal plan (head_lines.Layer over (Ok spec)) =
+    if is_within spec (top_of (run_disk over plan)) then
+    (if nat_le (least_sectors over plan.log_size) spec.length then None else Some BadLine)
+    else Some OutOfRange
+
+-- why a line is refused after a script, if it is: its layer
+-- is, or the sectors of its call don't pass the test
+abbrev pub line_refusal : RunPlan → RunLine → Option Refusal
+line_refusal plan (run_lines.Head line) = head_refusal plan line
+line_refusal plan (run_lines.Seats count) = None
+line_refusal plan (run_lines.Body said) =
+    test_refusal (call_answer (bytes_of plan.log_size) (top_of plan.data_disk) said.call)
+
+-- why a line can't stand after these: it isn't of the grammar there; or else these are a script,
+-- after which it is refused
+pub data IsRunLineFault (before : List (List ℕ)) (line : List ℕ) : Refusal → Type 0 where
+  bad_line : ((s : RunLine) → IsRunLineAfter before line s → ⊥) → IsRunLineFault before line BadLine
+  refused : (s : RunLine) (plan : RunPlan) (refusal : Refusal) → IsRunLineAfter before line s
+      → AreRunLines before plan →
+      line_refusal plan s ≡ Some refusal → IsRunLineFault before line refusal
+
+-- what is wrong after lines that begin a script: the text ends
+-- inside its head, or no script begins with the next line too
+abbrev pub RunFaultAfter : List (List ℕ) → List (List ℕ) → Refusal → Type 0
+RunFaultAfter before [] refusal =
+    (refusal ≡ BadLine) × ((plan : RunPlan) → AreRunLines before plan → ⊥)
+RunFaultAfter before (line ∷ more) refusal =
+    (BeginsRun (before ++ line ∷ []) → ⊥) × IsRunLineFault before line refusal
+
+-- the first line, counted from 1, with which no run's script
+-- can go on, and why; it may be the one after the last
+pub record IsFirstRunFault (lines : List (List ℕ)) (line : ℕ) (refusal : Refusal) : Type 0 where
+  pub before : List (List ℕ)
+  pub more : List (List ℕ)
+  pub split : lines ≡ before ++ more
+  pub place : line ≡ length before + 1
+  pub begins : BeginsRun before
+  pub fault : RunFaultAfter before more refusal
+
+-- a fault names the first line that is at fault, or memory ran out
+abbrev pub IsRunFaultAt : List ℕ → Fault → Option ℕ → Type 0
+IsRunFaultAt text fault (Some line) = IsFirstRunFault (lines_of text) line fault.refusal
+IsRunFaultAt text fault None = fault ≡ is_memory
+
+-- the script was read, or memory ran out
+abbrev pub IsReadAsRun : RunPlan → Result RunPlan Fault → Type 0
+IsReadAsRun plan (Ok script) = script ≡ plan
+IsReadAsRun plan (Err fault) = fault ≡ is_memory

@@ -1,0 +1,9 @@
+-- The definitions of `dmlw_script` that its proofs alone use: no other crate cites them.
+-- Any crate above may cite it.
+pub mod LineParser
+pub mod Stages
+pub mod Heads
+pub mod Drafts
+pub mod Readers
+pub mod RunLineParser
+pub mod RunReaders

@@ -1,0 +1,99 @@
+-- The steps of the reader over a body. `Grammar` and
+-- `FirstFault` say in the grammar's words what they come to.
+-- Its own crate alone cites it.
+use Rattle.std.specs.Prelude.{◌≡◌, ℕ, Bool, false, List, [], ◌∷◌, ◌++◌, Option, Some, None, Result}
+use Rattle.std.specs.Prelude.{Ok, Err, length, nat_lt, slice_index_or, if◌then◌else◌}
+use Rattle.refusals.specs.declared.refusal.Refusal.{Refusal}
+use Rattle.refusals.specs.declared.refusal.Refusal.TheVariants.{BadId, BadLine}
+use Rattle.bio.specs.declared.request.BadBio.{BadBio}
+use Rattle.bio.specs.Refusals.{bad_bio_refusal}
+use Rattle.dmlw_script.specs.declared.command.Command.{Command}
+use Rattle.dmlw_script.specs.declared.command.Command.TheVariants as commands
+use Rattle.dmlw_script.specs.declared.command.Step.{Step}
+use Rattle.dmlw_script.specs.declared.command.Step.TheVariants as steps
+use Rattle.dmlw_script.specs.declared.draft.BodyReader.{BodyReader}
+use Rattle.dmlw_script.specs.declared.script_id.ScriptId.{ScriptId}
+use Rattle.dmlw_script.specs.declared.line.BodyLine.{BodyLine}
+use Rattle.dmlw_script.specs.declared.line.BodyLine.TheVariants as body_lines
+use Rattle.dmlw_script.specs.declared.line_error.LineError.{LineError}
+use Rattle.dmlw_script.specs.declared.line_error.LineError.TheVariants as line_errors
+use Rattle.dmlw_script.specs.Plans.{is_ended, moment_after, request_of, step_answer}
+use Rattle.dmlw_script.specs.Plans.{submission_answer}
+
+-- a script's body, as far as it was read: the ids that were submitted, and the commands
+pub record Body : Type 0 where
+  pub names : List ScriptId
+  pub body : List Command
+
+-- what was read into a draft
+abbrev pub body_of : BodyReader → Body
+body_of d = record { names = d.names.keys; body = d.commands.items }
+
+-- each of n requests has its flag, which says whether it has ended, and no other request has
+pub record IsFlags (n : ℕ) (flags : List Bool) (body : List Command) : Type 0 where
+  pub in_step : length flags ≡ n
+  pub each : (request : ℕ) → slice_index_or flags request false ≡ is_ended request body
+
+-- a draft's flags are those of its requests, and its moment is the one after its commands
+pub record IsDraft (d : BodyReader) : Type 0 where
+  pub flags : IsFlags (length d.names.keys) d.has_ended.items d.commands.items
+  pub in_time : d.moment ≡ moment_after d.commands.items
+
+-- goes on with a value that is there
+infixl 10 ◌>>=◌
+abbrev pub ◌>>=◌ : {A B : Type 0} → Result A Refusal → (A → Result B Refusal) → Result B Refusal
+(Ok x) >>= f = f x
+(Err refusal) >>= f = Err refusal
+
+-- the next command, after a body
+abbrev pub with_command : Body → Command → Body
+with_command b command = record b { body = b.body ++ command ∷ [] }
+
+-- the next request's id, which must be new
+abbrev pub named_next : Option ℕ → Body → ScriptId → Result Body Refusal
+named_next (Some request) b name = Err BadId
+named_next None b name = Ok (record b { names = b.names ++ name ∷ [] })
+
+-- the next request's id, after a body
+abbrev pub with_name : Body → ScriptId → Result Body Refusal
+with_name b name = named_next (request_of name b.names) b name
+
+-- what a test of sectors answers, as a refusal
+abbrev pub as_refusal : Result (Unit {0}) BadBio → Result (Unit {0}) Refusal
+as_refusal (Ok fine) = Ok tt
+as_refusal (Err bad) = Err (bad_bio_refusal bad)
+
+-- the test of a line that names no request, at this moment:
+-- no `at` goes back, and sectors pass their test
+abbrev pub step_test : (bytes sectors moment : ℕ) → Step → Result (Unit {0}) Refusal
+step_test bytes sectors moment steps.Close = Ok tt
+step_test bytes sectors moment (steps.Read first count) =
+    as_refusal (step_answer bytes sectors (steps.Read first count))
+step_test bytes sectors moment steps.Turn = Ok tt
+step_test bytes sectors moment (steps.Mark text) = Ok tt
+step_test bytes sectors moment (steps.At later) = if nat_lt later moment then Err BadLine else Ok tt
+step_test bytes sectors moment (steps.Message over layer text) = Ok tt
+
+-- an end, whose request must be open
+abbrev pub ended_next : Option ℕ → Body → Result Body Refusal
+ended_next None b = Err BadId
+ended_next (Some request) b =
+    if is_ended request b.body then Err BadId else Ok (with_command b (commands.Complete request))
+
+-- the body after one more line, for a log of sectors of so
+-- many bytes and a data disk of so many sectors
+abbrev pub body_step : (bytes sectors : ℕ) → Body → BodyLine → Result Body Refusal
+body_step bytes sectors b (body_lines.Submit name submission) = do
+  submitted ← with_name b name
+  fine ← as_refusal (submission_answer bytes sectors submission)
+  Ok (with_command submitted (commands.Submit submission))
+body_step bytes sectors b (body_lines.Complete name) = ended_next (request_of name b.names) b
+body_step bytes sectors b (body_lines.Step step) = do
+  fine ← step_test bytes sectors (moment_after b.body) step
+  Ok (with_command b (commands.Step step))
+
+-- what a call answers that leaves this value, where a step says what it should come to
+abbrev pub Follows : {A : Type 0} → Result (Unit {0}) LineError → A → Result A Refusal → Type 0
+Follows (Ok done) after step = step ≡ Ok after
+Follows (Err (line_errors.Refused refusal)) after step = step ≡ Err refusal
+Follows (Err line_errors.Memory) after step = Unit {0}

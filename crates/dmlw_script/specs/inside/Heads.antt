@@ -1,0 +1,90 @@
+-- The head of a script, as far as it was read.
+-- Its own crate alone cites it.
+use Rattle.std.specs.Prelude.{ℕ, Bool, true, false, ◌∷◌, [], List, Result, Ok, Err, length, nat_le}
+use Rattle.std.specs.Prelude.{nat_lt, if◌then◌else◌}
+use Rattle.bio.specs.Sizes.{bytes_of}
+use Rattle.bio.specs.declared.sector_size.SectorSize.{SectorSize}
+use Rattle.refusals.specs.declared.refusal.Refusal.{Refusal}
+use Rattle.refusals.specs.declared.refusal.Refusal.TheVariants.{BadLine, OutOfRange}
+use Rattle.table_line.specs.declared.layer_spec.LayerSpec.{LayerSpec}
+use Rattle.table_line.specs.declared.table_error.TableError.{TableError}
+use Rattle.table_line.specs.Refusals.{table_refusal}
+use Rattle.dmlw_script.specs.declared.disk_name.DiskName.{DiskName}
+use Rattle.dmlw_script.specs.declared.disk_name.DiskName.TheVariants as disks
+use Rattle.dmlw_script.specs.declared.head.Head.{Head}
+use Rattle.dmlw_script.specs.declared.head.Part.{Part}
+use Rattle.dmlw_script.specs.declared.head.Part.TheVariants as parts
+use Rattle.dmlw_script.specs.inside.Drafts.{◌>>=◌}
+use Rattle.dmlw_script.specs.inside.Stages.{Stage}
+use Rattle.dmlw_script.specs.inside.Stages as heads
+use Rattle.dmlw_script.specs.declared.line.HeadLine.{HeadLine}
+use Rattle.dmlw_script.specs.declared.line.HeadLine.TheVariants as head_lines
+use Rattle.dmlw_script.specs.Plans.{is_disk_size, is_log_disk_size, is_within, least_sectors}
+use Rattle.dmlw_script.specs.Plans.{top_of, Disk}
+use Rattle.dmlw_script.specs.FirstFault.{bare, with_layer}
+
+-- how much was read, where this part was, of these disks and
+-- this size of the log's sectors, and a crash has these picks
+abbrev pub stage_at : List ℕ → Disk → Disk → SectorSize → Part → Stage
+stage_at picks data_disk log_disk size parts.Nothing = heads.Empty
+stage_at picks data_disk log_disk size parts.Data = heads.Data data_disk
+stage_at picks data_disk log_disk size parts.Whole = heads.Whole data_disk log_disk size
+stage_at picks data_disk log_disk size parts.Ended = heads.Ended data_disk log_disk size picks
+
+-- how much was read, where a crash has these picks
+abbrev pub stage_of : List ℕ → Head → Stage
+stage_of picks head = stage_at picks head.data_disk head.log_disk head.log_size head.part
+
+-- the disk with a layer, which must have at least so many sectors
+abbrev pub long_layer : (least : ℕ) → Disk → LayerSpec → Result Disk Refusal
+long_layer least disk spec =
+    if nat_le least spec.length then Ok (with_layer disk spec) else Err BadLine
+
+-- the disk with the layer that a table line asks for, which must be within what stands beneath it
+-- and have at least so many sectors
+abbrev pub asked_layer : (least : ℕ) → Disk → Result LayerSpec TableError → Result Disk Refusal
+asked_layer least disk (Err error) = Err (table_refusal error)
+asked_layer least disk (Ok spec) =
+    if is_within spec (top_of disk) then long_layer least disk spec else Err OutOfRange
+
+-- the disk with one more layer, which must be the fourth at most
+abbrev pub layer_step : (least : ℕ) → Disk → Result LayerSpec TableError → Result Disk Refusal
+layer_step least disk asked =
+    if nat_lt (length disk.layers) 4 then asked_layer least disk asked else Err BadLine
+
+-- a head with another data disk
+abbrev pub with_data : Result Disk Refusal → Disk → SectorSize → Result Stage Refusal
+with_data read log_disk size = read >>= λ data_disk. Ok (heads.Whole data_disk log_disk size)
+
+-- a head with another log disk
+abbrev pub with_log : Disk → Result Disk Refusal → SectorSize → Result Stage Refusal
+with_log data_disk read size = read >>= λ log_disk. Ok (heads.Whole data_disk log_disk size)
+
+-- a layer over the data disk, behind which none of the log disk stands
+abbrev pub data_layer : List LayerSpec → Disk → Disk → SectorSize → Result LayerSpec TableError
+    → Result Stage Refusal
+data_layer [] data_disk log_disk size asked =
+    with_data (layer_step (least_sectors disks.Data size) data_disk asked) log_disk size
+data_layer (layer ∷ layers) data_disk log_disk size asked = Err BadLine
+
+-- a layer in a head of these disks and this size of the
+-- log's sectors, where the body has begun or not
+abbrev pub layer_in : Bool → Disk → Disk → SectorSize → DiskName → Result LayerSpec TableError
+    → Result Stage Refusal
+layer_in true data_disk log_disk size over asked = Err BadLine
+layer_in false data_disk log_disk size disks.Data asked =
+    data_layer log_disk.layers data_disk log_disk size asked
+layer_in false data_disk log_disk size disks.Log asked =
+    with_log data_disk (layer_step (least_sectors disks.Log size) log_disk asked) size
+
+-- the head with one more line, where the body has begun or not: first the size of the data disk,
+-- then that of the log disk and of the log's sectors, then the layers
+abbrev pub head_step : Stage → Bool → HeadLine → Result Stage Refusal
+head_step heads.Empty began (head_lines.Data sectors) =
+    if is_disk_size sectors then Ok (heads.Data (bare sectors)) else Err BadLine
+head_step (heads.Data data_disk) began (head_lines.Log sectors size) =
+    if is_log_disk_size (bytes_of size) sectors then Ok
+    (heads.Whole data_disk (bare sectors) size) else Err BadLine
+head_step (heads.Whole data_disk log_disk log_size) began (head_lines.Layer over asked) =
+    layer_in began data_disk log_disk log_size over asked
+head_step _ _ _ = Err BadLine

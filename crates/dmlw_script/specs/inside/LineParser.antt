@@ -1,0 +1,243 @@
+-- What a line says, as the reader finds it. `Grammar` says
+-- it in the grammar's words; the two agree by proof.
+-- Its own crate alone cites it.
+use Rattle.std.specs.Prelude.{◌≡◌, ◌⊎◌, ℕ, ◌==◌, Bool, true, false, List, [], ◌∷◌, Option, Some}
+use Rattle.std.specs.Prelude.{None, Result, Ok, Err, codes, if◌then◌else◌}
+use Rattle.std.proofs.Common.{inl, inr}
+use Rattle.std.specs.List.{slice_split}
+use Rattle.std.specs.Option.{option_map, option_or}
+use Rattle.std.specs.Str.{bytes_eq}
+use Rattle.bio.specs.declared.sector_size.SectorSize.{SectorSize}
+use Rattle.bio.specs.declared.sector_size.SectorSize.TheVariants as sizes
+use Rattle.dmlw_script.specs.declared.disk_name.DiskName.{DiskName}
+use Rattle.dmlw_script.specs.declared.disk_name.DiskName.TheVariants as disks
+use Rattle.dmlw_script.specs.LineMeaning.{LineMeaning}
+use Rattle.dmlw_script.specs.LineMeaning as parsed_lines
+use Rattle.dmlw_script.specs.declared.line.HeadLine.{HeadLine}
+use Rattle.dmlw_script.specs.declared.line.HeadLine.TheVariants as head_lines
+use Rattle.dmlw_script.specs.declared.line.BodyLine.TheVariants as body_lines
+use Rattle.dmlw_script.specs.declared.command.Submission.{Submission}
+use Rattle.dmlw_script.specs.declared.command.Submission.TheVariants as submits
+use Rattle.dmlw_script.specs.declared.command.Step.{Step}
+use Rattle.dmlw_script.specs.declared.command.Step.TheVariants as steps
+use Rattle.dmlw_script.specs.declared.script_id.ScriptId.{ScriptId}
+use Rattle.dmlw_script.specs.Words.{byte_of}
+use Rattle.refusals.specs.Words.{before_byte, after_byte, number_of, words_of}
+use Rattle.table_line.specs.declared.layer_spec.LayerSpec.{LayerSpec}
+use Rattle.table_line.specs.declared.table_error.TableError.{TableError}
+use Rattle.table_line.specs.LineLaws.{asks_or_fails}
+use Rattle.table_line.specs.Refusals.{refusal_of}
+use Rattle.table_line.specs.TableLines.{IsTableLine}
+use Rattle.dmlw_script.specs.Ids.{id_of_word}
+use Rattle.dmlw_script.specs.Lines.{is_line_text}
+use Rattle.dmlw_script.specs.declared.command.WriteOptions.{WriteOptions}
+
+-- goes on with a value that is there
+infixl 10 ◌>>=◌
+abbrev pub ◌>>=◌ : {A B : Type 0} → Option A → (A → Option B) → Option B
+(Some x) >>= f = f x
+None >>= f = None
+
+-- a line that submits a request
+abbrev pub submit : ScriptId → Submission → LineMeaning
+submit name submission = parsed_lines.Body (body_lines.Submit name submission)
+
+-- a line that names no request
+abbrev pub step : Step → LineMeaning
+step it = parsed_lines.Body (body_lines.Step it)
+
+-- whether this word stands first among others, and what is left behind it
+abbrev pub take_word : List ℕ → Option (List ℕ) → Bool × Option (List ℕ)
+take_word word None = (false, None)
+take_word word (Some words) =
+    if bytes_eq (before_byte 32 words) word then (true, after_byte 32 words) else
+    (false, Some words)
+
+-- the options that were found, where no word is left
+abbrev pub found_options : Bool → Bool → Bool → Option (List ℕ) → Option WriteOptions
+found_options flush fua meta None = Some (record { flush = flush; fua = fua; meta = meta })
+found_options flush fua meta (Some words) = None
+
+-- the options that these words are, if there are any words
+abbrev pub options_of : Option (List ℕ) → Option WriteOptions
+options_of words =
+    let flush = take_word (codes "flush") words in
+    let fua = take_word (codes "fua") flush.1 in
+    let meta = take_word (codes "meta") fua.1 in
+    found_options flush.0 fua.0 meta.0 meta.1
+
+-- the write that these words say: the first sector, the number of sectors, the byte and the options
+abbrev pub write_words : List ℕ → Option Submission
+write_words words = do
+  from_count ← after_byte 32 words
+  from_byte ← after_byte 32 from_count
+  first ← number_of (before_byte 32 words)
+  count ← number_of (before_byte 32 from_count)
+  byte ← byte_of (before_byte 32 from_byte)
+  options ← options_of (after_byte 32 from_byte)
+  Some (submits.Write first count byte options)
+
+-- the sectors that these words say: the first one, and how many
+abbrev pub sectors_of : List ℕ → Option (ℕ × ℕ)
+sectors_of words = do
+  first ← number_of (before_byte 32 words)
+  count_word ← after_byte 32 words
+  count ← number_of count_word
+  Some (first, count)
+
+-- the discard that these words say: the first sector and the number of sectors
+abbrev pub discard_words : List ℕ → Option Submission
+discard_words words = do
+  sectors ← sectors_of words
+  Some (submits.Discard sectors.0 sectors.1)
+
+-- the write that these words say: an id, and the other words
+abbrev pub write_of : List ℕ → Option LineMeaning
+write_of words = do
+  from_first ← after_byte 32 words
+  name ← id_of_word (before_byte 32 words)
+  submission ← write_words from_first
+  Some (submit name submission)
+
+-- the discard that these words say: an id, and the other words
+abbrev pub discard_of : List ℕ → Option LineMeaning
+discard_of words = do
+  from_first ← after_byte 32 words
+  name ← id_of_word (before_byte 32 words)
+  submission ← discard_words from_first
+  Some (submit name submission)
+
+-- the read that these words say: the first sector and the number of sectors
+abbrev pub read_of : List ℕ → Option LineMeaning
+read_of words = do
+  sectors ← sectors_of words
+  Some (step (steps.Read sectors.0 sectors.1))
+
+-- what a line of this one word says
+abbrev pub lone_word : List ℕ → Option LineMeaning
+lone_word verb =
+    if bytes_eq verb (codes "close") then Some (step steps.Close)
+    else if bytes_eq verb (codes "turn") then Some (step steps.Turn)
+    else None
+
+-- what a line of the body says, of this first word, whose other words are these
+abbrev pub body_words : List ℕ → List ℕ → Option LineMeaning
+body_words verb words =
+    if bytes_eq verb (codes "w") then write_of words
+    else if bytes_eq verb (codes "f") then option_map (λ name. submit name submits.Flush)
+    (id_of_word words)
+    else if bytes_eq verb (codes "d") then discard_of words
+    else if bytes_eq verb (codes "c") then option_map
+    (λ name. parsed_lines.Body (body_lines.Complete name)) (id_of_word words)
+    else if bytes_eq verb (codes "r") then read_of words
+    else if bytes_eq verb (codes "at") then option_map (λ moment. step (steps.At moment))
+    (number_of words)
+    else None
+
+-- the layer that words ask for, or the test that they fail
+abbrev pub asked_from : {words : List (List ℕ)}
+    → ((spec : LayerSpec) × IsTableLine words spec)
+    ⊎ ((error : TableError) × (refusal_of words ≡ Some error)) → Result LayerSpec TableError
+asked_from (inl asks) = Ok asks.0
+asked_from (inr fails) = Err fails.0
+
+-- what a table line asks for
+abbrev pub asked_of : List ℕ → Result LayerSpec TableError
+asked_of text = asked_from (asks_or_fails (words_of text))
+
+-- the line of a layer over this disk, whose table line is this
+abbrev pub layer_of : DiskName → List ℕ → HeadLine
+layer_of over text = head_lines.Layer over (asked_of text)
+
+-- the size of a log's sectors that a word says, or 512 bytes where there is none
+abbrev pub size_of : Option (List ℕ) → Option SectorSize
+size_of None = Some sizes.B512
+size_of (Some word) = if bytes_eq word (codes "4096") then Some sizes.B4096 else None
+
+-- the line of the log disk that these words say: its sectors and the size of the log's sectors
+abbrev pub log_of : List ℕ → Option HeadLine
+log_of words = do
+  sectors ← number_of (before_byte 32 words)
+  size ← size_of (after_byte 32 words)
+  Some (head_lines.Log sectors size)
+
+-- what a line of the head says, of this first word, whose other words are these
+abbrev pub head_words : List ℕ → List ℕ → Option HeadLine
+head_words verb words =
+    if bytes_eq verb (codes "data") then option_map head_lines.Data (number_of words)
+    else if bytes_eq verb (codes "log") then log_of words
+    else if bytes_eq verb (codes "data-layer") then Some (layer_of disks.Data words)
+    else if bytes_eq verb (codes "log-layer") then Some (layer_of disks.Log words)
+    else None
+
+-- what a line of this first word says, whose other words are these
+abbrev pub parse_words : List ℕ → List ℕ → Option LineMeaning
+parse_words verb words =
+    option_or (option_map parsed_lines.Head (head_words verb words)) (body_words verb words)
+
+-- the words of a text, which stand behind one space each but for the first
+abbrev pub split_words : List ℕ → List (List ℕ)
+split_words bytes = slice_split (λ byte. byte == 32) bytes
+
+-- a number before others
+abbrev pub with_number : Option ℕ → Option (List ℕ) → Option (List ℕ)
+with_number (Some n) (Some ns) = Some (n ∷ ns)
+with_number (Some n) None = None
+with_number None ns = None
+
+-- the numbers that words are, if each is one
+abbrev pub numbers_of : List (List ℕ) → Option (List ℕ)
+numbers_of [] = Some []
+numbers_of (word ∷ words) = with_number (number_of word) (numbers_of words)
+
+-- the picks that these words say, if there are any
+abbrev pub picks_of : Option (List ℕ) → Option (List ℕ)
+picks_of None = Some []
+picks_of (Some words) = numbers_of (split_words words)
+
+-- the mark of this text, where a space stands behind the first word
+abbrev pub mark_of : Option (List ℕ) → Option LineMeaning
+mark_of None = None
+mark_of (Some text) = if is_line_text text then Some (step (steps.Mark text)) else None
+
+-- the disk that a word names
+abbrev pub disk_of_word : List ℕ → Option DiskName
+disk_of_word word =
+    if bytes_eq word (codes "data") then Some disks.Data
+    else if bytes_eq word (codes "log") then Some disks.Log
+    else None
+
+-- the message to a layer of this disk that these words say:
+-- the layer's number, and behind one space the text
+abbrev pub message_to : DiskName → List ℕ → Option LineMeaning
+message_to over words = do
+  layer ← number_of (before_byte 32 words)
+  text ← after_byte 32 words
+  if is_line_text text then Some (step (steps.Message over layer text)) else None
+
+-- the message that these words say, if there are any: its disk, and the others
+abbrev pub message_of : Option (List ℕ) → Option LineMeaning
+message_of None = None
+message_of (Some words) = do
+  over ← disk_of_word (before_byte 32 words)
+  from_layer ← after_byte 32 words
+  message_to over from_layer
+
+-- what a line of this first word says that is no crash, no mark and no message, whose other words
+-- are these, if it has any
+abbrev pub plain_parts : List ℕ → Option (List ℕ) → Option LineMeaning
+plain_parts verb (Some words) = parse_words verb words
+plain_parts verb None = lone_word verb
+
+-- what a line of this first word says, whose other words are these, if it has any
+abbrev pub parse_parts : List ℕ → Option (List ℕ) → Option LineMeaning
+parse_parts verb words =
+    if bytes_eq verb (codes "crash") then option_map (λ picks. parsed_lines.Crash picks)
+    (picks_of words)
+    else if bytes_eq verb (codes "mark") then mark_of words
+    else if bytes_eq verb (codes "message") then message_of words
+    else plain_parts verb words
+
+-- what a line says, if it is of the grammar
+abbrev pub parse_line : List ℕ → Option LineMeaning
+parse_line line = parse_parts (before_byte 32 line) (after_byte 32 line)

@@ -1,0 +1,170 @@
+-- The steps of the reader over lines. `Grammar` and
+-- `FirstFault` say in the grammar's words what they come to.
+-- Its own crate alone cites it.
+use Rattle.std.specs.Prelude.{◌≡◌, ℕ, ◌+◌, Bool, true, false, not, List, [], ◌∷◌, Option, Some}
+use Rattle.std.specs.Prelude.{None, Result, Ok, Err, if◌then◌else◌}
+use Rattle.bio.specs.Sizes.{bytes_of}
+use Rattle.refusals.specs.declared.refusal.Refusal.{Refusal}
+use Rattle.refusals.specs.declared.refusal.Refusal.TheVariants.{BadLine, Memory}
+use Rattle.dmlw_script.specs.declared.command.Command.{Command}
+use Rattle.dmlw_script.specs.declared.reader.Reader.{Reader}
+use Rattle.dmlw_script.specs.LineMeaning.{LineMeaning}
+use Rattle.dmlw_script.specs.LineMeaning as parsed_lines
+use Rattle.dmlw_script.specs.declared.line.BodyLine.{BodyLine}
+use Rattle.dmlw_script.specs.inside.Stages.{Stage}
+use Rattle.dmlw_script.specs.inside.Stages as heads
+use Rattle.dmlw_script.specs.inside.Drafts.{◌>>=◌, Body, body_of, body_step, IsDraft}
+use Rattle.refusals.specs.declared.fault.Fault.{Fault}
+use Rattle.dmlw_script.specs.declared.line_error.LineError.{LineError}
+use Rattle.dmlw_script.specs.declared.line_error.LineError.TheVariants as line_errors
+use Rattle.dmlw_script.specs.Lines.{is_ascii_line, is_skipped, lines_of}
+use Rattle.dmlw_script.specs.Plans.{top_of, ScriptValue}
+use Rattle.dmlw_script.specs.inside.Heads.{head_step, stage_of}
+use Rattle.dmlw_script.specs.inside.LineParser.{parse_line}
+
+-- a script, as far as it was read
+pub record Progress : Type 0 where
+  pub head : Stage
+  pub body : Body
+
+-- what a reader has read
+abbrev pub progress_of : Reader → Progress
+progress_of r = record { head = stage_of r.picks.items r.head; body = body_of r.draft }
+
+-- a reader's draft is one
+abbrev pub IsReader : Reader → Type 0
+IsReader r = IsDraft r.draft
+
+-- whether a body has begun
+abbrev pub has_begun : List Command → Bool
+has_begun [] = false
+has_begun (command ∷ body) = true
+
+-- the head after one more line
+abbrev pub with_head : Progress → Result Stage Refusal → Result Progress Refusal
+with_head p read = read >>= λ head. Ok (record p { head = head })
+
+-- the body after one more line
+abbrev pub with_body : Progress → Result Body Refusal → Result Progress Refusal
+with_body p read = read >>= λ body. Ok (record p { body = body })
+
+-- one more line of the body, which comes after a whole head
+abbrev pub body_line : Stage → Progress → BodyLine → Result Progress Refusal
+body_line (heads.Whole data_disk log_disk log_size) p line =
+    with_body p (body_step (bytes_of log_size) (top_of data_disk) p.body line)
+body_line _ p line = Err BadLine
+
+-- a crash, which comes after a whole head
+abbrev pub crash_line : Stage → Progress → List ℕ → Result Progress Refusal
+crash_line (heads.Whole data_disk log_disk log_size) p picks =
+    Ok (record p { head = heads.Ended data_disk log_disk log_size picks })
+crash_line _ p picks = Err BadLine
+
+-- one more line that is none to skip
+abbrev pub parsed_step : Progress → LineMeaning → Result Progress Refusal
+parsed_step p (parsed_lines.Head line) = with_head p (head_step p.head (has_begun p.body.body) line)
+parsed_step p (parsed_lines.Body line) = body_line p.head p line
+parsed_step p (parsed_lines.Crash picks) = crash_line p.head p picks
+
+-- one more line that isn't skipped, which must say something
+abbrev pub step_if : {S W : Type 0} → (S → W → Result S Refusal) → S → Option W → Result S Refusal
+step_if step s None = Err BadLine
+step_if step s (Some said) = step s said
+
+-- one more line, of which this is heard and then this step taken
+abbrev pub line_by : {S W : Type 0} → (List ℕ → Option W) → (S → W → Result S Refusal) → S → List ℕ
+    → Result S Refusal
+line_by parse step s line =
+    if not (is_ascii_line line) then Err BadLine
+    else if is_skipped line then Ok s
+    else step_if step s (parse line)
+
+-- one more line of a recorder's script that isn't skipped
+abbrev pub step_if_parsed : Progress → Option LineMeaning → Result Progress Refusal
+step_if_parsed p said = step_if parsed_step p said
+
+-- one more line of it
+abbrev pub line_step : Progress → List ℕ → Result Progress Refusal
+line_step p line = line_by parse_line parsed_step p line
+
+-- the text ends here: a whole head stands before it
+abbrev pub finished : Stage → Body → Result ScriptValue Refusal
+finished (heads.Whole data_disk log_disk log_size) body =
+    Ok (record {
+      data_disk = data_disk;
+      log_disk = log_disk;
+      log_size = log_size;
+      names = body.names;
+      commands = body.body;
+      ending = None;
+    })
+finished (heads.Ended data_disk log_disk log_size picks) body =
+    Ok (record {
+      data_disk = data_disk;
+      log_disk = log_disk;
+      log_size = log_size;
+      names = body.names;
+      commands = body.body;
+      ending = Some picks;
+    })
+finished _ body = Err BadLine
+
+-- the end of the text, after what was read
+abbrev pub finish_step : Progress → Result ScriptValue Refusal
+finish_step p = finished p.head p.body
+
+-- the answer to the line of this number
+abbrev pub at_line : {A : Type 0} → ℕ → Result A Refusal → Result A Fault
+at_line number (Ok x) = Ok x
+at_line number (Err refusal) = Err (record { line = Some number; refusal = refusal })
+
+-- goes on with a value that is there
+abbrev pub and_then : {A B : Type 0} → Result A Fault → (A → Result B Fault) → Result B Fault
+and_then (Ok x) f = f x
+and_then (Err fault) f = Err fault
+
+-- what is read of these lines, the first of which has this number, by this step for a line and this
+-- one for the end of the text
+abbrev pub read_by : {S A : Type 0} → (S → List ℕ → Result S Refusal) → (S → Result A Refusal) → S
+    → ℕ → List (List ℕ) → Result A Fault
+read_by step finish s number [] = at_line number (finish s)
+read_by step finish s number (line ∷ lines) =
+    and_then (at_line number (step s line)) (λ t. read_by step finish t (number + 1) lines)
+
+-- what is read of these lines, the first of which has this number
+abbrev pub read_lines : Progress → ℕ → List (List ℕ) → Result ScriptValue Fault
+read_lines p number lines = read_by line_step finish_step p number lines
+
+-- nothing was read
+abbrev pub nothing : Progress
+nothing = record { head = heads.Empty; body = record { names = []; body = [] } }
+
+-- what is read of a text
+abbrev pub read_text : List ℕ → Result ScriptValue Fault
+read_text text = read_lines nothing 1 (lines_of text)
+
+-- a fault with a line is what is read, and one with none is that memory ran out
+abbrev pub IsFault : {A : Type 0} → Option ℕ → Fault → Result A Fault → Type 0
+IsFault (Some line) fault read = read ≡ Err fault
+IsFault None fault read = fault.refusal ≡ Memory
+
+-- what a reader answers, where this is read of its text: the same, unless memory ran out
+abbrev pub Reads : {A : Type 0} → Result A Fault → Result A Fault → Type 0
+Reads (Ok script) read = read ≡ Ok script
+Reads (Err fault) read = IsFault fault.line fault read
+
+-- what the end of a text answers, where a step says this
+abbrev pub Finishes : {A : Type 0} → Result A LineError → Result A Refusal → Type 0
+Finishes (Ok script) step = step ≡ Ok script
+Finishes (Err (line_errors.Refused refusal)) step = step ≡ Err refusal
+Finishes (Err line_errors.Memory) step = Unit {0}
+
+-- the fault that a line's end of reading is shown by
+abbrev pub fault_of : ℕ → LineError → Fault
+fault_of line (line_errors.Refused refusal) = record { line = Some line; refusal = refusal }
+fault_of line line_errors.Memory = record { line = None; refusal = Memory }
+
+-- no picks are read: by a bad line, or memory ran out
+abbrev pub HasNoPicks : LineError → Option (List ℕ) → Type 0
+HasNoPicks (line_errors.Refused refusal) read = (refusal ≡ BadLine) × (read ≡ None)
+HasNoPicks line_errors.Memory read = Unit {0}

@@ -1,0 +1,108 @@
+-- The steps of the reader of a run's script over lines. `RunGrammar` and `RunFirstFault` say in the
+-- grammar's words what they come to.
+-- Its own crate alone cites it.
+use Rattle.std.specs.Prelude.{ℕ, ◌&&◌, Bool, true, false, List, [], ◌∷◌, ◌++◌, Option, Some, None}
+use Rattle.std.specs.Prelude.{Result, Ok, Err, nat_le, nat_lt, if◌then◌else◌}
+use Rattle.bio.specs.Sizes.{bytes_of}
+use Rattle.refusals.specs.declared.fault.Fault.{Fault}
+use Rattle.refusals.specs.declared.refusal.Refusal.{Refusal}
+use Rattle.refusals.specs.declared.refusal.Refusal.TheVariants.{BadLine}
+use Rattle.dmlw_script.specs.declared.line.HeadLine.{HeadLine}
+use Rattle.dmlw_script.specs.declared.run_line.RunLine.{RunLine}
+use Rattle.dmlw_script.specs.declared.run_line.RunLine.TheVariants as run_lines
+use Rattle.dmlw_script.specs.declared.run_reader.RunReader.{RunReader}
+use Rattle.dmlw_script.specs.declared.seat_call.SeatCall.{SeatCall}
+use Rattle.dmlw_script.specs.Lines.{lines_of}
+use Rattle.dmlw_script.specs.Plans.{top_of}
+use Rattle.dmlw_script.specs.RunPlans.{call_answer, RunPlan}
+use Rattle.dmlw_script.specs.inside.Drafts.{◌>>=◌, as_refusal}
+use Rattle.dmlw_script.specs.inside.Heads.{head_step, stage_of}
+use Rattle.dmlw_script.specs.inside.Readers.{line_by, read_by}
+use Rattle.dmlw_script.specs.inside.RunLineParser.{parse_run_line}
+use Rattle.dmlw_script.specs.inside.Stages.{Stage}
+use Rattle.dmlw_script.specs.inside.Stages as heads
+
+-- a run's script, as far as it was read: its head, the number
+-- of its seats, if that was read, and the lines of its body
+pub record RunProgress : Type 0 where
+  pub head : Stage
+  pub seats : Option ℕ
+  pub calls : List SeatCall
+
+-- what a reader has read
+abbrev pub run_progress : RunReader → RunProgress
+run_progress r = record { head = stage_of [] r.head; seats = r.seats; calls = r.calls.items }
+
+-- no layer may come: the number of seats wasn't read yet, or the body has begun
+abbrev pub is_closed : Option ℕ → List SeatCall → Bool
+is_closed None calls = true
+is_closed (Some seats) [] = false
+is_closed (Some seats) (call ∷ calls) = true
+
+-- the head after one more line
+abbrev pub with_run_head : RunProgress → Result Stage Refusal → Result RunProgress Refusal
+with_run_head p read = read >>= λ head. Ok (record p { head = head })
+
+-- one more line of the head that isn't the number of seats
+abbrev pub run_head_step : RunProgress → HeadLine → Result RunProgress Refusal
+run_head_step p line = with_run_head p (head_step p.head (is_closed p.seats p.calls) line)
+
+-- a script may have so many seats
+abbrev pub is_seat_count : ℕ → Bool
+is_seat_count count = nat_le 1 count && nat_le count 64
+
+-- the number of seats, which comes once, behind both disks
+abbrev pub seats_line : Stage → Option ℕ → RunProgress → ℕ → Result RunProgress Refusal
+seats_line (heads.Whole data_disk log_disk log_size) None p count =
+    if is_seat_count count then Ok (record p { seats = Some count }) else Err BadLine
+seats_line _ _ p count = Err BadLine
+
+-- the body after one more line, of which a test of sectors answers this
+abbrev pub with_call : RunProgress → SeatCall → Result (Unit {0}) Refusal
+    → Result RunProgress Refusal
+with_call p line test = test >>= λ fine. Ok (record p { calls = p.calls ++ line ∷ [] })
+
+-- one more line of the body, which comes behind the number of seats and is of one of them
+abbrev pub call_line : Stage → Option ℕ → RunProgress → SeatCall → Result RunProgress Refusal
+call_line (heads.Whole data_disk log_disk log_size) (Some seats) p line =
+    if nat_lt line.seat seats then with_call p line
+    (as_refusal (call_answer (bytes_of log_size) (top_of data_disk) line.call)) else Err BadLine
+call_line _ _ p line = Err BadLine
+
+-- one more line that is none to skip
+abbrev pub said_step : RunProgress → RunLine → Result RunProgress Refusal
+said_step p (run_lines.Head line) = run_head_step p line
+said_step p (run_lines.Seats count) = seats_line p.head p.seats p count
+said_step p (run_lines.Body line) = call_line p.head p.seats p line
+
+-- one more line
+abbrev pub run_line_step : RunProgress → List ℕ → Result RunProgress Refusal
+run_line_step p line = line_by parse_run_line said_step p line
+
+-- the text ends here: both disks and the number of seats stand before it
+abbrev pub finished_run : Stage → Option ℕ → List SeatCall → Result RunPlan Refusal
+finished_run (heads.Whole data_disk log_disk log_size) (Some seats) calls =
+    Ok (record {
+      data_disk = data_disk;
+      log_disk = log_disk;
+      log_size = log_size;
+      seats = seats;
+      calls = calls;
+    })
+finished_run _ _ calls = Err BadLine
+
+-- the end of the text, after what was read
+abbrev pub run_finish_step : RunProgress → Result RunPlan Refusal
+run_finish_step p = finished_run p.head p.seats p.calls
+
+-- nothing was read
+abbrev pub nothing_read : RunProgress
+nothing_read = record { head = heads.Empty; seats = None; calls = [] }
+
+-- what is read of these lines, the first of which has this number
+abbrev pub read_run_lines : RunProgress → ℕ → List (List ℕ) → Result RunPlan Fault
+read_run_lines p number lines = read_by run_line_step run_finish_step p number lines
+
+-- what is read of a text
+abbrev pub read_run_text : List ℕ → Result RunPlan Fault
+read_run_text text = read_run_lines nothing_read 1 (lines_of text)

@@ -1,0 +1,71 @@
+//! A disk of a script: its sectors, and the layers over it.
+//! Its clauses are written in specs/FirstFault and specs/Plans; its theorems in proofs/disk/.
+ghost use Rattle.std.specs.Prelude.{◌≡◌, OnOk};
+ghost use Rattle.dmlw_script.specs.Plans.{top_of};
+ghost use Rattle.dmlw_script.specs.FirstFault.{bare, with_layer};
+
+use std::alloc::{AllocError, Global};
+use std::marker::Model;
+use table_line::LayerSpec;
+
+/// A disk of a script: its sectors of 512 bytes, and the layers over it, from the lowest up.
+/// Contracts see it as a `Disk` (`specs/Plans`).
+#[derive(Debug, Drop)]
+pub struct DiskSpec {
+    sectors: u64,
+    layers: Vec<LayerSpec>,
+}
+
+impl Model for DiskSpec {
+    ghost use Rattle.dmlw_script.specs.Plans.{Disk};
+
+    ghost Value = { Disk };
+
+    ghost view = { λ disk. record { sectors = disk.sectors; layers = disk.layers.items } };
+}
+
+impl DiskSpec {
+    /// A disk of so many sectors, with no layers.
+    pub(crate) fn new(alloc: Global, sectors: u64) -> DiskSpec
+        ensures { result ≡ bare sectors }
+    {
+        DiskSpec {
+            sectors,
+            layers: Vec::new(alloc),
+        }
+    }
+
+    /// The disk's own sectors. In a script 1 to 1,048,576.
+    pub fn sectors(&self) -> u64
+        ensures { result ≡ self.now.sectors }
+    {
+        self.sectors
+    }
+
+    /// The layers over it, from the lowest up. In a script
+    /// at most four, each within what stands beneath it.
+    pub fn layers(&self) -> &[LayerSpec]
+        ensures { result.now ≡ self.now.layers }
+    {
+        self.layers.as_slice()
+    }
+
+    /// The sectors of what stands on top: the length of the
+    /// uppermost layer, or the disk's own sectors.
+    pub fn top_sectors(&self) -> u64
+        ensures { result ≡ top_of self.now }
+    {
+        match self.layers().last() {
+            Some(layer) => layer.length,
+            None => self.sectors,
+        }
+    }
+
+    /// Puts one more layer on top.
+    pub(crate) fn push(&mut self, layer: LayerSpec) -> Result<(), AllocError>
+        ensures { OnOk result (self.new ≡ with_layer self.old layer) }
+    {
+        self.layers.push(layer)?;
+        Ok(())
+    }
+}

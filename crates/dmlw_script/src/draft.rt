@@ -1,0 +1,240 @@
+//! The body of a script, line by line: which requests were submitted and which of them are open.
+//! Its clauses are written in specs/Plans and specs/inside/Drafts; its theorems in proofs/draft/.
+ghost use Rattle.std.specs.Prelude.{◌≡◌, ◌<◌, ℕ, [], Ok, OnOk, false, length, option_map};
+ghost use Rattle.bio.specs.Sizes.{bytes_of};
+ghost use Rattle.dmlw_script.specs.Plans.{moment_at, range_test, submission_answer};
+ghost use Rattle.dmlw_script.specs.inside.Drafts.{as_refusal, step_test, Follows};
+
+use crate::command::{Command, Step, Submission};
+use crate::disk::DiskSpec;
+use crate::line::BodyLine;
+use crate::line_error::LineError;
+use crate::script::Script;
+use crate::script_id::ScriptId;
+use bio::{BadBio, Bio, Ms, SectorSize, check_sized};
+use indexmap::IndexSet;
+use refusals::Refusal;
+use std::alloc::Global;
+
+/// The body of a script, as far as it was read.
+#[derive(Drop)]
+pub(crate) struct BodyReader {
+    /// The ids that were submitted, in order.
+    pub(crate) names: IndexSet<ScriptId>,
+    // For each of them, whether its request has ended.
+    has_ended: Vec<bool>,
+    pub(crate) commands: Vec<Command>,
+    // The moment after them.
+    moment: Ms,
+}
+
+impl BodyReader {
+    ghost use Rattle.dmlw_script.specs.inside.Drafts.{body_of, body_step, with_command};
+    ghost use Rattle.dmlw_script.specs.inside.Drafts.{with_name};
+    ghost use Rattle.dmlw_script.specs.inside.Drafts.{IsDraft};
+    ghost use Rattle.dmlw_script.specs.Plans.{is_end_of, IsPlan};
+
+    pub(crate) fn new(alloc: Global) -> BodyReader
+        ensures draft { IsDraft result }
+        ensures empty { body_of result ≡ record { names = []; body = [] } }
+    {
+        BodyReader {
+            names: IndexSet::new(alloc),
+            has_ended: Vec::new(alloc),
+            commands: Vec::new(alloc),
+            moment: Ms::new(0),
+        }
+    }
+
+    /// Reads the next line, for a data disk of so many sectors and a log of such sectors.
+    pub(crate) fn read(
+        &mut self,
+        parsed: BodyLine,
+        sectors: u64,
+        log_size: SectorSize,
+    ) -> Result<(), LineError>
+        requires { IsDraft self.old }
+        ensures draft { OnOk result (IsDraft self.new) }
+        ensures step { Follows result (body_of self.new)
+            (body_step (bytes_of log_size) sectors (body_of self.old) parsed) }
+    {
+        match parsed {
+            BodyLine::Submit { name, submission } => {
+                self.submit(name, submission, sectors, log_size)
+            }
+            BodyLine::Complete { name } => self.complete(name),
+            BodyLine::Step(step) => self.step(step, sectors, log_size),
+        }
+    }
+
+    // A request is submitted.
+    fn submit(
+        &mut self,
+        name: ScriptId,
+        submission: Submission,
+        sectors: u64,
+        log_size: SectorSize,
+    ) -> Result<(), LineError>
+        requires { IsDraft self.old }
+        ensures draft { OnOk result (IsDraft self.new) }
+        ensures step { Follows result (body_of self.new)
+            (body_step (bytes_of log_size) sectors (body_of self.old)
+            (BodyLine.Submit name submission)) }
+    {
+        self.name_next(name)?;
+        check_submission(submission, sectors, log_size)?;
+        self.say(Command::Submit(submission))
+    }
+
+    // A request ends.
+    fn complete(&mut self, name: ScriptId) -> Result<(), LineError>
+        requires { IsDraft self.old }
+        ensures draft { OnOk result (IsDraft self.new) }
+        ensures step { Follows result (body_of self.new)
+            (body_step 0 0 (body_of self.old) (BodyLine.Complete name)) }
+    {
+        let request = self.names.get_index_of(&name).ok_or(Refusal::BadId)?;
+        if self.has_ended[request] {
+            return Err(LineError::Refused(Refusal::BadId));
+        }
+        self.end(request)
+    }
+
+    // A line that names no request.
+    fn step(&mut self, step: Step, sectors: u64, log_size: SectorSize) -> Result<(), LineError>
+        requires { IsDraft self.old }
+        ensures draft { OnOk result (IsDraft self.new) }
+        ensures step { Follows result (body_of self.new)
+            (body_step (bytes_of log_size) sectors (body_of self.old) (BodyLine.Step step)) }
+    {
+        check_step(&step, sectors, log_size, self.moment)?;
+        self.say(Command::Step(step))
+    }
+
+    /// The script over these disks, with a log of such sectors,
+    /// and the picks of the crash that ends it, if one does.
+    pub(crate) fn into_script(
+        self,
+        data_disk: DiskSpec,
+        log_disk: DiskSpec,
+        log_size: SectorSize,
+        ending: Option<Vec<u64>>,
+    ) -> Script
+        requires { IsPlan (record {
+          data_disk = data_disk;
+          log_disk = log_disk;
+          log_size = log_size;
+          names = (body_of self).names;
+          commands = (body_of self).body;
+          ending = option_map (λ picks. picks.items) ending;
+        }) }
+        ensures { result ≡ record {
+          data_disk = data_disk;
+          log_disk = log_disk;
+          log_size = log_size;
+          names = (body_of self).names;
+          commands = (body_of self).body;
+          ending = option_map (λ picks. picks.items) ending;
+        } }
+    {
+        let BodyReader {
+            names,
+            has_ended: _,
+            commands,
+            moment: _,
+        } = self;
+        Script::new(data_disk, log_disk, log_size, names, commands, ending)
+    }
+
+    // The next request has this id.
+    fn name_next(&mut self, name: ScriptId) -> Result<(), LineError>
+        requires { IsDraft self.old }
+        ensures draft { OnOk result (IsDraft self.new) }
+        ensures step { Follows result (body_of self.new) (with_name (body_of self.old) name) }
+    {
+        if !self.names.insert(name)? {
+            return Err(LineError::Refused(Refusal::BadId));
+        }
+        self.has_ended.push(false)?;
+        Ok(())
+    }
+
+    // The next line of the body, which ends no request.
+    fn say(&mut self, command: Command) -> Result<(), LineError>
+        requires draft { IsDraft self.old }
+        requires no_end { (request : ℕ) → is_end_of request command ≡ false }
+        ensures draft { OnOk result (IsDraft self.new) }
+        ensures step { Follows result (body_of self.new)
+            (Ok (with_command (body_of self.old) command)) }
+    {
+        let moment = moment_after(self.moment, &command);
+        self.commands.push(command)?;
+        self.moment = moment;
+        Ok(())
+    }
+
+    // The next line of the body, which ends this request.
+    fn end(&mut self, request: usize) -> Result<(), LineError>
+        requires draft { IsDraft self.old }
+        requires within { request < length self.old.names.keys }
+        ensures draft { OnOk result (IsDraft self.new) }
+        ensures step { Follows result (body_of self.new)
+            (Ok (with_command (body_of self.old) (Command.Complete request))) }
+    {
+        self.commands.push(Command::Complete { request })?;
+        self.has_ended[request] = true;
+        Ok(())
+    }
+}
+
+/// What is asked of the sectors that a submission covers,
+/// on a disk of so many, with a log of such sectors.
+pub(crate) fn check_submission(
+    submission: Submission,
+    sectors: u64,
+    log_size: SectorSize,
+) -> Result<(), LineError>
+    ensures { Follows result tt
+        (as_refusal (submission_answer (bytes_of log_size) sectors submission)) }
+{
+    match submission {
+        Submission::Write { first, count, .. } | Submission::Discard { first, count } => {
+            Ok(check_range(first, count, sectors, log_size)?)
+        }
+        Submission::Flush => Ok(()),
+    }
+}
+
+// What is asked of `count` sectors from sector `first` on,
+// on a disk of so many, with a log of such sectors.
+fn check_range(first: u64, count: u64, sectors: u64, log_size: SectorSize) -> Result<(), BadBio>
+    ensures { result ≡ range_test (bytes_of log_size) sectors first count }
+{
+    check_sized(&Bio::Read { first, count }, sectors, log_size)
+}
+
+// What is asked of a line that names no request, at this
+// moment: no less of an `at`, and the same of sectors.
+fn check_step(step: &Step, sectors: u64, log_size: SectorSize, moment: Ms) -> Result<(), LineError>
+    ensures { Follows result tt (step_test (bytes_of log_size) sectors moment step.now) }
+{
+    match step {
+        Step::Read { first, count } => Ok(check_range(*first, *count, sectors, log_size)?),
+        Step::At { moment: later } if later.milliseconds() < moment.milliseconds() => {
+            Err(LineError::Refused(Refusal::BadLine))
+        }
+        Step::Close | Step::Turn | Step::Mark { .. } | Step::At { .. } | Step::Message { .. } => Ok(
+            (),
+        ),
+    }
+}
+
+// The moment after a command, before which it was this.
+fn moment_after(moment: Ms, command: &Command) -> Ms
+    ensures { result ≡ moment_at moment command.now }
+{
+    match command {
+        Command::Step(Step::At { moment: later }) => *later,
+        Command::Submit(_) | Command::Complete { .. } | Command::Step(_) => moment,
+    }
+}

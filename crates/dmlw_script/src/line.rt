@@ -1,0 +1,281 @@
+//! What a line of a script says by its words alone, whatever stands before it.
+//! Its clauses are written in specs/; its theorems in proofs/line/.
+ghost use Rattle.std.specs.Prelude.{◌≡◌, option_copied, option_map};
+ghost use Rattle.dmlw_script.specs.LineMeaning.{as_said};
+ghost use Rattle.dmlw_script.specs.Lines.{is_line_byte as is_a_line_byte};
+ghost use Rattle.dmlw_script.specs.Lines.{is_line_text as is_a_line_text};
+ghost use Rattle.dmlw_script.specs.inside.LineParser.{body_words, discard_of as the_discard};
+ghost use Rattle.dmlw_script.specs.inside.LineParser.{discard_words as the_discard_words};
+ghost use Rattle.dmlw_script.specs.inside.LineParser.{disk_of_word, head_words as the_head};
+ghost use Rattle.dmlw_script.specs.inside.LineParser.{layer_of as the_layer, log_of as the_log};
+ghost use Rattle.dmlw_script.specs.inside.LineParser.{lone_word, message_of as the_message};
+ghost use Rattle.dmlw_script.specs.inside.LineParser.{parse_words, plain_parts};
+ghost use Rattle.dmlw_script.specs.inside.LineParser.{read_of as the_read};
+ghost use Rattle.dmlw_script.specs.inside.LineParser.{sectors_of as the_sectors};
+ghost use Rattle.dmlw_script.specs.inside.LineParser.{size_of as the_size};
+ghost use Rattle.dmlw_script.specs.inside.LineParser.{step, write_of as the_write};
+ghost use Rattle.dmlw_script.specs.inside.LineParser.{write_words as the_write_words};
+
+use crate::command::{Step, Submission};
+use crate::disk_name::DiskName;
+use crate::options::options_of;
+use crate::script_id::ScriptId;
+use crate::values::byte_of;
+use bio::{Ms, SectorSize};
+use refusals::{cut, number_of};
+use table_line::{LayerSpec, TableError, parse_line};
+
+/// What a line that is no crash says by its words alone.
+#[derive(Drop)]
+pub(crate) enum Line {
+    /// A line of the head.
+    Head(HeadLine),
+    /// A line of the body.
+    Body(BodyLine),
+}
+
+/// What a line of a head says.
+#[derive(Clone, Copy)]
+pub(crate) enum HeadLine {
+    /// `data <sectors>`
+    Data {
+        sectors: u64,
+    },
+    /// `log <sectors> [4096]`
+    Log {
+        sectors: u64,
+        size: SectorSize,
+    },
+    /// `data-layer <table line>`, or `log-layer <table line>`:
+    /// the layer that is asked for, or why none is
+    Layer {
+        over: DiskName,
+        asked: Result<LayerSpec, TableError>,
+    },
+}
+
+/// What a line of a body says.
+#[derive(Drop)]
+pub(crate) enum BodyLine {
+    /// `w <id> <first> <count> <byte> [flush] [fua] [meta]`, `f <id>`, or `d <id> <first> <count>`
+    Submit {
+        name: ScriptId,
+        submission: Submission,
+    },
+    /// `c <id>`
+    Complete {
+        name: ScriptId,
+    },
+    /// `close`, `r <first> <count>`, `turn`, `mark <text>`,
+    /// `message data|log <layer> <text>`, or `at <ms>`
+    Step(Step),
+}
+
+/// What a line of this first word says that is no crash, no mark and no message, whose other words
+/// are these, if it is of the grammar.
+pub(crate) fn parse_parts(verb: &[u8], words: Option<&[u8]>) -> Option<Line>
+    ensures { option_map as_said result ≡ plain_parts verb.now (option_copied words.entry) }
+{
+    match words {
+        Some(words) => parse_words(verb, words),
+        None => lone_word(verb),
+    }
+}
+
+// What a line of this one word says.
+fn lone_word(verb: &[u8]) -> Option<Line>
+    ensures { option_map as_said result ≡ lone_word verb.now }
+{
+    match verb {
+        b"close" => Some(Line::Body(BodyLine::Step(Step::Close))),
+        b"turn" => Some(Line::Body(BodyLine::Step(Step::Turn))),
+        _ => None,
+    }
+}
+
+// What a line of this first word says, whose other words are these.
+fn parse_words(verb: &[u8], words: &[u8]) -> Option<Line>
+    ensures { option_map as_said result ≡ parse_words verb.now words.now }
+{
+    match head_words(verb, words) {
+        Some(line) => Some(Line::Head(line)),
+        None => body_words(verb, words),
+    }
+}
+
+/// What a line of the head says, of this first word, whose
+/// other words are these, if it is of the grammar.
+pub(crate) fn head_words(verb: &[u8], words: &[u8]) -> Option<HeadLine>
+    ensures { result ≡ the_head verb.now words.now }
+{
+    if verb == b"data".as_slice() {
+        Some(HeadLine::Data {
+            sectors: number_of(words)?,
+        })
+    } else if verb == b"log".as_slice() {
+        log_of(words)
+    } else if verb == b"data-layer".as_slice() {
+        Some(layer_of(DiskName::Data, words))
+    } else if verb == b"log-layer".as_slice() {
+        Some(layer_of(DiskName::Log, words))
+    } else {
+        None
+    }
+}
+
+// The line of the log disk whose sectors and whose log's sector size these words are.
+fn log_of(words: &[u8]) -> Option<HeadLine>
+    ensures { result ≡ the_log words.now }
+{
+    let (sectors, size) = cut(words, b' ');
+    Some(HeadLine::Log {
+        sectors: number_of(sectors)?,
+        size: size_of(size)?,
+    })
+}
+
+// The size of a log's sectors that a word says, or 512 bytes where there is none.
+fn size_of(word: Option<&[u8]>) -> Option<SectorSize>
+    ensures { result ≡ the_size (option_copied word.entry) }
+{
+    match word {
+        None => Some(SectorSize::B512),
+        Some(b"4096") => Some(SectorSize::B4096),
+        Some(_) => None,
+    }
+}
+
+// The line of a layer over this disk, whose table line is this.
+fn layer_of(over: DiskName, text: &[u8]) -> HeadLine
+    ensures { result ≡ the_layer over text.now }
+{
+    HeadLine::Layer {
+        over,
+        asked: parse_line(text),
+    }
+}
+
+// What a line of the body says, of this first word, whose other words are these.
+fn body_words(verb: &[u8], words: &[u8]) -> Option<Line>
+    ensures { option_map as_said result ≡ body_words verb.now words.now }
+{
+    match verb {
+        b"w" => write_of(words),
+        b"f" => Some(Line::Body(BodyLine::Submit {
+            name: ScriptId::of_word(words)?,
+            submission: Submission::Flush,
+        })),
+        b"d" => discard_of(words),
+        b"c" => Some(Line::Body(BodyLine::Complete {
+            name: ScriptId::of_word(words)?,
+        })),
+        b"r" => read_of(words),
+        b"at" => Some(Line::Body(BodyLine::Step(Step::At {
+            moment: Ms::new(number_of(words)?),
+        }))),
+        _ => None,
+    }
+}
+
+// The write whose id and whose other words these are.
+fn write_of(words: &[u8]) -> Option<Line>
+    ensures { option_map as_said result ≡ the_write words.now }
+{
+    let (name, rest) = cut(words, b' ');
+    Some(Line::Body(BodyLine::Submit {
+        name: ScriptId::of_word(name)?,
+        submission: write_words(rest?)?,
+    }))
+}
+
+/// The write whose first sector, number of sectors, byte
+/// and options these words are, if they are a write's.
+pub(crate) fn write_words(words: &[u8]) -> Option<Submission>
+    ensures { result ≡ the_write_words words.now }
+{
+    let (first, rest) = cut(words, b' ');
+    let (count, rest) = cut(rest?, b' ');
+    let (byte, options) = cut(rest?, b' ');
+    Some(Submission::Write {
+        first: number_of(first)?,
+        count: number_of(count)?,
+        byte: byte_of(byte)?,
+        options: options_of(options)?,
+    })
+}
+
+// The discard whose id and whose other words these are.
+fn discard_of(words: &[u8]) -> Option<Line>
+    ensures { option_map as_said result ≡ the_discard words.now }
+{
+    let (name, rest) = cut(words, b' ');
+    Some(Line::Body(BodyLine::Submit {
+        name: ScriptId::of_word(name)?,
+        submission: discard_words(rest?)?,
+    }))
+}
+
+/// The discard whose first sector and number of sectors these words are, if they are a discard's.
+pub(crate) fn discard_words(words: &[u8]) -> Option<Submission>
+    ensures { result ≡ the_discard_words words.now }
+{
+    let (first, count) = sectors_of(words)?;
+    Some(Submission::Discard { first, count })
+}
+
+// The read whose first sector and number of sectors these words are.
+fn read_of(words: &[u8]) -> Option<Line>
+    ensures { option_map as_said result ≡ the_read words.now }
+{
+    let (first, count) = sectors_of(words)?;
+    Some(Line::Body(BodyLine::Step(Step::Read { first, count })))
+}
+
+// The first sector and the number of sectors that these words are.
+fn sectors_of(words: &[u8]) -> Option<(u64, u64)>
+    ensures { result ≡ the_sectors words.now }
+{
+    let (first, count) = cut(words, b' ');
+    Some((number_of(first)?, number_of(count?)?))
+}
+
+/// What a message says, whose other words these are, if it
+/// is of the grammar: its disk, its layer and its text.
+pub(crate) fn message_of(words: Option<&[u8]>) -> Option<(DiskName, u64, &[u8])>
+    ensures { option_map (λ message. step (Step.Message message.0 message.1 message.2.now)) result
+        ≡ the_message (option_copied words.entry) }
+{
+    let (disk, rest) = cut(words?, b' ');
+    let over = disk_of(disk)?;
+    let (layer, text) = cut(rest?, b' ');
+    let layer = number_of(layer)?;
+    match text {
+        Some(text) if is_line_text(text) => Some((over, layer, text)),
+        _ => None,
+    }
+}
+
+// The disk that a word names.
+fn disk_of(word: &[u8]) -> Option<DiskName>
+    ensures { result ≡ disk_of_word word.now }
+{
+    match word {
+        b"data" => Some(DiskName::Data),
+        b"log" => Some(DiskName::Log),
+        _ => None,
+    }
+}
+
+/// Whether each byte of a text may stand in a line.
+pub(crate) fn is_line_text(text: &[u8]) -> bool
+    ensures { result ≡ is_a_line_text text.now }
+{
+    text.iter().all(|byte| is_line_byte(*byte))
+}
+
+// Whether a byte may stand in a line: it is ASCII, and neither zero nor a line feed.
+fn is_line_byte(byte: u8) -> bool
+    ensures { result ≡ is_a_line_byte byte }
+{
+    0 < byte && byte < 128 && byte != b'\n'
+}

@@ -1,0 +1,61 @@
+//! Why reading a script ends at a line.
+//! Its clauses are in words of `bio` and `table_line`; the search alone proves it.
+ghost use Rattle.std.specs.Prelude.{◌≡◌};
+ghost use Rattle.dmlw_script.specs.declared.line_error.LineError.TheVariants.{Memory};
+ghost use Rattle.dmlw_script.specs.declared.line_error.LineError.TheVariants as line_errors;
+ghost use Rattle.bio.specs.Refusals.{bad_bio_refusal};
+ghost use Rattle.table_line.specs.Refusals.{table_refusal};
+
+use bio::BadBio;
+use refusals::Refusal;
+use std::alloc::{AllocError, AllocFailed};
+use table_line::TableError;
+
+/// Why reading ends at a line.
+#[derive(Clone, Copy)]
+pub(crate) enum LineError {
+    /// A growth was refused.
+    Memory,
+    /// The line is at fault.
+    Refused(Refusal),
+}
+
+impl<T: Drop> From<AllocFailed<T>> for LineError {
+    ghost from_gives = { λ _ stop. stop ≡ Memory };
+
+    fn from(_failed: AllocFailed<T>) -> LineError {
+        LineError::Memory
+    }
+}
+
+impl From<AllocError> for LineError {
+    ghost from_gives = { λ _ stop. stop ≡ Memory };
+
+    fn from(_error: AllocError) -> LineError {
+        LineError::Memory
+    }
+}
+
+impl From<Refusal> for LineError {
+    ghost from_gives = { λ refusal stop. stop ≡ line_errors.Refused refusal };
+
+    fn from(refusal: Refusal) -> LineError {
+        LineError::Refused(refusal)
+    }
+}
+
+impl From<BadBio> for LineError {
+    ghost from_gives = { λ bad stop. stop ≡ line_errors.Refused (bad_bio_refusal bad) };
+
+    fn from(bad: BadBio) -> LineError {
+        LineError::Refused(Refusal::from(bad))
+    }
+}
+
+impl From<TableError> for LineError {
+    ghost from_gives = { λ error stop. stop ≡ line_errors.Refused (table_refusal error) };
+
+    fn from(error: TableError) -> LineError {
+        LineError::Refused(Refusal::from(error))
+    }
+}

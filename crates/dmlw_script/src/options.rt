@@ -1,0 +1,37 @@
+//! The options of a write: flush, fua and meta, in this order.
+//! Its clauses are written in specs/inside/LineParser; the search alone proves it.
+ghost use Rattle.std.specs.Prelude.{◌≡◌, option_copied};
+ghost use Rattle.dmlw_script.specs.inside.LineParser.{options_of as the_options};
+ghost use Rattle.dmlw_script.specs.inside.LineParser.{take_word as the_taking};
+
+use crate::command::WriteOptions;
+use refusals::cut;
+
+/// The options that a write's last words are, if they are options in their order: flush, fua, meta.
+pub(crate) fn options_of(words: Option<&[u8]>) -> Option<WriteOptions>
+    ensures { result ≡ the_options (option_copied words.entry) }
+{
+    let (flush, rest) = take_word(words, b"flush");
+    let (fua, rest) = take_word(rest, b"fua");
+    let (meta, rest) = take_word(rest, b"meta");
+    match rest {
+        Some(_) => None,
+        None => Some(WriteOptions { flush, fua, meta }),
+    }
+}
+
+// Whether this word stands first among others, and what is left behind it.
+fn take_word<'a>(words: Option<&'a [u8]>, word: &[u8]) -> (bool, Option<&'a [u8]>)
+    ensures stands { result.0 ≡ (the_taking word.now (option_copied words.entry)).0 }
+    ensures left { option_copied result.1 ≡ (the_taking word.now (option_copied words.entry)).1 }
+{
+    let Some(text) = words else {
+        return (false, None);
+    };
+    let (first, rest) = cut(text, b' ');
+    if first == word {
+        (true, rest)
+    } else {
+        (false, words)
+    }
+}

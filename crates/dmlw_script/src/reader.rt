@@ -1,0 +1,354 @@
+//! Reads the text of a recorder's script: `read_script`
+//! gives the script, or the first line at fault.
+//! Its clauses are written in specs/; its theorems in proofs/reader/.
+ghost use Rattle.std.specs.Prelude.{◌≡◌, ◌<◌, ◌∷◌, [], None, IfErr, IfOk, MatchOption, OnOk};
+ghost use Rattle.std.specs.Prelude.{length, option_copied, option_map};
+ghost use Rattle.dmlw_script.specs.LineMeaning.{as_said};
+ghost use Rattle.dmlw_script.specs.LineMeaning as parsed_lines;
+ghost use Rattle.dmlw_script.specs.inside.LineParser.{mark_of, message_of as the_message};
+ghost use Rattle.dmlw_script.specs.inside.LineParser.{parse_parts};
+ghost use Rattle.dmlw_script.specs.inside.LineParser.{picks_of as the_picks, plain_parts};
+ghost use Rattle.dmlw_script.specs.Lines.{command_line, lines_of, is_ascii_line as is_plain_line};
+ghost use Rattle.dmlw_script.specs.Lines.{is_skipped as is_a_skipped_line};
+ghost use Rattle.dmlw_script.specs.Grammar.{IsTextOf};
+ghost use Rattle.dmlw_script.specs.Plans.{ScriptValue};
+ghost use Rattle.dmlw_script.specs.FirstFault.{IsFaultOf, IsReadAs};
+ghost use Rattle.dmlw_script.specs.inside.Readers.{fault_of, read_text, Reads};
+
+use crate::command::Step;
+use crate::draft::BodyReader;
+use crate::head::{Head, Part};
+use crate::line::{BodyLine, HeadLine, Line, is_line_text, message_of, parse_parts};
+use crate::line_error::LineError;
+use crate::script::Script;
+use crate::values::picks_of;
+use bio::Bytes;
+use refusals::{Fault, Refusal, cut};
+use std::alloc::{AllocError, Global};
+
+// A script, as far as it was read.
+#[derive(Drop)]
+struct Reader {
+    alloc: Global,
+    head: Head,
+    draft: BodyReader,
+    // The picks of the crash that ended the script, if one did.
+    picks: Vec<u64>,
+}
+
+impl Reader {
+    ghost use Rattle.dmlw_script.specs.inside.Drafts.{Follows};
+    ghost use Rattle.dmlw_script.specs.inside.Readers.{body_line, finish_step, has_begun};
+    ghost use Rattle.dmlw_script.specs.inside.Readers.{line_step, nothing, progress_of};
+    ghost use Rattle.dmlw_script.specs.inside.Readers.{parsed_step, step_if_parsed, with_head};
+    ghost use Rattle.dmlw_script.specs.inside.Readers.{Finishes, IsReader};
+    ghost use Rattle.dmlw_script.specs.inside.Heads.{head_step};
+    ghost use Rattle.dmlw_script.specs.Plans.{IsPlan};
+
+    fn new(alloc: Global) -> Reader
+        ensures reader { IsReader result }
+        ensures empty { progress_of result ≡ nothing }
+    {
+        Reader {
+            alloc,
+            head: Head::new(alloc),
+            draft: BodyReader::new(alloc),
+            picks: Vec::new(alloc),
+        }
+    }
+
+    // Reads the next line.
+    fn read_line(&mut self, line: &[u8]) -> Result<(), LineError>
+        requires { IsReader self.old }
+        ensures reader { OnOk result (IsReader self.new) }
+        ensures step { Follows result (progress_of self.new)
+            (line_step (progress_of self.old) line.now) }
+    {
+        if !is_ascii_line(line) {
+            return Err(LineError::Refused(Refusal::BadLine));
+        }
+        if is_skipped(line) {
+            return Ok(());
+        }
+        let (verb, words) = cut(line, b' ');
+        self.read_words(verb, words)
+    }
+
+    // Reads the next line that isn't skipped, of this first
+    // word, with its other words, if it has any.
+    fn read_words(&mut self, verb: &[u8], words: Option<&[u8]>) -> Result<(), LineError>
+        requires { IsReader self.old }
+        ensures reader { OnOk result (IsReader self.new) }
+        ensures step { Follows result (progress_of self.new)
+            (step_if_parsed (progress_of self.old)
+            (parse_parts verb.now (option_copied words.entry))) }
+    {
+        if verb == b"crash".as_slice() {
+            self.read_crash(words)
+        } else if verb == b"mark".as_slice() {
+            self.read_mark(words)
+        } else if verb == b"message".as_slice() {
+            self.read_message(words)
+        } else {
+            self.read_plain(verb, words)
+        }
+    }
+
+    // The same, where the first word is another.
+    fn read_plain(&mut self, verb: &[u8], words: Option<&[u8]>) -> Result<(), LineError>
+        requires { IsReader self.old }
+        ensures reader { OnOk result (IsReader self.new) }
+        ensures step { Follows result (progress_of self.new)
+            (step_if_parsed (progress_of self.old)
+            (plain_parts verb.now (option_copied words.entry))) }
+    {
+        let parsed = parse_parts(verb, words).ok_or(Refusal::BadLine)?;
+        self.read_parsed(parsed)
+    }
+
+    // Reads a crash, whose picks these words are.
+    fn read_crash(&mut self, words: Option<&[u8]>) -> Result<(), LineError>
+        requires { IsReader self.old }
+        ensures reader { OnOk result (IsReader self.new) }
+        ensures step { Follows result (progress_of self.new)
+            (step_if_parsed (progress_of self.old)
+            (option_map parsed_lines.Crash (the_picks (option_copied words.entry)))) }
+    {
+        let picks = picks_of(self.alloc, words)?;
+        self.end(picks)
+    }
+
+    // The script ends by a crash with these picks.
+    fn end(&mut self, picks: Vec<u64>) -> Result<(), LineError>
+        requires { IsReader self.old }
+        ensures reader { OnOk result (IsReader self.new) }
+        ensures step { Follows result (progress_of self.new)
+            (parsed_step (progress_of self.old) (parsed_lines.Crash picks.items)) }
+    {
+        let Part::Whole = self.head.part else {
+            return Err(LineError::Refused(Refusal::BadLine));
+        };
+        self.head.part = Part::Ended;
+        self.picks = picks;
+        Ok(())
+    }
+
+    // Reads a mark, whose text this is, if a space stands behind its first word.
+    fn read_mark(&mut self, text: Option<&[u8]>) -> Result<(), LineError>
+        requires { IsReader self.old }
+        ensures reader { OnOk result (IsReader self.new) }
+        ensures step { Follows result (progress_of self.new)
+            (step_if_parsed (progress_of self.old) (mark_of (option_copied text.entry))) }
+    {
+        match text {
+            Some(text) if is_line_text(text) => {
+                let text = shared_text(self.alloc, text)?;
+                self.read_parsed(Line::Body(BodyLine::Step(Step::Mark { text })))
+            }
+            _ => Err(LineError::Refused(Refusal::BadLine)),
+        }
+    }
+
+    // Reads a message, whose disk, layer and text these words are.
+    fn read_message(&mut self, words: Option<&[u8]>) -> Result<(), LineError>
+        requires { IsReader self.old }
+        ensures reader { OnOk result (IsReader self.new) }
+        ensures step { Follows result (progress_of self.new)
+            (step_if_parsed (progress_of self.old) (the_message (option_copied words.entry))) }
+    {
+        let (over, layer, text) = message_of(words).ok_or(Refusal::BadLine)?;
+        let shared = shared_text(self.alloc, text)?;
+        self.read_parsed(Line::Body(BodyLine::Step(Step::Message {
+            over,
+            layer,
+            text: shared,
+        })))
+    }
+
+    // Reads the next line that isn't skipped, and is no crash.
+    fn read_parsed(&mut self, parsed: Line) -> Result<(), LineError>
+        requires { IsReader self.old }
+        ensures reader { OnOk result (IsReader self.new) }
+        ensures step { Follows result (progress_of self.new)
+            (parsed_step (progress_of self.old) (as_said parsed)) }
+    {
+        match parsed {
+            Line::Head(line) => self.read_head(line),
+            Line::Body(line) => self.read_body(line),
+        }
+    }
+
+    // Reads the next line of the head.
+    fn read_head(&mut self, line: HeadLine) -> Result<(), LineError>
+        requires { IsReader self.old }
+        ensures reader { OnOk result (IsReader self.new) }
+        ensures step { Follows result (progress_of self.new)
+            (with_head (progress_of self.old)
+            (head_step (progress_of self.old).head
+            (has_begun (progress_of self.old).body.body) line)) }
+    {
+        let began = !self.draft.commands.is_empty();
+        self.head.read(self.alloc, line, began)
+    }
+
+    // Reads the next line of the body.
+    fn read_body(&mut self, line: BodyLine) -> Result<(), LineError>
+        requires { IsReader self.old }
+        ensures reader { OnOk result (IsReader self.new) }
+        ensures step { Follows result (progress_of self.new)
+            (body_line (progress_of self.old).head (progress_of self.old) line) }
+    {
+        match self.head.part {
+            Part::Whole => {
+                let sectors = self.head.data_disk.top_sectors();
+                self.draft.read(line, sectors, self.head.log_size)
+            }
+            _ => Err(LineError::Refused(Refusal::BadLine)),
+        }
+    }
+
+    // The text ends here.
+    fn finish(self) -> Result<Script, LineError>
+        requires { IfOk (finish_step (progress_of self)) IsPlan }
+        ensures { Finishes result (finish_step (progress_of self)) }
+    {
+        let Reader {
+            alloc: _,
+            head,
+            draft,
+            picks,
+        } = self;
+        let Head {
+            part,
+            data_disk,
+            log_disk,
+            log_size,
+        } = head;
+        match part {
+            Part::Whole => { Ok(draft.into_script(data_disk, log_disk, log_size, None)) }
+            Part::Ended => { Ok(draft.into_script(data_disk, log_disk, log_size, Some(picks))) }
+            _ => Err(LineError::Refused(Refusal::BadLine)),
+        }
+    }
+}
+
+/// Reads a text, in time linear in its length; nothing is read after a fault.
+///
+/// A line is refused, in this order, as `BadLine` where it isn't of the grammar at its place (also
+/// in a comment, if a byte is zero or not ASCII; at an `at` that goes back; at a layer's line out
+/// of its place, or a fifth one for its disk; and after the last line, where the head isn't whole),
+/// as `UnknownTarget`, `WrongCount`, `BadNumber`, `BadFeature` or `OutOfRange` where the table line
+/// of a layer asks for none, as `OutOfRange` where a layer isn't within what stands beneath it, as
+/// `BadLine` where a layer of the log disk is shorter than a sector of the log, as `BadId` where an
+/// id is submitted again or isn't open at its end, and as `NotWhole`, `TooLong`, `PastEnd` or
+/// `Unaligned` where `bio::check_sized` refuses the sectors of a write, a discard or a read for the
+/// top of the data disk and the log's sector size. Want of memory is `Memory`, and names no line.
+pub fn read_script(alloc: Global, text: &[u8]) -> Result<Script, Fault>
+    // What is read is a recorder's script, and this is a text of it.
+    ensures found { IfOk result (λ script. IsTextOf text.now script) }
+    // A text of a script is read, unless memory runs out.
+    ensures only { (plan : ScriptValue) → IsTextOf text.now plan → IsReadAs plan result }
+    // A fault is reported with the first line at which no continuation is a script.
+    ensures fault { IfErr result (λ fault. IsFaultOf text.now fault fault.line) }
+{
+    read(alloc, text)
+}
+
+// Reads the lines of a text in turn.
+fn read(alloc: Global, text: &[u8]) -> Result<Script, Fault>
+    ensures { Reads result (read_text text.now) }
+{
+    let mut reader = Reader::new(alloc);
+    let mut number: u64 = 1;
+    let mut rest = text;
+    while let Some((line, after)) = next_line(rest) {
+        if let Err(error) = reader.read_line(line) {
+            return Err(fault_at(number, error));
+        }
+        number += 1;
+        rest = after;
+    }
+    match reader.finish() {
+        Ok(script) => Ok(script),
+        Err(error) => Err(fault_at(number, error)),
+    }
+}
+
+/// A text of its own, of which clones take no memory.
+pub(crate) fn shared_text(alloc: Global, text: &[u8]) -> Result<Bytes, AllocError>
+    ensures { IfOk result (λ shared. shared ≡ text.now) }
+{
+    Bytes::from_vec(text.to_vec(alloc)?).into_shared()
+}
+
+/// The next line and the text after it, if there is a line.
+pub(crate) fn next_line(text: &[u8]) -> Option<(&[u8], &[u8])>
+    ensures { MatchOption result (text.now ≡ []) (λ next.
+        (lines_of text.now ≡ next.0.now ∷ lines_of next.1.now)
+        × (length next.1.now < length text.now)) }
+{
+    if text.is_empty() {
+        return None;
+    }
+    let (line, after) = cut(text, b'\n');
+    match after {
+        Some(after) => Some((line, after)),
+        None => Some((line, &[])),
+    }
+}
+
+/// Why reading ended at a line.
+pub(crate) fn fault_at(line: u64, error: LineError) -> Fault
+    ensures { result ≡ fault_of line error }
+{
+    match error {
+        LineError::Memory => Fault {
+            line: None,
+            refusal: Refusal::Memory,
+        },
+        LineError::Refused(refusal) => Fault {
+            line: Some(line),
+            refusal,
+        },
+    }
+}
+
+/// A line of bytes that a script's text may hold.
+pub(crate) fn is_ascii_line(line: &[u8]) -> bool
+    ensures { result ≡ is_plain_line line.now }
+{
+    line.iter().all(|byte| 0 < *byte && *byte < 128)
+}
+
+/// An empty line, or a comment.
+pub(crate) fn is_skipped(line: &[u8]) -> bool
+    ensures { result ≡ is_a_skipped_line line.now }
+{
+    match line {
+        [] => true,
+        [first, ..] => *first == b'#',
+    }
+}
+
+/// The number, counted from 1, of the line at this place among the lines of a text that aren't
+/// skipped, those of the head included, or none where the text has no such line. The line of a
+/// script's command stands its `head_lines` later than the command's own place, and that of its
+/// crash behind the last command's. Takes no memory, and one pass over the text.
+pub fn line_of(text: &[u8], place: usize) -> Option<u64>
+    ensures { result ≡ command_line text.now place }
+{
+    let mut left = place;
+    let mut number: u64 = 1;
+    let mut rest = text;
+    while let Some((line, after)) = next_line(rest) {
+        if !is_skipped(line) {
+            if left == 0 {
+                return Some(number);
+            }
+            left -= 1;
+        }
+        number += 1;
+        rest = after;
+    }
+    None
+}

@@ -1,0 +1,115 @@
+//! What a line of a run's script says by its words alone.
+//! Its clauses are written in specs/inside/RunLineParser; the search alone proves it.
+ghost use Rattle.std.specs.Prelude.{◌≡◌, IfErr, IfOk, Some, option_copied};
+ghost use Rattle.dmlw_script.specs.inside.RunLineParser.{call_of as the_call, mark_call};
+ghost use Rattle.dmlw_script.specs.inside.RunLineParser.{parse_run_line, run_head_line};
+ghost use Rattle.dmlw_script.specs.inside.RunLineParser.{seat_line};
+ghost use Rattle.dmlw_script.specs.inside.RunLineParser.{seat_of as the_seat};
+ghost use Rattle.dmlw_script.specs.inside.RunLineParser.{submission_of as the_submission};
+ghost use Rattle.dmlw_script.specs.inside.RunLineParser.{IsNoRunLine};
+ghost use Rattle.dmlw_script.specs.inside.RunLineParser.{IsUnread};
+
+use crate::command::Submission;
+use crate::line::{HeadLine, discard_words, head_words, is_line_text, write_words};
+use crate::line_error::LineError;
+use crate::reader::shared_text;
+use crate::seat_call::{Call, SeatCall};
+use refusals::{Refusal, cut, number_of};
+use std::alloc::Global;
+
+/// What a line of a run's script says.
+#[derive(Drop)]
+pub(crate) enum RunLine {
+    /// A line of the head that a recorder's script may have too.
+    Head(HeadLine),
+    /// `seats <n>`
+    Seats(u64),
+    /// `s<k> w <first> <count> <byte> [flush] [fua] [meta]`,
+    /// `s<k> f`, `s<k> d <first> <count>`, or `s<k> mark <text>`
+    Body(SeatCall),
+}
+
+/// What a line says that isn't skipped, if it is of the grammar.
+pub(crate) fn run_line_of(alloc: Global, line: &[u8]) -> Result<RunLine, LineError>
+    ensures said { IfOk result (λ said. parse_run_line line.now ≡ Some said) }
+    ensures none { IfErr result (λ error. IsNoRunLine error (parse_run_line line.now)) }
+{
+    let (verb, words) = cut(line, b' ');
+    let words = words.ok_or(Refusal::BadLine)?;
+    match head_line_of(verb, words) {
+        Some(line) => Ok(line),
+        None => seat_line_of(alloc, verb, words),
+    }
+}
+
+// What a line of the head says, of this first word, whose other words are these.
+fn head_line_of(verb: &[u8], words: &[u8]) -> Option<RunLine>
+    ensures { result ≡ run_head_line verb.now words.now }
+{
+    if verb == b"seats".as_slice() {
+        Some(RunLine::Seats(number_of(words)?))
+    } else {
+        Some(RunLine::Head(head_words(verb, words)?))
+    }
+}
+
+// What a line of the body says, of this first word, whose other words are these.
+fn seat_line_of(alloc: Global, verb: &[u8], words: &[u8]) -> Result<RunLine, LineError>
+    ensures said { IfOk result (λ said. seat_line verb.now words.now ≡ Some said) }
+    ensures none { IfErr result (λ error. IsNoRunLine error (seat_line verb.now words.now)) }
+{
+    let seat = seat_of(verb).ok_or(Refusal::BadLine)?;
+    let (verb, words) = cut(words, b' ');
+    let call = call_of(alloc, verb, words)?;
+    Ok(RunLine::Body(SeatCall { seat, call }))
+}
+
+// The seat that a word names: `s` and its number.
+fn seat_of(word: &[u8]) -> Option<u64>
+    ensures { result ≡ the_seat word.now }
+{
+    match word {
+        [b's', number @ ..] => number_of(number),
+        _ => None,
+    }
+}
+
+// What a seat does by this first word, whose other words are these, if there are any.
+fn call_of(alloc: Global, verb: &[u8], words: Option<&[u8]>) -> Result<Call, LineError>
+    ensures said { IfOk result (λ call. the_call verb.now (option_copied words.entry) ≡ Some call) }
+    ensures none { IfErr result
+        (λ error. IsUnread error (the_call verb.now (option_copied words.entry))) }
+{
+    if verb == b"mark".as_slice() {
+        return mark_of(alloc, words);
+    }
+    let submission = submission_of(verb, words).ok_or(Refusal::BadLine)?;
+    Ok(Call::Submit(submission))
+}
+
+// The mark of this text, if a space stands behind the first word.
+fn mark_of(alloc: Global, text: Option<&[u8]>) -> Result<Call, LineError>
+    ensures said { IfOk result (λ call. mark_call (option_copied text.entry) ≡ Some call) }
+    ensures none { IfErr result (λ error. IsUnread error (mark_call (option_copied text.entry))) }
+{
+    match text {
+        Some(text) if is_line_text(text) => {
+            let text = shared_text(alloc, text)?;
+            Ok(Call::Mark { text })
+        }
+        _ => Err(LineError::Refused(Refusal::BadLine)),
+    }
+}
+
+// The request that a seat submits by this first word, whose
+// other words are these, if there are any.
+fn submission_of(verb: &[u8], words: Option<&[u8]>) -> Option<Submission>
+    ensures { result ≡ the_submission verb.now (option_copied words.entry) }
+{
+    match (verb, words) {
+        (b"w", Some(words)) => write_words(words),
+        (b"d", Some(words)) => discard_words(words),
+        (b"f", None) => Some(Submission::Flush),
+        _ => None,
+    }
+}

@@ -1,0 +1,150 @@
+//! A script that was read: its disks, its commands, and the crash that ends it, if one does.
+//! Its clauses are written in specs/Plans; the search alone proves it.
+ghost use Rattle.std.specs.Prelude.{◌≡◌, ◌≤◌, ◌/◌, option_copied, option_map};
+
+use crate::command::Command;
+use crate::disk::DiskSpec;
+use crate::script_id::ScriptId;
+use bio::SectorSize;
+use indexmap::IndexSet;
+use std::marker::Model;
+
+/// A script of the grammar. Contracts see it as a `ScriptValue`
+/// (`specs/Plans`), and each value is one that `IsPlan` holds of.
+#[derive(Debug, Drop)]
+pub struct Script {
+    data_disk: DiskSpec,
+    log_disk: DiskSpec,
+    log_size: SectorSize,
+    names: IndexSet<ScriptId>,
+    commands: Vec<Command>,
+    ending: Option<Vec<u64>>,
+}
+
+impl Model for Script {
+    ghost use Rattle.std.specs.Prelude.{option_map};
+    ghost use Rattle.dmlw_script.specs.Plans.{ScriptValue, IsPlan};
+
+    ghost Value = { ScriptValue };
+
+    ghost view = { λ s. record {
+      data_disk = s.data_disk;
+      log_disk = s.log_disk;
+      log_size = s.log_size;
+      names = s.names.keys;
+      commands = s.commands.items;
+      ending = option_map (λ picks. picks.items) s.ending;
+    } };
+
+    ghost invariant = { λ s. IsPlan
+        (record {
+          data_disk = s.data_disk;
+          log_disk = s.log_disk;
+          log_size = s.log_size;
+          names = s.names.keys;
+          commands = s.commands.items;
+          ending = option_map (λ picks. picks.items) s.ending;
+        }) };
+}
+
+impl Script {
+    ghost use Rattle.bio.specs.Sizes.{bytes_of};
+    ghost use Rattle.dmlw_script.specs.Plans.{head_count, top_of, IsPlan};
+
+    /// The script of these parts.
+    pub(crate) fn new(
+        data_disk: DiskSpec,
+        log_disk: DiskSpec,
+        log_size: SectorSize,
+        names: IndexSet<ScriptId>,
+        commands: Vec<Command>,
+        ending: Option<Vec<u64>>,
+    ) -> Script
+        requires { IsPlan (record {
+          data_disk = data_disk;
+          log_disk = log_disk;
+          log_size = log_size;
+          names = names.keys;
+          commands = commands.items;
+          ending = option_map (λ picks. picks.items) ending;
+        }) }
+        ensures { result ≡ record {
+          data_disk = data_disk;
+          log_disk = log_disk;
+          log_size = log_size;
+          names = names.keys;
+          commands = commands.items;
+          ending = option_map (λ picks. picks.items) ending;
+        } }
+    {
+        Script {
+            data_disk,
+            log_disk,
+            log_size,
+            names,
+            commands,
+            ending,
+        }
+    }
+
+    /// The data disk, of 1 to 1,048,576 sectors, with up to four layers.
+    pub fn data(&self) -> &DiskSpec
+        ensures disk { result.now ≡ self.now.data_disk }
+        ensures script { IsPlan self.now }
+    {
+        &self.data_disk
+    }
+
+    /// The log disk, of 1 to 1,048,576 sectors, with up to four
+    /// layers. Its top has room for one of the log's sectors.
+    pub fn log(&self) -> &DiskSpec
+        ensures disk { result.now ≡ self.now.log_disk }
+        ensures script { IsPlan self.now }
+    {
+        &self.log_disk
+    }
+
+    /// The size of the log's sectors: 512 bytes, or 4,096.
+    /// One of them fits on the top of the log disk.
+    pub fn log_size(&self) -> SectorSize
+        ensures size { result ≡ self.now.log_size }
+        ensures room { bytes_of result / 512 ≤ top_of self.now.log_disk }
+    {
+        self.log_size
+    }
+
+    /// How many lines its head has, 2 to 10: those of both disks, and one for each layer.
+    pub fn head_lines(&self) -> usize
+        ensures lines { result ≡ head_count self.now }
+        ensures few { result ≤ 10 }
+    {
+        2 + self.data_disk.layers().len() + self.log_disk.layers().len()
+    }
+
+    /// The ids in the order of their submissions: a request's number is the place of its id.
+    pub fn names(&self) -> &[ScriptId]
+        ensures names { result.now ≡ self.now.names }
+        ensures script { IsPlan self.now }
+    {
+        self.names.as_slice()
+    }
+
+    /// The lines of the body, but for a crash.
+    pub fn commands(&self) -> &[Command]
+        ensures commands { result.now ≡ self.now.commands }
+        ensures script { IsPlan self.now }
+    {
+        self.commands.as_slice()
+    }
+
+    /// The picks of the crash of the log disk that ends the script, or none where no crash does.
+    pub fn crash(&self) -> Option<&[u64]>
+        ensures picks { option_copied result ≡ self.now.ending }
+        ensures script { IsPlan self.now }
+    {
+        match &self.ending {
+            Some(picks) => Some(picks.as_slice()),
+            None => None,
+        }
+    }
+}

@@ -1,0 +1,51 @@
+//! The values that words of a line say: the picks of a crash, and a byte.
+//! Its clauses are written in specs/; its theorems in proofs/values/.
+ghost use Rattle.std.specs.Prelude.{◌≡◌, IfErr, IfOk, Some, option_copied};
+ghost use Rattle.dmlw_script.specs.inside.Readers.{HasNoPicks};
+ghost use Rattle.dmlw_script.specs.inside.LineParser.{picks_of as the_picks};
+ghost use Rattle.dmlw_script.specs.Words.{half_of, byte_of as the_byte};
+
+use crate::line_error::LineError;
+use refusals::{Refusal, cut, number_of};
+use std::alloc::Global;
+
+/// The picks that these words say, if there are any: each a number.
+pub(crate) fn picks_of(alloc: Global, words: Option<&[u8]>) -> Result<Vec<u64>, LineError>
+    ensures picks { IfOk result
+        (λ picks. the_picks (option_copied words.entry) ≡ Some picks.items) }
+    ensures none { IfErr result
+        (λ error. HasNoPicks error (the_picks (option_copied words.entry))) }
+{
+    let mut picks = Vec::new(alloc);
+    let mut rest = words;
+    while let Some(words) = rest {
+        let (word, after) = cut(words, b' ');
+        match number_of(word) {
+            Some(pick) => picks.push(pick)?,
+            None => return Err(LineError::Refused(Refusal::BadLine)),
+        }
+        rest = after;
+    }
+    Ok(picks)
+}
+
+/// The byte that a word is: two lower case hexadecimal digits.
+pub(crate) fn byte_of(word: &[u8]) -> Option<u8>
+    ensures { result ≡ the_byte word.now }
+{
+    match word {
+        [high, low] => Some(16 * half_of(*high)? + half_of(*low)?),
+        _ => None,
+    }
+}
+
+// The value of a lower case hexadecimal digit.
+fn half_of(digit: u8) -> Option<u8>
+    ensures { result ≡ half_of digit }
+{
+    match digit {
+        b'0'..=b'9' => Some(digit - b'0'),
+        b'a'..=b'f' => Some(digit - b'a' + 10),
+        _ => None,
+    }
+}

@@ -1,2 +1,0 @@
--- The definitions that the contracts of `holders` are written in.
-pub mod Rules

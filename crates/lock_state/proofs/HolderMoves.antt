@@ -1,0 +1,337 @@
+-- Each step keeps the rule of a keeper and its holders.
+-- Its own crate alone cites it, for the theorems of src/lib.rt.
+use Rattle.std.proofs.Common.{◌≡◌, ◌≢◌, ◌⊎◌, ℕ, zero, suc, ◌<◌, List, [], ◌∷◌, ◌++◌, length, set}
+use Rattle.std.proofs.Common.{Option, Some, None, true, false, true≢false, refl, sym, ap, ◌∙◌}
+use Rattle.std.proofs.Common.{subst, inl, inr, ⊎_elim, arith, cond, eqb, eq-eqb, ne_eqb}
+use Rattle.std.specs.Prelude.{slice_get, slice_set}
+use Rattle.std.proofs.lemmas.Option.{slice_get_within}
+use mathlib.Core.Option.{some, some-ne-none, some-injective}
+use lib.ListN.{get_elem?}
+use Rattle.atomic_table.specs.Table.{State, Me, keeps, Allows, Splits, Joins}
+use Rattle.atomic_table.proofs.Lists.{at_set, set_again}
+use Rattle.lock_state.specs.declared.holders.rule.Knows.{Knows}
+use Rattle.lock_state.specs.HolderRules.{keeper_of, holder_of, both_of, nobody, without, part_of, beside}
+use Rattle.lock_state.specs.HolderRules.{Agree, Sets, Fits, IsKept}
+use Rattle.lock_state.proofs.HolderLists.{get_set_same, get_set_else, get_front, get_pushed}
+
+off : false ≡ true → ⊥
+off e = true≢false (sym e)
+
+-- the empty pass fits anywhere
+nobody_fits : (place : ℕ) (owner : ℕ → ℕ) (all : List (Option ℕ)) (by : ℕ)
+    → Fits place owner all by nobody
+nobody_fits place owner all by = record { kept = λ k. absurd (off k); held = λ h. absurd (off h) }
+
+pub begins : IsKept (keeper_of [] ∷ [])
+begins = record { place = 0; owner = λ n. 0; all = []; fits = one }
+  where
+    one : (by : ℕ) (pass : Knows) → get_elem? (keeper_of [] ∷ []) by ≡ some pass
+        → Fits 0 (λ n. 0) [] by pass
+    one zero pass e =
+        subst (Fits 0 (λ n. 0) [] 0) (some-injective _ _ e)
+        (record { kept = λ k. (refl, refl); held = λ h. absurd (off h) })
+    one (suc by) pass e = absurd (some-ne-none pass (sym e))
+
+-- one pass changed, and the others fit as they are
+fits_set : (place : ℕ) (owner : ℕ → ℕ) (all : List (Option ℕ)) (passes : List Knows) (by : ℕ)
+    (new : Knows)
+    → ((j : ℕ) (pass : Knows) → j ≢ by → get_elem? passes j ≡ some pass
+    → Fits place owner all j pass)
+    → Fits place owner all by new
+    → (j : ℕ) (pass : Knows) → get_elem? (set passes by new) j ≡ some pass
+    → Fits place owner all j pass
+fits_set place owner all passes by new others mine j pass e =
+    ⊎_elim
+    (λ (x : (j ≡ by) × (new ≡ pass)). subst (λ (y : ℕ × Knows). Fits place owner all y.0 y.1)
+    (λ i. (sym x.0 i, x.1 i)) mine)
+    (λ (x : (j ≢ by) × (get_elem? passes j ≡ some pass)). others j pass x.0 x.1)
+    (at_set passes by j new pass e)
+
+-- one pass more stands at the end
+at_end : (passes : List Knows) (new pass : Knows) (j : ℕ)
+    → get_elem? (passes ++ new ∷ []) j ≡ some pass
+    → (get_elem? passes j ≡ some pass) ⊎ ((j ≡ length passes) × (new ≡ pass))
+at_end [] new pass zero e = inr (refl, some-injective new pass e)
+at_end [] new pass (suc j) e = absurd (some-ne-none pass (sym e))
+at_end (x ∷ xs) new pass zero e = inl e
+at_end (x ∷ xs) new pass (suc j) e =
+    ⊎_elim (λ was. inl was) (λ t. inr (ap suc t.0, t.1)) (at_end xs new pass j e)
+
+-- a place is before the end
+before_end : (passes : List Knows) (by : ℕ) (pass : Knows) → get_elem? passes by ≡ some pass
+    → by < length passes
+before_end [] by pass e = absurd (some-ne-none pass (sym e))
+before_end (x ∷ xs) zero pass e = omega arith
+before_end (x ∷ xs) (suc by) pass e = let h = before_end xs by pass e in omega arith
+
+-- the owners, of whom that of one number stands elsewhere now
+unfoldable moved : (ℕ → ℕ) → ℕ → ℕ → ℕ → ℕ
+moved owner number to n = cond (eqb n number) to (owner n)
+
+moved_here : (owner : ℕ → ℕ) (number to : ℕ) → moved owner number to number ≡ to
+unfolding moved
+moved_here owner number to = ap (λ b. cond b to (owner number)) (eq-eqb number number refl)
+
+moved_else : (owner : ℕ → ℕ) (number to n : ℕ) → n ≢ number → moved owner number to n ≡ owner n
+unfolding moved
+moved_else owner number to n apart = ap (λ b. cond b to (owner n)) (ne_eqb n number apart)
+
+pub enrol_keeps : (passes : List Knows) (id : ℕ) (all : List (Option ℕ)) → IsKept passes
+    → get_elem? passes id ≡ some (keeper_of all)
+    → IsKept (set passes id (both_of (all ++ None ∷ []) (length all) None))
+enrol_keeps passes id all kept there =
+    let mine = (kept.fits id (keeper_of all) there).kept refl in
+    let owner = moved kept.owner (length all) id in record {
+      place = kept.place;
+      owner = owner;
+      all = all ++ None ∷ [];
+      fits =
+          fits_set kept.place owner (all ++ None ∷ []) passes id
+          (both_of (all ++ None ∷ []) (length all) None)
+          (λ j pass apart e.
+          let was = kept.fits j pass e in record {
+            kept = λ keeps. absurd (apart ((was.kept keeps).0 ∙ sym mine.0));
+            held = λ holds.
+                let stands : slice_get all pass.number ≡ Some pass.held =
+                subst (λ xs. slice_get xs pass.number ≡ Some pass.held) (sym mine.1)
+                (was.held holds).1 in
+                let within = slice_get_within all pass.number pass.held stands in (
+                  moved_else kept.owner (length all) id pass.number (λ same. omega arith)
+                      ∙ (was.held holds).0,
+                  get_front all (None ∷ []) pass.number pass.held stands,
+                );
+          })
+          (record {
+            kept = λ k. (mine.0, refl);
+            held = λ h. (moved_here kept.owner (length all) id, get_pushed all None);
+          });
+    }
+
+pub set_keeps : (passes : List Knows) (id : ℕ) (all : List (Option ℕ)) (number : ℕ)
+    (held new : Option ℕ) → IsKept passes → get_elem? passes id ≡ some (both_of all number held)
+    → IsKept (set passes id (both_of (slice_set all number new) number new))
+set_keeps passes id all number held new kept there =
+    let mine = (kept.fits id (both_of all number held) there).kept refl in
+    let own = (kept.fits id (both_of all number held) there).held refl in
+    let after = slice_set all number new in record {
+      place = kept.place;
+      owner = kept.owner;
+      all = after;
+      fits = fits_set kept.place kept.owner after passes id (both_of after number new)
+          (λ j pass apart e.
+          let was = kept.fits j pass e in record {
+            kept = λ keeps. absurd (apart ((was.kept keeps).0 ∙ sym mine.0));
+            held = λ holds.
+                let stands : slice_get all pass.number ≡ Some pass.held =
+                subst (λ xs. slice_get xs pass.number ≡ Some pass.held) (sym mine.1)
+                (was.held holds).1 in (
+                  (was.held holds).0,
+                  get_set_else all number pass.number new
+                      (λ same. apart (sym (was.held holds).0 ∙ ap kept.owner same ∙ own.0))
+                      ∙ stands,
+                );
+          })
+          (record {
+            kept = λ k. (mine.0, refl);
+            held = λ h. (
+              own.0,
+              get_set_same all number held new
+                  (ap (λ xs. slice_get xs number) mine.1 ∙ own.1),
+            );
+          });
+    }
+
+pub both_agree : (passes : List Knows) (id : ℕ) (all : List (Option ℕ)) (number : ℕ)
+    (held : Option ℕ) → IsKept passes → get_elem? passes id ≡ some (both_of all number held)
+    → slice_get all number ≡ Some held
+both_agree passes id all number held kept there =
+    let mine = (kept.fits id (both_of all number held) there).kept refl in
+    let own = (kept.fits id (both_of all number held) there).held refl in
+    ap (λ xs. slice_get xs number) mine.1 ∙ own.1
+
+-- the holder's part of a pass goes to a new one
+pub split_keeps : (passes : List Knows) (id : ℕ) (pass : Knows) → pass.holds ≡ true → IsKept passes
+    → get_elem? passes id ≡ some pass
+    → IsKept (set passes id (without pass) ++ part_of pass ∷ [])
+split_keeps passes id v holding kept there =
+    let mine = kept.fits id v there in
+    let own = mine.held holding in
+    let owner = moved kept.owner v.number (length (set passes id (without v))) in
+    let front : (j : ℕ) (pass : Knows) → get_elem? (set passes id (without v)) j ≡ some pass →
+    Fits kept.place owner kept.all j pass =
+    fits_set kept.place owner kept.all passes id (without v)
+    (λ j pass apart e.
+    let was = kept.fits j pass e in record {
+      kept = was.kept;
+      held =
+          λ holds. (
+            moved_else kept.owner v.number (length (set passes id (without v))) pass.number
+                (λ same. apart (sym (was.held holds).0 ∙ ap kept.owner same ∙ own.0))
+                ∙ (was.held holds).0,
+            (was.held holds).1,
+          );
+    })
+    (record { kept = mine.kept; held = λ h. absurd (off h) }) in record {
+      place = kept.place;
+      owner = owner;
+      all = kept.all;
+      fits = λ j pass e. ⊎_elim
+          (λ was. front j pass was)
+          (λ (x : (j ≡ length (set passes id (without v))) × (part_of v ≡ pass)). subst
+          (λ (y : ℕ × Knows). Fits kept.place owner kept.all y.0 y.1) (λ i. (sym x.0 i, x.1 i))
+          (record {
+            kept = λ k. absurd (off k);
+            held = λ h. (
+              moved_here kept.owner v.number (length (set passes id (without v))),
+              own.1,
+            );
+          }))
+          (at_end (set passes id (without v)) (part_of v) pass j e);
+    }
+
+-- a holder's part comes to the keeper's pass
+pub join_keeps : (passes : List Knows) (id : ℕ) (all : List (Option ℕ)) (other number : ℕ)
+    (held : Option ℕ) → IsKept passes → get_elem? passes id ≡ some (keeper_of all)
+    → other ≢ id → get_elem? (set passes id (both_of all number held)) other
+    ≡ some (holder_of number held)
+    → IsKept (set (set passes id (both_of all number held)) other nobody)
+join_keeps passes id all other number held kept there apart from =
+    let mine = (kept.fits id (keeper_of all) there).kept refl in
+    let both = both_of all number held in
+    let theirs : get_elem? passes other ≡ some (holder_of number held) =
+    ⊎_elim (λ (t : (other ≡ id) × (both ≡ holder_of number held)). absurd (apart t.0))
+    (λ (t : (other ≢ id) × (get_elem? passes other ≡ some (holder_of number held))). t.1)
+    (at_set passes id other both (holder_of number held) from) in
+    let own = (kept.fits other (holder_of number held) theirs).held refl in
+    let owner = moved kept.owner number id in record {
+      place = kept.place;
+      owner = owner;
+      all = kept.all;
+      fits = fits_set kept.place owner kept.all (set passes id both) other nobody
+          (λ j pass away e.
+          ⊎_elim
+          (λ (x : (j ≡ id) × (both ≡ pass)). subst
+          (λ (y : ℕ × Knows). Fits kept.place owner kept.all y.0 y.1) (λ i. (sym x.0 i, x.1 i))
+          (record { kept = λ k. mine; held = λ h. (moved_here kept.owner number id, own.1) }))
+          (λ (x : (j ≢ id) × (get_elem? passes j ≡ some pass)).
+          let was = kept.fits j pass x.1 in record {
+            kept = was.kept;
+            held =
+                λ holds. (
+                  moved_else kept.owner number id pass.number
+                      (λ same. away (sym (was.held holds).0 ∙ ap kept.owner same ∙ own.0))
+                      ∙ (was.held holds).0,
+                  (was.held holds).1,
+                );
+          })
+          (at_set passes id j both pass e))
+          (nobody_fits kept.place owner kept.all other);
+    }
+
+-- The same, as the calls of a table ask for it.
+
+abbrev Held : State (Unit {0}) Knows → Type 0
+Held state = IsKept state.views
+
+pub enrols : (slots id word : ℕ) (f : ℕ → ℕ) (me : Me (Unit {0}) Knows) (all : List (Option ℕ))
+    → me ≡ (keeper_of all, [])
+    → Allows Held slots id me word f
+    (λ _ after. after ≡ (both_of (me.0.all ++ None ∷ []) (length me.0.all) None, []))
+enrols slots id word f me all is =
+    subst (λ (m : Me (Unit {0}) Knows). Allows Held slots id m word f
+    (λ _ after. after ≡ (both_of (m.0.all ++ None ∷ []) (length m.0.all) None, []))) (sym is)
+    (λ s kept sizes there small. (
+      both_of (all ++ None ∷ []) (length all) None,
+      keeps,
+      tt,
+      enrol_keeps s.views id all kept there,
+      refl,
+    ))
+
+pub sets : (slots id word : ℕ) (f : ℕ → ℕ) (me : Me (Unit {0}) Knows) (all : List (Option ℕ))
+    (number : ℕ) (held new : Option ℕ) → me ≡ (both_of all number held, [])
+    → Allows Held slots id me word f (λ _ after. Sets me.0 new after)
+sets slots id word f me all number held new is =
+    subst (λ (m : Me (Unit {0}) Knows). Allows Held slots id m word f
+    (λ _ after. Sets m.0 new after)) (sym is)
+    (λ s kept sizes there small. (
+      both_of (slice_set all number new) number new,
+      keeps,
+      tt,
+      set_keeps s.views id all number held new kept there,
+      (both_agree s.views id all number held kept there, refl),
+    ))
+
+pub agrees : (slots id word : ℕ) (me : Me (Unit {0}) Knows) (all : List (Option ℕ)) (number : ℕ)
+    (held : Option ℕ) → me ≡ (both_of all number held, [])
+    → Allows Held slots id me word (λ n. n)
+    (λ _ after. Agree me.0 × (after ≡ (both_of me.0.all me.0.number me.0.held, [])))
+agrees slots id word me all number held is =
+    subst (λ (m : Me (Unit {0}) Knows). Allows Held slots id m word (λ n. n)
+    (λ _ after. Agree m.0 × (after ≡ (both_of m.0.all m.0.number m.0.held, [])))) (sym is)
+    (λ s kept sizes there small. (
+      both_of all number held,
+      keeps,
+      tt,
+      subst IsKept (sym (set_again s.views id (both_of all number held) there)) kept,
+      (both_agree s.views id all number held kept there, refl),
+    ))
+
+pub splits : (id : ℕ) (pass : Knows) → pass.holds ≡ true
+    → Splits Held id pass (without pass) (part_of pass)
+splits id pass holding s kept there = split_keeps s.views id pass holding kept there
+
+pub joins : (id other : ℕ) (pass part : Knows) (all : List (Option ℕ)) (number : ℕ)
+    (held : Option ℕ) → pass ≡ keeper_of all → part ≡ holder_of number held
+    → Joins Held id pass other part (beside pass part) nobody
+joins id other pass part all number held is his =
+    subst (λ (p : Knows). Joins Held id p other part (beside p part) nobody) (sym is)
+    (subst (λ (p : Knows). Joins Held id (keeper_of all) other p (beside (keeper_of all) p) nobody)
+    (sym his)
+    (λ s kept there apart from. join_keeps s.views id all other number held kept there apart from))
+
+-- what the passes know after each call
+
+pub joined : (before after part : Me (Unit {0}) Knows) (all : List (Option ℕ)) (number : ℕ)
+    (held : Option ℕ) → before ≡ (keeper_of all, []) → part ≡ (holder_of number held, [])
+    → after ≡ (beside before.0 part.0, before.1) → after ≡ (both_of all number held, [])
+joined before after part all number held is his e =
+    e ∙ ap (λ (m : Me (Unit {0}) Knows × Me (Unit {0}) Knows). (beside m.0.0 m.1.0, m.0.1))
+    (λ i. (is i, his i))
+
+pub parted : (before after part : Me (Unit {0}) Knows) (all : List (Option ℕ)) (number : ℕ)
+    (held : Option ℕ) → before ≡ (both_of all number held, [])
+    → after ≡ (without before.0, before.1) → part ≡ (part_of before.0, [])
+    → (after ≡ (keeper_of all, [])) × (part ≡ (holder_of number held, []))
+parted before after part all number held is e his = (
+  e ∙ ap (λ (m : Me (Unit {0}) Knows). (without m.0, m.1)) is,
+  his ∙ ap (λ (m : Me (Unit {0}) Knows). (part_of m.0, [])) is,
+)
+
+pub lent_is : (mine part : Me (Unit {0}) Knows) (number : ℕ) (held : Option ℕ)
+    → mine ≡ (holder_of number held, []) → part ≡ (part_of mine.0, [])
+    → part ≡ (holder_of number held, [])
+lent_is mine part number held is e = e ∙ ap (λ (m : Me (Unit {0}) Knows). (part_of m.0, [])) is
+
+pub set_is : (before after : Me (Unit {0}) Knows) (all : List (Option ℕ)) (number : ℕ)
+    (held new : Option ℕ) → before ≡ (both_of all number held, []) → Sets before.0 new after
+    → (slice_get all number ≡ Some held)
+    × (after ≡ (both_of (slice_set all number new) number new, []))
+set_is before after all number held new is told =
+    subst (λ (m : Me (Unit {0}) Knows). Sets m.0 new after) is told
+
+pub same_is : (before after : Me (Unit {0}) Knows) (all : List (Option ℕ)) (number : ℕ)
+    (held : Option ℕ) → before ≡ (both_of all number held, [])
+    → Agree before.0 × (after ≡ (both_of before.0.all before.0.number before.0.held, []))
+    → (slice_get all number ≡ Some held) × (after ≡ (both_of all number held, []))
+same_is before after all number held is told =
+    subst (λ (m : Me (Unit {0}) Knows). Agree m.0
+    × (after ≡ (both_of m.0.all m.0.number m.0.held, []))) is told
+
+pub enrolled_is : (before after : Me (Unit {0}) Knows) (all : List (Option ℕ))
+    → before ≡ (keeper_of all, [])
+    → after ≡ (both_of (before.0.all ++ None ∷ []) (length before.0.all) None, [])
+    → after ≡ (both_of (all ++ None ∷ []) (length all) None, [])
+enrolled_is before after all is told =
+    told ∙ ap (λ (m : Me (Unit {0}) Knows).
+    (both_of (m.0.all ++ None ∷ []) (length m.0.all) None, [])) is

@@ -1,0 +1,6 @@
+-- Answers to the goals of `Fresh::new` (src/holders.rt) that the search leaves.
+use Rattle.lock_state.proofs.HolderMoves.{begins}
+use Rattle.lock_state.proofs.holders.Fresh.new.Goals as goal
+
+pub of_words-requires : goal.of_words-requires
+of_words-requires c = begins

@@ -1,0 +1,186 @@
+//! A keeper and its holders, who provably agree on what each holder holds.
+//!
+//! The keeper lies inside a value that a lock guards; each thread has a holder of its own. When a
+//! thread takes the lock, nothing is known of what lies under it but its invariant. A call with
+//! both at hand shows that the keeper's list has, at the holder's number, just what the holder
+//! holds: so a fact that the invariant states of the keeper's list is known of what the thread
+//! itself holds. No call waits, and only the first takes memory.
+ghost use Rattle.std.specs.Prelude.{◌≡◌, ℕ, List, [], ◌∷◌, ◌++◌, length, Option, None, Some};
+ghost use Rattle.std.specs.Prelude.{slice_get, slice_set};
+ghost use Rattle.atomic_table.specs.Seated.{TableId};
+ghost use Rattle.lock_state.specs.HolderRules.{Grip, keeper_of, holder_of};
+
+mod rule;
+
+use crate::holders::rule::{Begin, Board, Compare, Enrol, Finish, Knows, Part};
+use atomic_table::Seat;
+use std::alloc::{AllocError, Global};
+use std::marker::{Brand, Model, PhantomData};
+
+/// Names the table on which a keeper and its holders agree. Each keeper has a table of its own, so
+/// a holder of another keeper is refused by its type.
+pub trait Whose {
+    ghost use Rattle.atomic_table.specs.Seated.{TableId};
+
+    ghost table: { TableId };
+}
+
+impl Whose for Brand {
+    ghost use Rattle.lock_state.specs.HolderRules.{no_table};
+
+    ghost table = { no_table };
+}
+
+/// A keeper with no holder, which has no name yet. Contracts see it as its table.
+#[derive(Drop)]
+pub struct Fresh {
+    board: Board,
+    pass: Seat<(), Knows>,
+}
+
+impl Model for Fresh {
+    ghost use Rattle.std.specs.Prelude.{◌≡◌, []};
+    ghost use Rattle.atomic_table.specs.Seated.{TableId, table_id_coded};
+    ghost use Rattle.lock_state.specs.HolderRules.{keeper_of};
+
+    ghost Value = { TableId };
+
+    ghost coded = { table_id_coded };
+
+    ghost view = { λ f. f.board.shared.table_id };
+
+    ghost invariant = { λ f. (f.pass.table_id ≡ f.board.shared.table_id)
+        × (f.board.shared.table_id.words ≡ 1) × (f.pass.me ≡ (keeper_of [], [])) };
+}
+
+/// Knows of each holder, by its number, what it holds. Contracts see it as the list of that.
+#[derive(Drop)]
+pub struct Keeper<W: Whose> {
+    board: Board,
+    pass: Seat<(), Knows>,
+    whose: PhantomData<W>,
+}
+
+impl<W: Whose> Model for Keeper<W> {
+    ghost use Rattle.std.specs.Prelude.{◌≡◌, ℕ, List, [], Option};
+    ghost use Rattle.lock_state.specs.HolderRules.{keeper_of};
+
+    ghost Value = { List (Option ℕ) };
+
+    ghost view = { λ k. k.pass.me.0.all };
+
+    ghost invariant = { λ k. (k.board.shared.table_id ≡ W.table) × (k.pass.table_id ≡ W.table)
+        × (k.board.shared.table_id.words ≡ 1)
+        × (k.pass.me ≡ (keeper_of k.pass.me.0.all, [])) };
+}
+
+/// Holds a number, or nothing. It has no bytes. Contracts see it as its own number among the
+/// holders and what it holds.
+#[derive(Drop)]
+pub struct Holder<W: Whose> {
+    pass: Seat<(), Knows>,
+    whose: PhantomData<W>,
+}
+
+impl<W: Whose> Model for Holder<W> {
+    ghost use Rattle.std.specs.Prelude.{◌≡◌, []};
+    ghost use Rattle.lock_state.specs.HolderRules.{Grip, holder_of};
+
+    ghost Value = { Grip };
+
+    ghost view = { λ h. record { number = h.pass.me.0.number; held = h.pass.me.0.held } };
+
+    ghost invariant = { λ h. (h.pass.table_id ≡ W.table)
+        × (h.pass.me ≡ (holder_of h.pass.me.0.number h.pass.me.0.held, [])) };
+}
+
+impl Fresh {
+    /// A keeper with no holder. `Err` where there is no memory.
+    pub fn new(alloc: Global) -> Result<Fresh, AllocError> {
+        let (board, pass) = Board::of_words(alloc, &[0], &())?;
+        Ok(Fresh { board, pass })
+    }
+
+    /// It gets its name.
+    pub fn named<W: Whose>(self) -> Keeper<W>
+        requires { self ≡ W.table }
+        ensures { result ≡ [] }
+    {
+        let Fresh { board, pass } = self;
+        Keeper {
+            board,
+            pass,
+            whose: PhantomData,
+        }
+    }
+}
+
+impl<W: Whose> Keeper<W> {
+    /// One holder more, which holds nothing. It gets the next number.
+    pub fn enrol(&mut self) -> Holder<W>
+        ensures holder { result ≡ record { number = length self.old; held = None } }
+        ensures keeper { self.new ≡ self.old ++ None ∷ [] }
+    {
+        let Keeper {
+            board,
+            pass,
+            whose: _,
+        } = self;
+        board.shared.store::<Enrol>(pass, 0, 0);
+        Holder {
+            pass: board.shared.split_seat::<Part>(pass),
+            whose: PhantomData,
+        }
+    }
+
+    /// The keeper knows what the holder holds.
+    pub fn agree(&mut self, mine: &mut Holder<W>)
+        ensures same { (self.new ≡ self.old) × (mine.new ≡ mine.old) }
+        ensures knows { slice_get self.old mine.old.number ≡ Some mine.old.held }
+    {
+        let Keeper {
+            board,
+            pass,
+            whose: _,
+        } = self;
+        let lent = board.shared.split_seat::<Part>(&mut mine.pass);
+        board.shared.join_seat::<Part>(pass, lent);
+        board.shared.load::<Compare>(pass, 0);
+        mine.pass = board.shared.split_seat::<Part>(pass);
+    }
+
+    /// The holder holds this number from now on, in place
+    /// of what it held. Both learn of it in one step.
+    pub fn begin(&mut self, mine: &mut Holder<W>, number: u64)
+        ensures knew { slice_get self.old mine.old.number ≡ Some mine.old.held }
+        ensures keeper { self.new ≡ slice_set self.old mine.old.number (Some number) }
+        ensures holder { mine.new ≡ record { number = mine.old.number; held = Some number } }
+    {
+        let Keeper {
+            board,
+            pass,
+            whose: _,
+        } = self;
+        let lent = board.shared.split_seat::<Part>(&mut mine.pass);
+        board.shared.join_seat::<Part>(pass, lent);
+        board.shared.store::<Begin>(pass, 0, number);
+        mine.pass = board.shared.split_seat::<Part>(pass);
+    }
+
+    /// The holder lets go of what it held. Both learn of it in one step.
+    pub fn finish(&mut self, mine: &mut Holder<W>)
+        ensures knew { slice_get self.old mine.old.number ≡ Some mine.old.held }
+        ensures keeper { self.new ≡ slice_set self.old mine.old.number None }
+        ensures holder { mine.new ≡ record { number = mine.old.number; held = None } }
+    {
+        let Keeper {
+            board,
+            pass,
+            whose: _,
+        } = self;
+        let lent = board.shared.split_seat::<Part>(&mut mine.pass);
+        board.shared.join_seat::<Part>(pass, lent);
+        board.shared.store::<Finish>(pass, 0, 0);
+        mine.pass = board.shared.split_seat::<Part>(pass);
+    }
+}

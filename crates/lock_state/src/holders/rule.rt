@@ -1,0 +1,86 @@
+// The rule over the passes of a keeper and its holders, and the steps that they take under it.
+// Its clauses are written in specs/HolderRules; the search alone proves it.
+
+use atomic_table::{Join, Play, Split, Table, TableRule};
+use std::alloc::Global;
+use std::collections::LinkedList;
+
+// What a pass knows: a keeper what all holders hold, a holder
+// its number and what it holds. No value of it is made.
+pub struct Knows {
+    pub keeps: bool,
+    pub all: LinkedList<Option<u64>>,
+    pub holds: bool,
+    pub number: u64,
+    pub held: Option<u64>,
+}
+
+// The keeper knows what each holder holds.
+pub struct Law;
+
+impl TableRule<(), Knows, ()> for Law {
+    ghost use Rattle.std.specs.Prelude.{[]};
+    ghost use Rattle.lock_state.specs.HolderRules.{IsKept, keeper_of};
+
+    ghost holds = { λ _ state. IsKept state.views };
+
+    ghost first = { λ _. keeper_of [] };
+}
+
+// Its one word is the number that was begun last; nothing is read from it.
+pub type Board = Table<(), Knows, (), Law, Global>;
+
+// One holder more.
+pub struct Enrol;
+
+impl Play<(), Knows> for Enrol {
+    ghost use Rattle.lock_state.specs.HolderRules.{Enrols};
+
+    ghost then = { Enrols };
+}
+
+// A holder takes a number.
+pub struct Begin;
+
+impl Play<(), Knows> for Begin {
+    ghost use Rattle.lock_state.specs.HolderRules.{Begins};
+
+    ghost then = { Begins };
+}
+
+// A holder lets go of its number.
+pub struct Finish;
+
+impl Play<(), Knows> for Finish {
+    ghost use Rattle.lock_state.specs.HolderRules.{Finishes};
+
+    ghost then = { Finishes };
+}
+
+// A keeper and a holder compare what they know.
+pub struct Compare;
+
+impl Play<(), Knows> for Compare {
+    ghost use Rattle.lock_state.specs.HolderRules.{Agrees};
+
+    ghost then = { Agrees };
+}
+
+// The holder's part goes from one pass to another.
+pub struct Part;
+
+impl Split<Knows> for Part {
+    ghost use Rattle.lock_state.specs.HolderRules.{without, part_of};
+
+    ghost left = { without };
+
+    ghost right = { part_of };
+}
+
+impl Join<Knows> for Part {
+    ghost use Rattle.lock_state.specs.HolderRules.{beside, nobody};
+
+    ghost both = { beside };
+
+    ghost spent = { nobody };
+}

@@ -1,0 +1,202 @@
+// Tests of copies of logs into logs with sectors of 4,096 bytes.
+ghost use Rattle.std.specs.Prelude.{IfOk, IsTrue};
+ghost use Rattle.bio.specs.Requests.{is_tracked};
+ghost use Rattle.bio.specs.Sizes.{bytes_of};
+ghost use Rattle.log_format.specs.Entries.{is_readable};
+
+use bio::{Bio, Bytes, SectorSize, check_sized};
+use blockdev::BlockDev;
+use log_format::Entry;
+use log_reader::LogReader;
+use log_store::LogStore;
+use refusals::Refusal;
+use replay::{CopyFault, copy_log};
+use sector_disk::SectorDisk;
+use std::alloc::{AllocError, Global};
+use std::process::Abort;
+use std::test::Fail;
+use test_devices::{Failing, rows_are_told};
+
+// Copies, a line each: how many sectors the new log's disk has, how many writes and flushes its
+// device does before it fails, the first of them as the log begins, and the entries of a log with
+// sectors of 512 bytes. `w` writes sectors 8 to 15, `u` does with FUA, `p` writes sectors 4 to 11,
+// `l` sectors 8 to 11, `d` discards sectors 16 to 31, `f` flushes, `m` is a mark. After `=` stand
+// the answer, the new log's status, and the entries that a crash leaves, which keeps only what is
+// settled: place, length, flags and first byte of each.
+const COPIES: &str = "64 99 =0;0 0;
+64 99 wm=2;2 31;1+1 0 65;0+0 8 100;
+72 99 wudfm=5;5 63;1+1 0 65;1+1 2 65;2+2 4 0;0+0 1 0;0+0 8 100;
+64 99 wudfm=18 Full after 4;4 55 logging_disabled;1+1 0 65;1+1 2 65;
+64 99 wp=28 Unaligned after 1;1 23;
+64 99 mp=28 Unaligned after 1;1 15;0+0 8 100;
+64 99 ulw=28 Unaligned after 1;1 23;1+1 2 65;
+64 1 wm=19 Device after 0;0 0 logging_disabled;
+64 3 wm=19 Device after 1;1 23 logging_disabled;
+64 5 wm=19 Device after 2;2 31 logging_disabled;
+64 6 wm=19 Device after 2;2 31 logging_disabled;1+1 0 65;0+0 8 100;
+64 8 wm=2;2 31;1+1 0 65;0+0 8 100;";
+
+// Copies of logs with sectors of 4,096 bytes, and of such as have so many reads of their device
+// before it fails: the super block, and of each entry its own sector and a write's data.
+const READS: &str = "99 wdum=4;4 55;1+1 0 65;2+2 4 0;1+1 2 65;0+0 8 100;
+1 wm=1 Io after 0;0 0;
+2 um=1 Io after 0;0 0;
+3 um=1 Io after 1;1 23;1+1 2 65;";
+
+// The request that a letter stands for; any other one is a flush.
+fn request(alloc: Global, kind: u8) -> Result<Bio, AllocError>
+    ensures { IfOk result (λ bio. IsTrue (is_tracked bio)) }
+{
+    let (first, bytes) = match kind {
+        b'p' => (4, 4096),
+        b'l' => (8, 2048),
+        _ => (8, 4096),
+    };
+    Ok(match kind {
+        b'w' | b'u' | b'p' | b'l' => Bio::Write {
+            first,
+            bytes: Bytes::from_vec(vec![in alloc; b'A'; bytes]?),
+            flush: false,
+            fua: kind == b'u',
+            meta: false,
+        },
+        b'd' => Bio::Discard {
+            first: 16,
+            count: 16,
+        },
+        _ => Bio::Flush,
+    })
+}
+
+// The entry that a letter stands for, in a log with sectors of this size.
+fn entry(rt: &impl Abort, alloc: Global, size: SectorSize, kind: u8) -> Result<Entry, Fail>
+    ensures { IfOk result (λ entry. IsTrue (is_readable (bytes_of size) entry)) }
+{
+    if kind == b'm' {
+        log_format::laws::end_mark_is_readable();
+        return Ok(Entry::end_mark(alloc)?);
+    }
+    log_format::laws::requests_are_readable();
+    let bio = request(alloc, kind)?;
+    assert!(rt; check_sized(&bio, 1_048_576, size).is_ok());
+    Ok(Entry::of_request(alloc, &bio, size.bytes())?)
+}
+
+// A store over a device.
+fn store_over<D: BlockDev + Drop>(rt: &impl Abort, device: D, size: SectorSize) -> LogStore<D> {
+    assert!(rt; device.sectors() >= size.sectors());
+    LogStore::create_sized(device, size)
+        .ok()
+        .expect(rt, "a first write passes")
+}
+
+// A disk that has the log of these entries.
+fn log_of(
+    rt: &impl Abort,
+    alloc: Global,
+    size: SectorSize,
+    kinds: &str,
+) -> Result<SectorDisk, Fail> {
+    let mut store = store_over(rt, SectorDisk::new(alloc, 256)?, size);
+    for kind in kinds.bytes() {
+        assert!(rt;
+            store
+                .append(&entry(rt, alloc, store.sector_size(), kind)?)
+                .is_ok()
+        );
+    }
+    assert!(rt; store.settle().is_ok());
+    Ok(store.into_device())
+}
+
+// The entries of the log that a crash leaves.
+fn left(rt: &impl Abort, alloc: Global, disk: SectorDisk) -> Result<String, Fail> {
+    let mut disk = disk;
+    disk.crash(&[0; 128]);
+    let mut log = LogReader::open(alloc, disk).ok().expect(rt, "a log");
+    let mut list = String::new(alloc);
+    for _ in 0..log.head().count {
+        let (_, entry) = log
+            .next()
+            .ok()
+            .flatten()
+            .expect(rt, "an entry that is counted");
+        let byte = entry.body.as_slice().first().copied().unwrap_or(0);
+        let text = format!(in alloc;
+            "{}+{} {} {byte};",
+            entry.sector,
+            entry.nr_sectors,
+            entry.flags.bits()
+        )?;
+        list.push_str(text.as_str())?;
+    }
+    Ok(list)
+}
+
+// What is told of a copy of a device's log to a new one.
+fn copied<A: BlockDev + Drop>(
+    rt: &impl Abort,
+    alloc: Global,
+    device: A,
+    target: Failing<SectorDisk>,
+) -> Result<String, Fail> {
+    let mut log = LogReader::open(alloc, device).ok().expect(rt, "a log");
+    let mut store = store_over(rt, target, SectorSize::B4096);
+    assert!(rt; log.head().sectorsize <= store.sector_size().bytes());
+    let answer = match copy_log(&mut log, &mut store) {
+        Ok(count) => format!(in alloc; "{count}")?,
+        Err(CopyFault { applied, cause }) => {
+            format!(in alloc; "{} after {applied}", Refusal::from(cause))?
+        }
+    };
+    let status = store.status();
+    let list = left(rt, alloc, store.into_device().lower)?;
+    Ok(format!(in alloc; "{answer};{status};{list}")?)
+}
+
+fn number(word: Option<&str>) -> u64 {
+    word.unwrap_or_default().parse::<u64>().unwrap_or(0)
+}
+
+// What is told of a copy: how many sectors its disk has,
+// how many calls its device does, and the log's entries.
+fn copy_told(rt: &impl Abort, alloc: Global, row: &str) -> Result<String, Fail> {
+    let mut words = row.split(' ');
+    let disk = SectorDisk::new(alloc, number(words.next()).clamp(8, 8192))?;
+    let target = Failing::in_changes(disk, number(words.next()));
+    let kinds = words.next().unwrap_or_default();
+    copied(
+        rt,
+        alloc,
+        log_of(rt, alloc, SectorSize::B512, kinds)?,
+        target,
+    )
+}
+
+#[test]
+fn logs_are_copied(rt: HostRuntime) -> Result<(), Fail> {
+    let alloc = rt.alloc();
+    assert!(rt; rows_are_told(&rt, COPIES, |row| copy_told(&rt, alloc, row))?);
+    Ok(())
+}
+
+// What is told of a copy of a log whose device fails: how
+// many reads it does, and the log's entries.
+fn reads_told(rt: &impl Abort, alloc: Global, row: &str) -> Result<String, Fail> {
+    let (reads, kinds) = row.split_once(' ').unwrap_or_default();
+    let log = log_of(rt, alloc, SectorSize::B4096, kinds)?;
+    let log = Failing::in_reads(log, number(Some(reads)));
+    copied(
+        rt,
+        alloc,
+        log,
+        Failing::in_changes(SectorDisk::new(alloc, 64)?, 99),
+    )
+}
+
+#[test]
+fn logs_whose_device_fails_are_copied_in_part(rt: HostRuntime) -> Result<(), Fail> {
+    let alloc = rt.alloc();
+    assert!(rt; rows_are_told(&rt, READS, |row| reads_told(&rt, alloc, row))?);
+    Ok(())
+}

@@ -1,0 +1,293 @@
+//! Which calls a replay makes.
+use log_reader::LogReader;
+use refusals::Refusal;
+use replay::{ReplayFault, Upto, replay};
+use sector_disk::SectorDisk;
+use std::alloc::{AllocError, Global};
+use std::io::Print;
+use std::process::Abort;
+use std::test::Fail;
+use super::{disk_of, image_of, number_of, upto_of};
+use test_devices::{Failing, Watched, holds, is_told};
+
+// A replay's log and its target, each on a device that notes its calls.
+#[derive(Drop)]
+struct Pair {
+    log: LogReader<Watched<Failing<SectorDisk>>>,
+    target: Watched<Failing<SectorDisk>>,
+}
+
+// The log of an image of so many bytes, and a target of so
+// many sectors of zeroes; each passes so many calls.
+fn pair_of(
+    rt: &impl Abort,
+    alloc: Global,
+    image: Vec<u8>,
+    log_passes: u64,
+    sectors: u64,
+    passes: u64,
+) -> Result<Pair, Fail> {
+    let disk = Failing::in_calls(disk_of(rt, alloc, image)?, log_passes);
+    let target = SectorDisk::new(alloc, sectors.clamp(1, 1_048_576))?;
+    let target = Failing::in_calls(target, passes);
+    Ok(Pair {
+        log: LogReader::open(alloc, Watched::new(alloc, disk))
+            .ok()
+            .expect(rt, "a log"),
+        target: Watched::new(alloc, target),
+    })
+}
+
+// What is shown of a replay: its answer, and the calls that its target has seen.
+fn step(alloc: Global, pair: &mut Pair, upto: &Upto) -> Result<String, AllocError> {
+    let mut text = match replay(&mut pair.log, &mut pair.target, upto) {
+        Ok(count) => format!(in alloc; "{count}:")?,
+        Err(ReplayFault { applied, cause }) => {
+            format!(in alloc; "{} after {applied}:", Refusal::from(cause))?
+        }
+    };
+    text.push_str(pair.target.seen.as_str().trim_end())?;
+    pair.target.seen = String::new(alloc);
+    Ok(text)
+}
+
+// Writes with no flag, with FUA, with FLUSH and FUA, and of no sectors; a flush; discards of three
+// sectors and of none; a mark; a write with META.
+const CALLS: &str =
+    "8 1 9 512 0 512 5 1 0 0 1536 6 2 2 0 3072 8 1 3 0 4096 0 0 0 0 4608 0 0 1 0 5120 9 3 4 0 5632 0 0 4 0 6144 0 0 8 0 6656 1 1 16 0";
+
+// Sectors of 4,096 bytes: a write, a discard, and a mark.
+const LARGEST: &str = "8 1 3 4096 0 4096 1 1 2 0 12288 0 1 4 0 16384 0 0 8 0";
+
+// A write of 8,192 sectors, and a discard of 131,072.
+const LONG: &str = "8 1 1 512 0 512 3 8192 0 0";
+
+const WIDE: &str = "8 1 1 512 0 512 1 131072 4 0";
+
+// Marks: `ab`, `a`, of no text, of the bytes 0 and 255, `a` again, and of 480 zero bytes.
+const MARKS: &str =
+    "8 1 6 512 0 512 0 0 8 2 544 25185 0 0 0 1024 0 0 8 1 1056 97 0 0 0 1536 0 0 8 0 2048 0 0 8 2 2080 65280 0 0 0 2560 0 0 8 1 2592 97 0 0 0 3072 0 0 8 480";
+
+// A mark with FLUSH, a write with FLUSH, and a flush.
+const FLUSHES: &str = "8 1 3 512 0 512 0 0 9 0 1024 2 1 1 0 2048 0 0 1 0";
+
+// One entry is counted; a write, a flush and a mark stand behind it.
+const STALE: &str = "8 1 1 512 0 512 5 1 0 0 1536 6 1 0 0 2560 0 0 1 0 3072 0 0 8 0";
+
+// The second entry can't be read.
+const DAMAGED: &str = "8 1 2 512 0 512 5 1 0 0 1536 0 9223372036854775808 0 0";
+
+// The image of this name.
+fn image_named(alloc: Global, name: &str) -> Result<Vec<u8>, AllocError> {
+    match name {
+        "calls" => image_of(alloc, CALLS, 7_680),
+        "largest" => image_of(alloc, LARGEST, 20_480),
+        "long" => image_of(alloc, LONG, 4_195_328),
+        "wide" => image_of(alloc, WIDE, 1_024),
+        "marks" => image_of(alloc, MARKS, 3_584),
+        "flushes" => image_of(alloc, FLUSHES, 4_096),
+        "stale" => image_of(alloc, STALE, 4_096),
+        _ => image_of(alloc, DAMAGED, 4_096),
+    }
+}
+
+// The pair of a row: the name of an image, the calls that its device passes, how many sectors the
+// target has, and the calls that it passes.
+fn pair_in(rt: &impl Abort, alloc: Global, row: &str) -> Result<Pair, Fail> {
+    let mut words = row.split(' ');
+    let image = image_named(alloc, words.next().unwrap_or_default())?;
+    let log_passes = number_of(words.next());
+    let sectors = number_of(words.next());
+    pair_of(
+        rt,
+        alloc,
+        image,
+        log_passes,
+        sectors,
+        number_of(words.next()),
+    )
+}
+
+// Makes the replays of a row, one after another, each as what is asked for and what is shown.
+fn assert_steps(
+    rt: &(impl Abort + Print),
+    alloc: Global,
+    pair: &mut Pair,
+    replays: &str,
+    row: &str,
+) -> Result<(), Fail> {
+    for replay in replays.split(';') {
+        let (asked, wanted) = replay.split_once('=').unwrap_or_default();
+        let found = step(alloc, pair, &upto_of(asked))?;
+        assert!(rt; is_told(rt, found.as_str(), wanted, row));
+    }
+    Ok(())
+}
+
+// Makes the replays of each row on its pair. Each call of the log's device is at the moment 0.
+fn assert_replays(rt: &(impl Abort + Print), alloc: Global, rows: &str) -> Result<(), Fail> {
+    for row in rows.lines() {
+        let (made, replays) = row.split_once(';').unwrap_or_default();
+        let mut pair = pair_in(rt, alloc, made)?;
+        assert_steps(rt, alloc, &mut pair, replays, row)?;
+        let seen = pair.log.into_device().seen;
+        assert!(rt; holds(rt, !seen.as_str().contains('@'), row));
+    }
+    Ok(())
+}
+
+// Each entry with sectors is one call, at the moment 0 and without FUA, and the others are none.
+#[test]
+fn each_entry_is_one_call(rt: HostRuntime) -> Result<(), Fail> {
+    assert_replays(
+        &rt,
+        rt.alloc(),
+        "calls - 16 -;9=9:w5+1 w6+2 w8+1 d9+3 w1+1
+calls - 16 -;5=5:w5+1 w6+2 w8+1
+calls - 11 -;9=27 PastTarget after 5:w5+1 w6+2 w8+1
+largest - 16 -;3=3:w8+8 d0+8
+largest - 15 -;3=27 PastTarget after 0:
+long - 8195 -;1=1:w3+8192
+wide - 131073 -;1=1:d1+131072
+wide - 131072 -;1=27 PastTarget after 0:",
+    )
+}
+
+// Appends an entry of the log of thousands, and the call that is wanted of it.
+fn push_discard(
+    alloc: Global,
+    number: u64,
+    text: &mut String,
+    wanted: &mut String,
+) -> Result<(), AllocError> {
+    let at = number.saturating_mul(512).saturating_add(512);
+    let sector = number % 16;
+    text.push_str(format!(in alloc; " {at} {sector} 1 4 0")?.as_str())?;
+    wanted.push_str(format!(in alloc; "d{sector}+1 ")?.as_str())?;
+    Ok(())
+}
+
+// What is shown of the replay of a log of this text, up to its first flush.
+fn long_text(rt: &impl Abort, alloc: Global, text: &str) -> Result<String, Fail> {
+    let image = image_of(alloc, text, 15_361_024)?;
+    let mut pair = pair_of(rt, alloc, image, u64::MAX, 16, u64::MAX)?;
+    Ok(step(alloc, &mut pair, &Upto::Flush)?)
+}
+
+// Each of thousands of discards is one call, in their order; where the time of each grew with its
+// place, the test would not end in time.
+#[test]
+fn thousands_of_entries_are_replayed(rt: HostRuntime) -> Result<(), Fail> {
+    let alloc = rt.alloc();
+    let mut text = String::from_str(alloc, "8 1 30001 512 0")?;
+    let mut wanted = String::from_str(alloc, "30001:")?;
+    for number in 0..30_000 {
+        push_discard(alloc, number, &mut text, &mut wanted)?;
+    }
+    text.push_str(" 15360512 0 0 1 0")?;
+    let found = long_text(&rt, alloc, text.as_str())?;
+    assert!(rt; found.as_str() == wanted.as_str().trim_end());
+    Ok(())
+}
+
+// A target that fails ends the replay at that call.
+#[test]
+fn targets_that_fail_end_a_replay(rt: HostRuntime) -> Result<(), Fail> {
+    assert_replays(
+        &rt,
+        rt.alloc(),
+        "calls - 16 0;9=1 Io after 0:w5+1
+calls - 16 1;9=1 Io after 1:w5+1 w6+2
+calls - 16 2;9=1 Io after 2:w5+1 w6+2 w8+1
+calls - 16 3;9=1 Io after 5:w5+1 w6+2 w8+1 d9+3
+calls - 16 4;9=1 Io after 8:w5+1 w6+2 w8+1 d9+3 w1+1
+calls - 16 5;9=9:w5+1 w6+2 w8+1 d9+3 w1+1",
+    )
+}
+
+// A log device that fails does so too: in a search nothing is applied, in reading an entry's own
+// sector or its data that one isn't.
+#[test]
+fn log_devices_that_fail_end_a_replay(rt: HostRuntime) -> Result<(), Fail> {
+    assert_replays(
+        &rt,
+        rt.alloc(),
+        "calls 1 16 -;f=1 Io after 0:
+calls 3 16 -;f=1 Io after 0:
+calls 4 16 -;f=1 Io after 0:
+calls 9 16 -;f=1 Io after 2:w5+1 w6+2
+calls 1 16 -;m=1 Io after 0:
+calls 1 16 -;9=1 Io after 0:
+calls 2 16 -;9=1 Io after 0:
+calls 3 16 -;9=1 Io after 1:w5+1
+calls 4 16 -;9=1 Io after 1:w5+1
+calls 5 16 -;9=1 Io after 2:w5+1 w6+2
+calls 9 16 -;9=1 Io after 5:w5+1 w6+2 w8+1
+calls 1 16 -;0=0:",
+    )
+}
+
+// A replay up to the first mark of just these bytes shows so.
+fn check_mark(
+    rt: &(impl Abort + Print),
+    alloc: Global,
+    mark: &[u8],
+    wanted: &str,
+) -> Result<(), Fail> {
+    let image = image_named(alloc, "marks")?;
+    let mut pair = pair_of(rt, alloc, image, u64::MAX, 16, u64::MAX)?;
+    let found = step(alloc, &mut pair, &Upto::Mark(mark))?;
+    assert!(rt; is_told(rt, found.as_str(), wanted, "a mark"));
+    Ok(())
+}
+
+// The first mark of just the text is taken, whatever its bytes; none that begins with it.
+#[test]
+fn marks_are_found_by_all_their_bytes(rt: HostRuntime) -> Result<(), Fail> {
+    let alloc = rt.alloc();
+    assert_replays(
+        &rt,
+        alloc,
+        "marks - 16 -;mab=1:
+marks - 16 -;ma=2:
+marks - 16 -;m=3:
+marks - 16 -;mb=25 NoSuchMark after 0:",
+    )?;
+    check_mark(&rt, alloc, &[0, 255], "4:")?;
+    check_mark(&rt, alloc, &[0; 480], "6:")?;
+    check_mark(&rt, alloc, &[0; 479], "25 NoSuchMark after 0:")
+}
+
+// A replay goes on where the one before it ended.
+#[test]
+fn replays_go_on_from_the_place(rt: HostRuntime) -> Result<(), Fail> {
+    assert_replays(
+        &rt,
+        rt.alloc(),
+        "marks - 16 -;ma=2:;ma=3:;ma=25 NoSuchMark after 0:;1=1:;1=33 PastEntries after 0:;0=0:
+flushes - 16 -;f=2:w2+1;f=1:;f=26 NoFlush after 0:",
+    )
+}
+
+// What stands behind the counted entries isn't looked at.
+#[test]
+fn stale_entries_are_not_replayed(rt: HostRuntime) -> Result<(), Fail> {
+    assert_replays(
+        &rt,
+        rt.alloc(),
+        "stale - 16 -;2=33 PastEntries after 0:;18446744073709551615=33 PastEntries after 0:;f=26 NoFlush after 0:;m=25 NoSuchMark after 0:;1=1:w5+1;1=33 PastEntries after 0:",
+    )
+}
+
+// After a refusal of its own a reader refuses by 22, but for
+// more entries than there are; after another one it goes on.
+#[test]
+fn readers_refuse_after_a_refusal(rt: HostRuntime) -> Result<(), Fail> {
+    assert_replays(
+        &rt,
+        rt.alloc(),
+        "damaged - 16 -;3=33 PastEntries after 0:;2=17 TooLarge after 1:w5+1;1=22 Failed after 0:;f=22 Failed after 0:;m=22 Failed after 0:;2=33 PastEntries after 0:
+damaged - 16 -;f=17 TooLarge after 0:;1=22 Failed after 0:
+damaged - 5 -;1=27 PastTarget after 0:;1=17 TooLarge after 0:;1=22 Failed after 0:",
+    )
+}

@@ -1,0 +1,127 @@
+-- How the loops over a text come to what `Words` says: cutting at a byte, and reading a number.
+-- The proofs of `cut` and `number_of` cite them.
+-- Its own crate alone cites it, for the theorems of src/cutting.rt and src/numbers.rt.
+use Rattle.std.proofs.Common.{◌≡◌, ℕ, ◌+◌, ◌-◌, ◌*◌, ◌^◌, ◌<◌, ◌≤◌, suc, Bool, true, false, ◌&&◌}
+use Rattle.std.proofs.Common.{cond, List, [], ◌∷◌, length, take, drop, take_all, Option, Some, None}
+use Rattle.std.proofs.Common.{⊎_elim, lit<, refl, ap, ◌∙◌, sym, arith}
+use Rattle.std.specs.Prelude.{nat_lt, nat_le, ◌==◌, position, not}
+use Rattle.std.specs.Option.{option_and_then}
+use Rattle.std.specs.Char.{is_ascii_digit}
+use Rattle.std.specs.List.{list_all, position_or_len}
+use Rattle.std.proofs.lemmas.Bool.{and_right, cases_lt, cond-true, cond-false, ltb-true, ltb-false}
+use Rattle.std.proofs.lemmas.Bool.{lt-ltb, le-ltb, le-leb}
+use Rattle.std.proofs.lemmas.Bool.Decides.{nat_tests}
+use Rattle.refusals.specs.Words.{before_byte, after_byte, number_after, number_of, with_digit}
+
+-- one more byte before the mark
+front_step : (t : Bool) (n b : ℕ) (bytes f : List ℕ) → take n bytes ≡ f
+    → take (cond (not t) (1 + n) 0) (b ∷ bytes) ≡ cond t [] (b ∷ f)
+front_step true n b bytes f same = refl
+front_step false n b bytes f same =
+    let e : 1 + n ≡ suc n = omega arith in rw e (ap (λ x. b ∷ x) same)
+
+-- one more byte
+behind_step : (t : Bool) (n b : ℕ) (bytes : List ℕ) (rest : Option (List ℕ))
+    → rest ≡ cond (nat_lt n (length bytes)) (Some (drop (n + 1) bytes)) None
+    → cond t (Some bytes) rest ≡ cond (nat_lt (cond (not t) (1 + n) 0) (length (b ∷ bytes)))
+    (Some (drop (cond (not t) (1 + n) 0 + 1) (b ∷ bytes))) None
+behind_step true n b bytes rest same = grind (arith, nat_tests)
+behind_step false n b bytes rest same =
+    let one : 1 + n + 1 ≡ suc (n + 1) = omega arith in
+    let test : nat_lt (1 + n) (suc (length bytes)) ≡ nat_lt n (length bytes) =
+    grind (arith, nat_tests) in
+    rw (test, one) same
+
+-- what stands before the first such byte, by its place
+pub front_by_place : (mark : ℕ) (bytes : List ℕ)
+    → take (position_or_len (λ b. b == mark) bytes) bytes ≡ before_byte mark bytes
+front_by_place mark [] = refl
+front_by_place mark (b ∷ bytes) = front_step (b == mark) _ b bytes _ (front_by_place mark bytes)
+
+-- what stands after the first such byte, by its place
+pub behind_by_place : (mark : ℕ) (bytes : List ℕ)
+    → after_byte mark bytes ≡ cond (nat_lt (position_or_len (λ b. b == mark) bytes) (length bytes))
+    (Some (drop (position_or_len (λ b. b == mark) bytes + 1) bytes)) None
+behind_by_place mark [] = refl
+behind_by_place mark (b ∷ bytes) = behind_step (b == mark) _ b bytes _ (behind_by_place mark bytes)
+
+-- the number that digits write after those of n, where they are digits and it is below 2 ^ 64
+abbrev pub number_behind : ℕ → List ℕ → Option ℕ
+number_behind n [] = Some n
+number_behind n (digit ∷ digits) =
+    option_and_then (λ m. number_behind m digits) (with_digit n digit)
+
+-- digits after a number make it no smaller
+pub number_after_grows : (n : ℕ) (digits : List ℕ) → n ≤ number_after n digits
+number_after_grows n [] = omega arith
+number_after_grows n (digit ∷ digits) =
+    omega (arith, number_after_grows (10 * n + (digit - 48)) digits)
+
+-- one more digit
+closed_step : (t all : Bool) (m end : ℕ) (f : ℕ → Option ℕ) → m ≤ end
+    → (m < 2 ^ 64 → f m ≡ cond (all && nat_lt end (2 ^ 64)) (Some end) None) →
+    option_and_then f (cond (t && nat_lt m (2 ^ 64)) (Some m) None)
+    ≡ cond ((t && all) && nat_lt end (2 ^ 64)) (Some end) None
+closed_step false all m end f up same = refl
+closed_step true all m end f up same =
+    ⊎_elim
+    (λ (low : m < 2 ^ 64). let test : nat_lt m (2 ^ 64) ≡ true = lt-ltb _ _ low in
+    rw test (same low))
+    (λ (high : 2 ^ 64 ≤ m). let test : nat_lt m (2 ^ 64) ≡ false = le-ltb _ _ high in
+    let past : nat_lt end (2 ^ 64) ≡ false = le-ltb _ _ (omega arith) in
+    rw (test, past) (sym (cond-false _ _ _ (and_right all false refl))))
+    (cases_lt m (2 ^ 64))
+
+-- all digits at once
+pub number_behind_closed : (n : ℕ) (digits : List ℕ) → n < 2 ^ 64
+    → number_behind n digits
+    ≡ cond (list_all is_ascii_digit digits && nat_lt (number_after n digits) (2 ^ 64))
+    (Some (number_after n digits)) None
+number_behind_closed n [] low = let test : nat_lt n (2 ^ 64) ≡ true = lt-ltb _ _ low in rw test refl
+number_behind_closed n (digit ∷ digits) low =
+    closed_step (is_ascii_digit digit) _ (10 * n + (digit - 48)) _ (λ m. number_behind m digits)
+    (number_after_grows (10 * n + (digit - 48)) digits)
+    (number_behind_closed (10 * n + (digit - 48)) digits)
+
+-- a value was chosen
+chosen_some : (t : Bool) (n place : ℕ) → Some place ≡ cond t (Some n) None
+    → (t ≡ true) × (place ≡ n)
+chosen_some true n place e = (refl, cc)
+chosen_some false n place e = absurd (cc)
+
+-- nothing was chosen
+chosen_none : (t : Bool) (n : ℕ) → None ≡ cond t (Some n) None → t ≡ false
+chosen_none true n e = absurd (cc)
+chosen_none false n e = refl
+
+-- what a cut at the first such byte gives
+pub cut_some : (mark : ℕ) (bytes : List ℕ) (place : ℕ)
+    → Some place ≡ position (λ b. b == mark) bytes
+    → (place < length bytes) × (take place bytes ≡ before_byte mark bytes)
+    × (after_byte mark bytes ≡ Some (drop (place + 1) bytes))
+cut_some mark bytes place e =
+    let h : (nat_lt (position_or_len (λ b. b == mark) bytes) (length bytes) ≡ true)
+    × (place ≡ position_or_len (λ b. b == mark) bytes) = chosen_some _ _ _ e in
+    rw h.1 (
+      ltb-true _ _ h.0,
+      front_by_place mark bytes,
+      behind_by_place mark bytes ∙ cond-true _ _ _ h.0,
+    )
+
+-- what no cut leaves
+pub cut_none : (mark : ℕ) (bytes : List ℕ) → None ≡ position (λ b. b == mark) bytes
+    → (bytes ≡ before_byte mark bytes) × (after_byte mark bytes ≡ None)
+cut_none mark bytes e =
+    let h : nat_lt (position_or_len (λ b. b == mark) bytes) (length bytes) ≡ false =
+    chosen_none _ _ e in (
+      sym (take_all _ bytes (ltb-false _ _ h)) ∙ front_by_place mark bytes,
+      behind_by_place mark bytes ∙ cond-false _ _ _ h,
+    )
+
+-- the start of a word of 1 to 20 bytes
+pub number_start : (word : List ℕ) → 0 < length word → length word ≤ 20
+    → number_behind 0 word ≡ number_of word
+number_start word low high =
+    let l : nat_lt 0 (length word) ≡ true = lt-ltb _ _ low in
+    let h : nat_le (length word) 20 ≡ true = le-leb _ _ high in
+    number_behind_closed 0 word (lit< tt) ∙ (rw (l, h) refl)

@@ -1,0 +1,51 @@
+-- Why a command ends before its time, and how that is shown.
+-- Any crate above may cite it.
+use Rattle.std.specs.Prelude.{◌≡◌, ◌⊎◌, ℕ, List, ◌++◌, codes}
+use Rattle.std.specs.Fmt.{decimal}
+use Rattle.std.specs.declared.io.ErrorKind.{ErrorKind}
+use Rattle.std.specs.declared.io.ErrorKind.TheVariants as kinds
+use Rattle.refusals.specs.declared.fault.Fault.{Fault}
+use Rattle.refusals.specs.declared.refusal.Refusal.{Refusal}
+use Rattle.refusals.specs.declared.refusal.Refusal.TheVariants as refusals
+use Rattle.refusals.specs.Texts.{fault_text, refusal_text, without_line}
+use Rattle.refusals.specs.Ends.{end_refusal}
+use Rattle.refusals.specs.declared.run_error.RunError.{RunError}
+use Rattle.refusals.specs.declared.run_error.RunError.TheVariants.{Refused, LoggingEnded}
+use Rattle.refusals.specs.declared.run_error.RunError.TheVariants.{StoppedAfter}
+
+-- a refusal that names no line
+abbrev pub refused_by : Refusal → RunError
+refused_by refusal = Refused (without_line refusal)
+
+-- there was no memory
+abbrev pub memory_error : RunError
+memory_error = refused_by refusals.Memory
+
+-- the refusal that an output or a file is shown by that failed for this kind of reason
+abbrev pub io_refusal : ErrorKind → Refusal
+io_refusal kinds.OutOfMemory = refusals.Memory
+io_refusal _ = refusals.File
+
+-- a file or an output can't be read or written, or there is no memory for it
+abbrev pub IsFileError : RunError → Type 0
+IsFileError error = (error ≡ refused_by refusals.File) ⊎ (error ≡ memory_error)
+
+-- the fault that it is told by: its own, or the refusal of the cause that ended logging, or the one
+-- at which a log's entries stopped
+abbrev pub fault_of : RunError → Fault
+fault_of (Refused fault) = fault
+fault_of (LoggingEnded end) = without_line (end_refusal end)
+fault_of (StoppedAfter applied refusal) = without_line refusal
+
+-- how many entries of a log were taken before
+abbrev pub taken_before : RunError → ℕ
+taken_before (StoppedAfter applied refusal) = applied
+taken_before other = 0
+
+-- how it is shown: by its fault, by the refusal of the cause that ended logging, or by the refusal
+-- at which a log's entries stopped, and after how many of them
+abbrev pub error_text : RunError → List ℕ
+error_text (Refused fault) = fault_text fault
+error_text (LoggingEnded end) = refusal_text (end_refusal end)
+error_text (StoppedAfter applied refusal) =
+    refusal_text refusal ++ codes " after " ++ decimal applied ++ codes " entries"

@@ -1,0 +1,24 @@
+//! Cuts a text at the first byte of a kind.
+//! The readers of script lines and of dm-dust's messages take their words so.
+//! Its clauses are written in specs/Words; its theorems in proofs/cutting/.
+ghost use Rattle.std.specs.Prelude.{◌≡◌, ◌==◌, option_copied, position};
+ghost use Rattle.refusals.specs.Words.{before_byte, after_byte};
+
+/// The bytes before the first `mark`, and those after it where it is there.
+#[tactic(auto, using(crate::proofs::WordLemmas::front_by_place, crate::proofs::WordLemmas::behind_by_place))]
+pub fn cut(bytes: &[u8], mark: u8) -> (&[u8], Option<&[u8]>)
+    ensures before_byte { result.0.now ≡ before_byte mark bytes.now }
+    ensures after_byte { option_copied result.1 ≡ after_byte mark bytes.now }
+{
+    match place_of(bytes, mark) {
+        Some(place) => (&bytes[..place], Some(&bytes[place + 1..])),
+        None => (bytes, None),
+    }
+}
+
+// The place of the first `mark`.
+fn place_of(bytes: &[u8], mark: u8) -> Option<usize>
+    ensures { result ≡ position (λ b. b == mark) bytes.now }
+{
+    bytes.iter().position(|byte| *byte == mark)
+}

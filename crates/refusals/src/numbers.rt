@@ -1,0 +1,33 @@
+//! Reads a word as a number below 2^64.
+//! Scripts, table lines, messages and command lines read their numbers by `number_of`.
+//! Its clauses are written in specs/Words; its theorems in proofs/numbers/.
+ghost use Rattle.std.specs.Prelude.{◌≡◌};
+ghost use Rattle.refusals.specs.Words.{number_of as the_number, with_digit};
+
+/// The most digits of a number.
+const NUMBER_DIGITS: usize = 20;
+
+/// The number that a word is: 1 to 20 decimal digits, the first of which may be 0, of a value below
+/// 2^64.
+pub fn number_of(word: &[u8]) -> Option<u64>
+    ensures { result ≡ the_number word.now }
+{
+    if word.is_empty() || word.len() > NUMBER_DIGITS {
+        return None;
+    }
+    let mut value: u64 = 0;
+    for digit in word {
+        value = with_digit(value, *digit)?;
+    }
+    Some(value)
+}
+
+// The number that a digit after a number makes, if it is a digit and the number is below 2^64.
+fn with_digit(number: u64, digit: u8) -> Option<u64>
+    ensures { result ≡ with_digit number digit }
+{
+    match digit {
+        b'0'..=b'9' => number.checked_mul(10)?.checked_add(u64::from(digit - b'0')),
+        _ => None,
+    }
+}

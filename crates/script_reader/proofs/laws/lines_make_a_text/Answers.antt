@@ -1,9 +1,0 @@
--- Answers to the goals of `lines_make_a_text` (src/laws.rt) that the search leaves.
-use Rattle.script_reader.proofs.CanonicalTextLaws.{ended_lines, ended_but_last}
-use Rattle.script_reader.proofs.laws.lines_make_a_text.Goals as goal
-
-pub returns-clause-with_line_feeds : goal.returns-clause-with_line_feeds
-returns-clause-with_line_feeds c = ended_lines
-
-pub returns-clause-last : goal.returns-clause-last
-returns-clause-last c = ended_but_last

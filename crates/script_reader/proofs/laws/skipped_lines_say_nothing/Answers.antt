@@ -1,9 +1,0 @@
--- Answers to the goals of `skipped_lines_say_nothing` (src/laws.rt) that the search leaves.
-use Rattle.script_reader.proofs.ScriptLaws.{spells_with, spells_without}
-use Rattle.script_reader.proofs.laws.skipped_lines_say_nothing.Goals as goal
-
-pub returns-clause-put_in : goal.returns-clause-put_in
-returns-clause-put_in c = spells_with
-
-pub returns-clause-left_out : goal.returns-clause-left_out
-returns-clause-left_out c = spells_without

@@ -1,9 +1,0 @@
--- The definitions of `script_reader` that its proofs alone use: no other crate cites them.
--- Any crate above may cite it.
-pub mod LineParser
-pub mod Stages
-pub mod Heads
-pub mod Drafts
-pub mod Readers
-pub mod RunLineParser
-pub mod RunReaders

@@ -1,3 +1,0 @@
--- The definitions that the contracts of `shared_tests` are written in.
-pub use Rattle.lock_state.specs.PlacedItems
-pub mod Disks

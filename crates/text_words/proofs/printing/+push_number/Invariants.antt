@@ -1,5 +1,0 @@
--- What holds at the calls and the turns of the loops of `+push_number` (src/printing.rt).
-use Rattle.text_words.proofs.printing.+push_number.Given as goal
-
-abbrev pub decreases-push_number : goal.decreases-push_number
-decreases-push_number l = l.number

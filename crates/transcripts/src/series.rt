@@ -1,0 +1,40 @@
+//! Series of commands over files in memory, each compared with what was worked out apart.
+//!
+//! A series goes through all cases of its kind, and prints a line with its counts, and of each case
+//! that came out otherwise what was printed and what was wanted.
+
+mod asking;
+mod damage;
+mod devices;
+mod faults;
+mod images;
+mod layers;
+mod limits;
+mod most_seats;
+mod report;
+mod seats;
+mod targets;
+
+pub(crate) use report::Report;
+
+use std::alloc::{AllocError, Global};
+use std::sync::Wait;
+use std::thread::Threads;
+
+/// Runs the series of a name.
+pub(crate) fn run<H: Threads + Wait + Sync>(
+    rt: &H,
+    alloc: Global,
+    name: &str,
+    report: &mut Report,
+) -> Result<(), AllocError> {
+    match name {
+        "layers" => devices::run(rt, alloc, report),
+        "logs" => damage::run(rt, alloc, report),
+        "images" => images::run(rt, alloc, report),
+        "targets" => targets::run(rt, alloc, report),
+        "seats" => seats::run(rt, alloc, report),
+        "limits" => limits::run(rt, alloc, report),
+        _ => report.line("no such series"),
+    }
+}

@@ -1,0 +1,325 @@
+// Logs that were cut, or of which one byte was changed: what is told of each.
+use crate::series::asking::{Wanted, ask, folder_of};
+use crate::series::faults::{Faults, LOG_FAULTS, REPLAY_FAULTS};
+use crate::series::report::{Report, check};
+use crate::series::{images, targets};
+use std::alloc::{AllocError, Global};
+use std::sync::Wait;
+use std::thread::Threads;
+use test_devices::Folder;
+
+// A write that a flush makes durable.
+const FLUSHED: &str = "data 16\nlog 32\nw a 5 1 41\nc a\nf b\nc b\nclose\n";
+
+// A write, and one of two sectors with a flush and FUA.
+const SETTLED: &str =
+    "data 16\nlog 32\nw a 4 1 11\nc a\nw b 8 2 22 flush fua\nc b\nturn\nturn\nclose\n";
+
+// What is listed of the first log, line by line.
+const LISTED: [&str; 4] = [
+    "super version 1 entries 3 sectorsize 512\n",
+    "0 @1 write 5+1\n",
+    "1 @3 flush\n",
+    "2 @4 mark dm-log-writes-end\n",
+];
+
+// What is told of a log that is too short.
+const CUT: &str = "dmlw: 21 CutShort\n";
+
+// The length of a sector, of the data disk, and of the part of a log that is changed byte by byte,
+// in bytes; and the sectors of a log.
+const SECTOR: usize = 512;
+
+const DATA_BYTES: usize = 8192;
+
+const DAMAGED_BYTES: usize = 1024;
+
+const LOG_SECTORS: usize = 32;
+
+// What a byte is set to.
+const VALUES: [u8; 4] = [0x00, 0x7f, 0x80, 0xff];
+
+// Where the count of entries stands in a super.
+const COUNT_AT: usize = 16;
+
+// A byte of a log that is set to another value.
+#[derive(Clone, Copy)]
+struct Damage {
+    place: usize,
+    value: u8,
+}
+
+// What is told of the logs: the ways of reading them, each with its counts.
+#[derive(Drop)]
+struct Seen {
+    images: u64,
+    // How many of them are the log as it was, which is read once.
+    same: u64,
+    listed: Faults,
+    status: Faults,
+    counted: Faults,
+    flushed: Faults,
+}
+
+/// Reads images of chosen fields, cuts a log to each of its sectors,
+/// changes each byte of another one's first two sectors, replays the first
+/// log onto devices that fail or lie, and reports what is told of these.
+pub fn run<H: Threads + Wait + Sync>(
+    rt: &H,
+    alloc: Global,
+    report: &mut Report,
+) -> Result<(), AllocError> {
+    images::run(rt, alloc, report)?;
+    run_cuts(rt, alloc, report)?;
+    run_damages(rt, alloc, report)?;
+    targets::run(rt, alloc, report)
+}
+
+/// The log of a write that a flush makes durable.
+pub fn plain_log<H: Threads + Wait + Sync>(rt: &H, alloc: Global) -> Result<Vec<u8>, AllocError> {
+    log_of(rt, alloc, FLUSHED)
+}
+
+// The log that a script leaves.
+fn log_of<H: Threads + Wait + Sync>(
+    rt: &H,
+    alloc: Global,
+    script: &str,
+) -> Result<Vec<u8>, AllocError> {
+    let mut folder = folder_of(alloc, script)?;
+    let _ = ask(rt, alloc, "record script log", &mut folder)?;
+    Vec::from_slice(alloc, folder.bytes("log").unwrap_or_default())
+}
+
+// Reads the first log cut to each number of sectors.
+fn run_cuts<H: Threads + Wait + Sync>(
+    rt: &H,
+    alloc: Global,
+    report: &mut Report,
+) -> Result<(), AllocError> {
+    let log = plain_log(rt, alloc)?;
+    let before = report.differ();
+    let mut folder = Folder::new(alloc);
+    folder.put(alloc, "zeroes", vec![in alloc; 0; DATA_BYTES]?)?;
+    for sectors in 1..=LOG_SECTORS {
+        let cut = log
+            .get(..sectors.saturating_mul(SECTOR))
+            .unwrap_or_default();
+        folder.put(alloc, "log", Vec::from_slice(alloc, cut)?)?;
+        check_cut(rt, alloc, sectors, &mut folder, report)?;
+    }
+    let differ = report.differ().saturating_sub(before);
+    let line = format!(in alloc; "cuts: {LOG_SECTORS} images, {differ} differ")?;
+    report.line(line.as_str())
+}
+
+// A log with too few sectors for its count is refused at once; one that lacks its last entry's
+// sector lists the two before it; a longer one lists all.
+fn check_cut<H: Threads + Wait + Sync>(
+    rt: &H,
+    alloc: Global,
+    sectors: usize,
+    folder: &mut Folder,
+    report: &mut Report,
+) -> Result<(), AllocError> {
+    let lines = match sectors {
+        0..=3 => 0,
+        4 => 3,
+        _ => 4,
+    };
+    let mut listed = String::new(alloc);
+    for line in LISTED.iter().take(lines) {
+        listed.push_str(line)?;
+    }
+    let (status, replayed) = if lines == LISTED.len() {
+        ("3 4\n", "replayed 3\n")
+    } else {
+        ("", "")
+    };
+    let (fault, stop) = match lines {
+        0 => (CUT, CUT),
+        3 => (CUT, "dmlw: 21 CutShort after 2 entries\n"),
+        _ => ("", ""),
+    };
+    let wanted = [
+        Wanted {
+            line: "list log",
+            out: listed.as_str(),
+            err: fault,
+        },
+        Wanted {
+            line: "status log",
+            out: status,
+            err: fault,
+        },
+        Wanted {
+            line: "replay log zeroes out entries:3",
+            out: replayed,
+            err: stop,
+        },
+    ];
+    let case = format!(in alloc; "cut to {sectors} sectors")?;
+    check(rt, alloc, case.as_str(), &wanted, folder, report)
+}
+
+// Reads the second log with each of its first bytes set to each value.
+fn run_damages<H: Threads + Wait + Sync>(
+    rt: &H,
+    alloc: Global,
+    report: &mut Report,
+) -> Result<(), AllocError> {
+    let log = log_of(rt, alloc, SETTLED)?;
+    let before = report.differ();
+    let mut folder = Folder::new(alloc);
+    folder.put(alloc, "zeroes", vec![in alloc; 0; DATA_BYTES]?)?;
+    let mut seen = Seen {
+        images: 0,
+        same: 0,
+        listed: Faults::new(LOG_FAULTS),
+        status: Faults::new(LOG_FAULTS),
+        counted: Faults::new(REPLAY_FAULTS),
+        flushed: Faults::new(REPLAY_FAULTS),
+    };
+    for place in 0..DAMAGED_BYTES {
+        damage_place(rt, alloc, &log, place, &mut folder, &mut seen, report)?;
+    }
+    tell(alloc, &seen, report.differ().saturating_sub(before), report)
+}
+
+// Reads the log with the byte at a place set to each value.
+fn damage_place<H: Threads + Wait + Sync>(
+    rt: &H,
+    alloc: Global,
+    log: &[u8],
+    place: usize,
+    folder: &mut Folder,
+    seen: &mut Seen,
+    report: &mut Report,
+) -> Result<(), AllocError> {
+    for value in VALUES {
+        let damage = Damage { place, value };
+        if seen.is_new(log, damage) {
+            read_damaged(rt, alloc, log, damage, folder, seen, report)?;
+        }
+    }
+    Ok(())
+}
+
+// Puts a log with a byte set to another value in a folder, and answers the command that replays all
+// entries that its super counts then.
+fn damage_log(
+    alloc: Global,
+    log: &[u8],
+    damage: Damage,
+    folder: &mut Folder,
+) -> Result<String, AllocError> {
+    let mut image = Vec::from_slice(alloc, log)?;
+    if let Some(byte) = image.get_mut(damage.place) {
+        *byte = damage.value;
+    }
+    let count = count_of(&image);
+    folder.put(alloc, "log", image)?;
+    format!(in alloc; "replay log zeroes out entries:{count}")
+}
+
+// Reads a log with a byte set to another value in each way.
+fn read_damaged<H: Threads + Wait + Sync>(
+    rt: &H,
+    alloc: Global,
+    log: &[u8],
+    damage: Damage,
+    folder: &mut Folder,
+    seen: &mut Seen,
+    report: &mut Report,
+) -> Result<(), AllocError> {
+    let replay = damage_log(alloc, log, damage, folder)?;
+    read(
+        rt,
+        alloc,
+        "list log",
+        damage,
+        folder,
+        &mut seen.listed,
+        report,
+    )?;
+    read(
+        rt,
+        alloc,
+        "status log",
+        damage,
+        folder,
+        &mut seen.status,
+        report,
+    )?;
+    read(
+        rt,
+        alloc,
+        replay.as_str(),
+        damage,
+        folder,
+        &mut seen.counted,
+        report,
+    )?;
+    read(
+        rt,
+        alloc,
+        "replay log zeroes out flush",
+        damage,
+        folder,
+        &mut seen.flushed,
+        report,
+    )
+}
+
+impl Seen {
+    // Counts an image; false where it is the log as it was, and that was read.
+    fn is_new(&mut self, log: &[u8], damage: Damage) -> bool {
+        self.images = self.images.saturating_add(1);
+        if log.get(damage.place) != Some(&damage.value) {
+            return true;
+        }
+        self.same = self.same.saturating_add(1);
+        self.same == 1
+    }
+}
+
+// How many entries the super of a log counts.
+fn count_of(log: &[u8]) -> u64 {
+    let bytes = log.get(COUNT_AT..).unwrap_or_default();
+    match bytes.first_chunk::<8>() {
+        Some(bytes) => u64::from_le_bytes(*bytes),
+        None => 0,
+    }
+}
+
+// Does a command that reads the log, and counts how it ended. It is to end with status 0 and no
+// fault, or with status 1 and a fault that there can be.
+fn read<H: Threads + Wait + Sync>(
+    rt: &H,
+    alloc: Global,
+    line: &str,
+    damage: Damage,
+    folder: &mut Folder,
+    faults: &mut Faults,
+    report: &mut Report,
+) -> Result<(), AllocError> {
+    let told = ask(rt, alloc, line, folder)?;
+    if !faults.count(told.status, told.err.as_str()) {
+        let case = format!(in alloc; "byte {} set to {}, {line}", damage.place, damage.value)?;
+        report.differs(case.as_str(), &told, "a fault of a log, or none")?;
+    }
+    Ok(())
+}
+
+// Reports how each way of reading ended.
+fn tell(alloc: Global, seen: &Seen, differ: u64, report: &mut Report) -> Result<(), AllocError> {
+    let line = format!(in alloc;
+        "changed bytes: {} images, {} of them the log as it was and read once, {differ} differ",
+        seen.images, seen.same
+    )?;
+    report.line(line.as_str())?;
+    report.line(format!(in alloc; "list: {}", seen.listed)?.as_str())?;
+    report.line(format!(in alloc; "status: {}", seen.status)?.as_str())?;
+    report.line(format!(in alloc; "replay of all that is counted: {}", seen.counted)?.as_str())?;
+    report.line(format!(in alloc; "replay to the flush: {}", seen.flushed)?.as_str())
+}

@@ -1,0 +1,336 @@
+// A run under each stack of layers, with a fuse on top, and a loss of power at its end: what it
+// tells, and what its log lists.
+use crate::series::asking::{Told, ask, folder_of};
+use crate::series::layers::{LATE, Layer, STACKS, WHOLE_RUN, passed, stack_of};
+use crate::series::report::Report;
+use std::alloc::{AllocError, Global};
+use std::sync::Wait;
+use std::thread::Threads;
+use test_devices::Folder;
+
+// The lines of a run: a write that a flush makes durable, and the close.
+const EVENTS: &str = "w a 5 1 41\nc a\nf b\nc b\nclose\n";
+
+// The entries of its log as they are listed, in the order in which they became durable.
+const ENTRIES: [&str; 3] = [
+    "0 @1 write 5+1\n",
+    "1 @3 flush\n",
+    "2 @4 mark dm-log-writes-end\n",
+];
+
+// The status that a run tells, by how many of its calls passed, where its log was made.
+const STATUSES: [&str; 8] = [
+    "no log",
+    "0 0 logging_disabled",
+    "0 0 logging_disabled",
+    "1 2 logging_disabled",
+    "2 3 logging_disabled",
+    "3 4 logging_disabled",
+    "3 4 logging_disabled",
+    "3 4",
+];
+
+// How a run ends.
+#[derive(Clone, Copy)]
+enum Ending {
+    // As it stands.
+    Plain,
+    // By a loss of power: each sector holds what is durable.
+    Crash,
+    // So too, but each sector that isn't durable holds the first value written to it since.
+    Picked,
+}
+
+// A run: its layers from the lowest on, perhaps a fuse of so many calls, its moment and its ending.
+#[derive(Drop)]
+struct Case {
+    layers: Vec<Layer>,
+    fuse: Option<u64>,
+    moment: u64,
+    ending: Ending,
+}
+
+// What was seen of all runs: how many logs were made, and how many of them listed so many entries.
+#[derive(Drop)]
+struct Seen {
+    cases: u64,
+    logs: u64,
+    by_entries: [u64; 4],
+}
+
+/// Runs a few cases whose rows are reported one by one, then all, and reports their counts.
+pub fn run<H: Threads + Wait + Sync>(
+    rt: &H,
+    alloc: Global,
+    report: &mut Report,
+) -> Result<(), AllocError> {
+    let mut seen = Seen {
+        cases: 0,
+        logs: 0,
+        by_entries: [0; 4],
+    };
+    tables(rt, alloc, report)?;
+    let before = report.differ();
+    for number in 0..STACKS {
+        run_stack(rt, alloc, number, report, &mut seen)?;
+    }
+    let [none, one, two, three] = seen.by_entries;
+    let differ = report.differ().saturating_sub(before);
+    let line = format!(in alloc;
+        "layers: {} cases, {} logs, {none} of no entry, {one} of one, {two} of two, {three} of three, {differ} differ",
+        seen.cases, seen.logs
+    )?;
+    report.line(line.as_str())
+}
+
+// Runs the cases of a stack.
+fn run_stack<H: Threads + Wait + Sync>(
+    rt: &H,
+    alloc: Global,
+    number: u64,
+    report: &mut Report,
+    seen: &mut Seen,
+) -> Result<(), AllocError> {
+    for fuse in 0..=WHOLE_RUN {
+        run_fuse(rt, alloc, number, fuse, report, seen)?;
+    }
+    Ok(())
+}
+
+// Runs the cases of a stack under a fuse: at both moments, with both losses of power.
+fn run_fuse<H: Threads + Wait + Sync>(
+    rt: &H,
+    alloc: Global,
+    number: u64,
+    fuse: u64,
+    report: &mut Report,
+    seen: &mut Seen,
+) -> Result<(), AllocError> {
+    let ends = [
+        (0, Ending::Crash),
+        (0, Ending::Picked),
+        (LATE, Ending::Crash),
+        (LATE, Ending::Picked),
+    ];
+    for (moment, ending) in ends {
+        let case = Case {
+            layers: stack_of(alloc, number)?,
+            fuse: Some(fuse),
+            moment,
+            ending,
+        };
+        run_case(rt, alloc, &case, report, seen)?;
+    }
+    Ok(())
+}
+
+// Runs a case, compares it with what is wanted of it, and counts it.
+fn run_case<H: Threads + Wait + Sync>(
+    rt: &H,
+    alloc: Global,
+    case: &Case,
+    report: &mut Report,
+    seen: &mut Seen,
+) -> Result<(), AllocError> {
+    let script = script_of(alloc, case)?;
+    let mut folder = folder_of(alloc, script.as_str())?;
+    let passed = passed(&case.layers, case.moment, case.fuse);
+    seen.cases = seen.cases.saturating_add(1);
+    let told = ask(rt, alloc, "record script log", &mut folder)?;
+    check_told(alloc, script.as_str(), &told, passed, report)?;
+    if folder.bytes("log").is_some() {
+        seen.logs = seen.logs.saturating_add(1);
+        let listed = ask(rt, alloc, "list log", &mut folder)?;
+        check_listed(alloc, script.as_str(), &listed, passed, report)?;
+        seen.count(entries_of(&listed));
+    } else if passed > 0 {
+        report.differs(script.as_str(), &told, "a log")?;
+    }
+    Ok(())
+}
+
+impl Seen {
+    // Counts a log of so many entries.
+    fn count(&mut self, entries: usize) {
+        if let Some(count) = self.by_entries.get_mut(entries) {
+            *count = count.saturating_add(1);
+        }
+    }
+}
+
+// How many entries were listed.
+fn entries_of(listed: &Told) -> usize {
+    listed.out.as_str().matches('\n').count().saturating_sub(1)
+}
+
+// The script of a case.
+fn script_of(alloc: Global, case: &Case) -> Result<String, AllocError> {
+    let mut text = String::from_str(alloc, "data 16\nlog 32\n")?;
+    push_layers(&mut text, &case.layers, case.fuse)?;
+    push_messages(&mut text, &case.layers)?;
+    writeln!(text, "at {}", case.moment)?;
+    text.push_str(EVENTS)?;
+    push_ending(&mut text, case.ending)?;
+    Ok(text)
+}
+
+// Appends the layers of the log, and the fuse on top.
+fn push_layers(text: &mut String, layers: &[Layer], fuse: Option<u64>) -> Result<(), AllocError> {
+    for layer in layers {
+        writeln!(text, "log-layer {}", layer.line())?;
+    }
+    match fuse {
+        Some(calls) => writeln!(text, "log-layer 0 32 fuse disk 0 {calls}"),
+        None => Ok(()),
+    }
+}
+
+// Appends what makes block 3 of each dust layer fail one write.
+fn push_messages(text: &mut String, layers: &[Layer]) -> Result<(), AllocError> {
+    for (below, layer) in layers.iter().enumerate() {
+        if *layer == Layer::Dust {
+            let number = below.saturating_add(1);
+            writeln!(text, "message log {number} addbadblock 3 1")?;
+            writeln!(text, "message log {number} enable")?;
+        }
+    }
+    Ok(())
+}
+
+// Appends how a run ends.
+fn push_ending(text: &mut String, ending: Ending) -> Result<(), AllocError> {
+    let picks = match ending {
+        Ending::Plain => return Ok(()),
+        Ending::Crash => 0,
+        Ending::Picked => 64,
+    };
+    text.push_str("crash")?;
+    for _ in 0..picks {
+        text.push_str(" 1")?;
+    }
+    text.push('\n')?;
+    Ok(())
+}
+
+// What a run tells, where so many of its calls passed: 19 where its log couldn't be made, and else
+// its two requests and its status.
+fn check_told(
+    alloc: Global,
+    script: &str,
+    told: &Told,
+    passed: u64,
+    report: &mut Report,
+) -> Result<(), AllocError> {
+    if passed == 0 {
+        if !told.is(3, "", "dmlw: 19 Device\n") {
+            report.differs(script, told, "[3] dmlw: 19 Device")?;
+        }
+        return Ok(());
+    }
+    let status = STATUSES.get(passed as usize).copied().unwrap_or_default();
+    let wanted = format!(in alloc; "a ok\nb ok\n{status}\n")?;
+    let exit = if passed == WHOLE_RUN { 0 } else { 3 };
+    if !told.is(exit, wanted.as_str(), "") {
+        report.differs(script, told, wanted.as_str())?;
+    }
+    Ok(())
+}
+
+// What its log lists: all entries where the super that counts them was written, which is the last
+// call of all, and else none.
+fn check_listed(
+    alloc: Global,
+    script: &str,
+    listed: &Told,
+    passed: u64,
+    report: &mut Report,
+) -> Result<(), AllocError> {
+    let count = if passed == WHOLE_RUN {
+        ENTRIES.len()
+    } else {
+        0
+    };
+    let mut wanted = format!(in alloc; "super version 1 entries {count} sectorsize 512\n")?;
+    for entry in ENTRIES.iter().take(count) {
+        wanted.push_str(entry)?;
+    }
+    if !listed.is(0, wanted.as_str(), "") {
+        report.differs(script, listed, wanted.as_str())?;
+    }
+    Ok(())
+}
+
+// Reports what fuses of nought to seven calls leave on the plain disk, and what a bad block does.
+fn tables<H: Threads + Wait + Sync>(
+    rt: &H,
+    alloc: Global,
+    report: &mut Report,
+) -> Result<(), AllocError> {
+    for calls in 0..=WHOLE_RUN {
+        let name = format!(in alloc; "fuse of {calls} calls")?;
+        let case = Case {
+            layers: Vec::new(alloc),
+            fuse: Some(calls),
+            moment: 0,
+            ending: Ending::Plain,
+        };
+        row(rt, alloc, name.as_str(), &case, report)?;
+    }
+    let case = Case {
+        layers: vec![in alloc; Layer::Dust]?,
+        fuse: None,
+        moment: 0,
+        ending: Ending::Plain,
+    };
+    row(rt, alloc, "bad block 3", &case, report)
+}
+
+// Reports the row of a case: the last line of what is told, and how many entries its log lists.
+fn row<H: Threads + Wait + Sync>(
+    rt: &H,
+    alloc: Global,
+    name: &str,
+    case: &Case,
+    report: &mut Report,
+) -> Result<(), AllocError> {
+    let script = script_of(alloc, case)?;
+    let mut folder = folder_of(alloc, script.as_str())?;
+    let told = ask(rt, alloc, "record script log", &mut folder)?;
+    check_told(
+        alloc,
+        script.as_str(),
+        &told,
+        passed(&case.layers, case.moment, case.fuse),
+        report,
+    )?;
+    let listed = listed_text(rt, alloc, &mut folder)?;
+    let line = format!(in alloc; "{name}: {}, {listed}", last_line(&told))?;
+    report.line(line.as_str())
+}
+
+// How many entries the log of a folder lists, in words.
+fn listed_text<H: Threads + Wait + Sync>(
+    rt: &H,
+    alloc: Global,
+    folder: &mut Folder,
+) -> Result<String, AllocError> {
+    if folder.bytes("log").is_none() {
+        return String::from_str(alloc, "no log");
+    }
+    let listed = ask(rt, alloc, "list log", folder)?;
+    format!(in alloc; "{} entries listed", entries_of(&listed))
+}
+
+// The last line that was told, of a fault or else of the output.
+fn last_line(told: &Told) -> &str {
+    let text = if told.err.is_empty() {
+        told.out.as_str()
+    } else {
+        told.err.as_str()
+    };
+    let lines = text.strip_suffix("\n").unwrap_or(text);
+    match lines.rsplit_once('\n') {
+        Some((_, line)) => line,
+        None => lines,
+    }
+}

@@ -1,0 +1,85 @@
+// A shared recorder with as many seats and status readers as it may have.
+ghost use Rattle.std.specs.Prelude.{◌≡◌};
+ghost use Rattle.lock_state.specs.PlacedItems.{ground_of};
+ghost use Rattle.sector_disk.specs.DiskView.{shown_of};
+
+use crate::series::asking::Told;
+use crate::series::report::Report;
+use bio::Status;
+use board::Names;
+use lock_state::Run;
+use sector_disk::SectorDisk;
+use shared::{Shared, Started, Unnamed};
+use std::alloc::{AllocError, Global};
+use std::marker::Brand;
+
+// How many seats, and how many readers.
+const MOST: u64 = 64;
+
+// How many sectors each disk has.
+const SECTORS: u64 = 64;
+
+/// Starts the recorder, and lets each reader look at the status.
+pub fn check_recorder(alloc: Global, report: &mut Report) -> Result<(), AllocError> {
+    let device = SectorDisk::new(alloc, SECTORS)?;
+    let log = SectorDisk::new(alloc, SECTORS)?;
+    let unnamed = Unnamed::new(alloc, MOST)?;
+    let seen = start_most::<Brand>(alloc, unnamed, device, log);
+    if seen != Some((MOST as usize, MOST as usize)) {
+        let told = Told {
+            status: 0,
+            out: format!(in alloc; "{seen:?}\n")?,
+            err: String::new(alloc),
+        };
+        report.differs(
+            "a recorder of 64 seats",
+            &told,
+            "64 seats, and 64 readers that see no entry",
+        )?;
+    }
+    Ok(())
+}
+
+// How many seats a recorder has, and how many readers that see a status of no entry. None where it
+// isn't started.
+fn start_most<R: Run + Names>(
+    alloc: Global,
+    unnamed: Unnamed,
+    device: SectorDisk,
+    log: SectorDisk,
+) -> Option<(usize, usize)>
+    requires ledger { (unnamed.ledger.name ≡ R.name) × (unnamed.ledger.parts ≡ R.parts)
+        × (unnamed.ledger.parts ≡ 64) }
+    requires table { unnamed.table ≡ R.table }
+    requires stops { unnamed.stops ≡ R.stops }
+    requires ends { unnamed.ends ≡ R.ends }
+    requires board { unnamed.board ≡ R.board }
+    requires sectors { (shown_of device).size ≡ R.sectors }
+    requires log { R.log ≡ ground_of (shown_of log) }
+    requires sector_size { R.sector_bytes ≡ 512 }
+{
+    let Ok(started) = Shared::<SectorDisk, SectorDisk, R>::new(
+        alloc, unnamed, device, log, MOST, MOST,
+    ) else {
+        return None;
+    };
+    let Started {
+        recorder,
+        seats,
+        writer: _,
+        readers,
+    } = started;
+    let none = Status {
+        entries: 0,
+        sector: 0,
+        end: None,
+    };
+    let mut seen: usize = 0;
+    for reader in readers {
+        let mut mine = reader;
+        if recorder.status(&mut mine) == none {
+            seen = seen.saturating_add(1);
+        }
+    }
+    Some((seats.len(), seen))
+}

@@ -1,0 +1,71 @@
+// What is printed of a series, and how many of its cases came out otherwise.
+use crate::series::asking::{Told, Wanted, ask};
+use std::alloc::{AllocError, Global};
+use std::sync::Wait;
+use std::thread::Threads;
+use test_devices::Folder;
+
+/// The text of a report, and its count of differences.
+#[derive(Drop)]
+pub struct Report {
+    text: String,
+    differ: u64,
+}
+
+impl Report {
+    /// Nothing yet.
+    pub fn new(alloc: Global) -> Report {
+        Report {
+            text: String::new(alloc),
+            differ: 0,
+        }
+    }
+
+    /// How many cases came out otherwise.
+    pub fn differ(&self) -> u64 {
+        self.differ
+    }
+
+    /// What is to be printed.
+    pub fn text(&self) -> &str {
+        self.text.as_str()
+    }
+
+    /// Appends a line.
+    pub fn line(&mut self, line: &str) -> Result<(), AllocError> {
+        self.text.push_str(line)?;
+        self.text.push('\n')?;
+        Ok(())
+    }
+
+    /// Counts a case that came out otherwise, and notes the
+    /// case, what was told and what was wanted.
+    pub fn differs(&mut self, case: &str, told: &Told, wanted: &str) -> Result<(), AllocError> {
+        self.differ = self.differ.saturating_add(1);
+        writeln!(self.text, "differs:\n{case}\ntold [{}]:", told.status)?;
+        self.text.push_str(told.out.as_str())?;
+        self.text.push_str(told.err.as_str())?;
+        writeln!(self.text, "wanted:\n{wanted}")
+    }
+}
+
+/// Does each command line over a folder's files, and notes each that tells something else than is
+/// wanted, with the name of the case.
+pub fn check<H: Threads + Wait + Sync>(
+    rt: &H,
+    alloc: Global,
+    case: &str,
+    wanted: &[Wanted<'_>],
+    folder: &mut Folder,
+    report: &mut Report,
+) -> Result<(), AllocError> {
+    for each in wanted {
+        let told = ask(rt, alloc, each.line, folder)?;
+        if !each.is_met(&told) {
+            let name = format!(in alloc; "{case}: {}", each.line)?;
+            let both = format!(in alloc; "{}{}", each.out, each.err)?;
+            report.differs(name.as_str(), &told, both.as_str())?;
+        }
+    }
+    Ok(())
+}

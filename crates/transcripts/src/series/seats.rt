@@ -1,0 +1,221 @@
+// Four seats that write and mark at once, with a fuse on the log: what each prints, and what the
+// log lists. A seat whose thousands of writes each wait for the log. And two seats at once, whose
+// marks are mixed in the log.
+use crate::series::asking::{Told, ask, folder_of};
+use crate::series::report::Report;
+use std::alloc::{AllocError, Global};
+use std::sync::Wait;
+use std::thread::Threads;
+
+const SEATS: u64 = 4;
+
+const WRITES: u64 = 100;
+
+// The longest fuse.
+const MOST_CALLS: u64 = 20;
+
+// How often the seat that is alone writes, and marks.
+const TURNS: u64 = 2_500;
+
+// How often two seats mark, and in how many runs their marks may fail to mix.
+const MARKS: u64 = 1_000;
+
+const TRIES: u64 = 20;
+
+/// Runs the seats with each fuse, one seat, and two at once, and reports the number of runs.
+pub fn run<H: Threads + Wait + Sync>(
+    rt: &H,
+    alloc: Global,
+    report: &mut Report,
+) -> Result<(), AllocError> {
+    let before = report.differ();
+    let mut runs: u64 = 0;
+    for calls in 0..=MOST_CALLS {
+        run_fuse(rt, alloc, calls, report)?;
+        runs = runs.saturating_add(1);
+    }
+    run_alone(rt, alloc, report)?;
+    run_two(rt, alloc, report)?;
+    runs = runs.saturating_add(2);
+    let differ = report.differ().saturating_sub(before);
+    let line = format!(in alloc; "seats: {runs} runs, {differ} differ")?;
+    report.line(line.as_str())
+}
+
+// Runs the seats with a fuse of so many calls.
+fn run_fuse<H: Threads + Wait + Sync>(
+    rt: &H,
+    alloc: Global,
+    calls: u64,
+    report: &mut Report,
+) -> Result<(), AllocError> {
+    let script = script_of(alloc, calls)?;
+    let case = format!(in alloc; "four seats, fuse of {calls} calls")?;
+    let mut folder = folder_of(alloc, script.as_str())?;
+    let told = ask(rt, alloc, "run script log", &mut folder)?;
+    if calls == 0 {
+        if !told.is(3, "", "dmlw: 19 Device\n") || folder.bytes("log").is_some() {
+            report.differs(case.as_str(), &told, "[3] dmlw: 19 Device")?;
+        }
+        return Ok(());
+    }
+    let listed = ask(rt, alloc, "list log", &mut folder)?;
+    if !is_told(alloc, &told, calls)? {
+        report.differs(
+            case.as_str(),
+            &told,
+            "400 done, and each mark told as it went",
+        )?;
+    }
+    if !lists_marks(alloc, &told, &listed)? {
+        report.differs(
+            case.as_str(),
+            &told,
+            "a mark that is listed for each that was logged",
+        )?;
+        report.differs(
+            case.as_str(),
+            &listed,
+            "a mark that is listed for each that was logged",
+        )?;
+    }
+    Ok(())
+}
+
+// Runs a seat that writes with FUA and marks, again and again. Each entry is the next one that the
+// writer takes, so it may be durable before the seat looks for it, or after.
+fn run_alone<H: Threads + Wait + Sync>(
+    rt: &H,
+    alloc: Global,
+    report: &mut Report,
+) -> Result<(), AllocError> {
+    let script = script_alone(alloc)?;
+    let mut folder = folder_of(alloc, script.as_str())?;
+    let told = ask(rt, alloc, "run script log", &mut folder)?;
+    let wanted = "seat 0: 0 done 5000 logged 0 failed 0 not logged 0 refused\n5001 7501\n";
+    if !told.is(0, wanted, "") {
+        report.differs("one seat, writes with FUA and marks", &told, wanted)?;
+    }
+    Ok(())
+}
+
+// The script of that seat.
+fn script_alone(alloc: Global) -> Result<String, AllocError> {
+    let mut text = String::from_str(alloc, "data 16\nlog 7503\nseats 1\n")?;
+    for _turn in 0..TURNS {
+        text.push_str("s0 w 5 1 41 fua\ns0 mark here\n")?;
+    }
+    Ok(text)
+}
+
+// Runs two seats that mark again and again, until a run has a mark of each seat before the last one
+// of the other: so neither seat waited for the other's end.
+fn run_two<H: Threads + Wait + Sync>(
+    rt: &H,
+    alloc: Global,
+    report: &mut Report,
+) -> Result<(), AllocError> {
+    let script = script_of_two(alloc)?;
+    let mut folder = folder_of(alloc, script.as_str())?;
+    for _ in 0..TRIES {
+        ask(rt, alloc, "run script log", &mut folder)?;
+        let listed = ask(rt, alloc, "list log", &mut folder)?;
+        if are_mixed(listed.out.as_str(), " mark one\n", " mark two\n") {
+            return Ok(());
+        }
+    }
+    let listed = ask(rt, alloc, "list log", &mut folder)?;
+    report.differs(
+        "two seats that mark at once",
+        &listed,
+        "marks of both seats, mixed",
+    )
+}
+
+// The script of these two.
+fn script_of_two(alloc: Global) -> Result<String, AllocError> {
+    let mut text = String::from_str(alloc, "data 16\nlog 2002\nseats 2\n")?;
+    for _mark in 0..MARKS {
+        text.push_str("s0 mark one\ns1 mark two\n")?;
+    }
+    Ok(text)
+}
+
+// Whether each of two texts is found before the last place of the other.
+fn are_mixed(listed: &str, one: &str, other: &str) -> bool {
+    match (
+        listed.find(one),
+        listed.rfind(one),
+        listed.find(other),
+        listed.rfind(other),
+    ) {
+        (Some(first), Some(last), Some(other_first), Some(other_last)) => {
+            first < other_last && other_first < last
+        }
+        _ => false,
+    }
+}
+
+// The script: each seat writes a hundred sectors of its
+// own, one after another, and marks its number.
+fn script_of(alloc: Global, calls: u64) -> Result<String, AllocError> {
+    let mut text = String::from_str(alloc, "data 400\nlog 807\nseats 4\n")?;
+    writeln!(text, "log-layer 0 807 fuse disk 0 {calls}")?;
+    for seat in 0..SEATS {
+        push_seat(&mut text, seat)?;
+    }
+    Ok(text)
+}
+
+// Appends the lines of a seat.
+fn push_seat(text: &mut String, seat: u64) -> Result<(), AllocError> {
+    let first = seat.saturating_mul(WRITES);
+    for number in 0..WRITES {
+        writeln!(text, "s{seat} w {} 1 1{seat}", first.saturating_add(number))?;
+    }
+    writeln!(text, "s{seat} mark seat {seat}")
+}
+
+// How many marks are logged: the first call makes the log, and each mark's entry is written,
+// flushed and counted by three more. The writes wait for the close.
+fn marks_of(calls: u64) -> u64 {
+    (calls.saturating_sub(1) / 3).min(SEATS)
+}
+
+// Whether each seat was told 100 done and its mark as logged or not logged, as many logged as the
+// fuse has calls for, and logging ended.
+fn is_told(alloc: Global, told: &Told, calls: u64) -> Result<bool, AllocError> {
+    let mut logged: u64 = 0;
+    let mut is_good = told.status == 3 && told.err.is_empty();
+    for (seat, line) in (0..SEATS).zip(told.out.as_str().split('\n')) {
+        let is_logged = is_logged(alloc, line, seat)?;
+        logged = logged.saturating_add(u64::from(is_logged));
+        is_good = is_good && (is_logged || line == seat_line(alloc, seat, false)?.as_str());
+    }
+    Ok(is_good && logged == marks_of(calls) && told.out.ends_with(" logging_disabled\n"))
+}
+
+// Whether this is a seat's line of a mark that was logged.
+fn is_logged(alloc: Global, line: &str, seat: u64) -> Result<bool, AllocError> {
+    Ok(line == seat_line(alloc, seat, true)?.as_str())
+}
+
+// A seat's line, where its mark was logged or wasn't.
+fn seat_line(alloc: Global, seat: u64, is_logged: bool) -> Result<String, AllocError> {
+    let (logged, lost) = if is_logged { (1, 0) } else { (0, 1) };
+    format!(in alloc;
+        "seat {seat}: {WRITES} done {logged} logged 0 failed {lost} not logged 0 refused"
+    )
+}
+
+// Whether the log lists its super and the mark of each seat that was told so, and no fault.
+fn lists_marks(alloc: Global, told: &Told, listed: &Told) -> Result<bool, AllocError> {
+    let mut is_good = listed.status == 0 && listed.err.is_empty();
+    for (seat, line) in (0..SEATS).zip(told.out.as_str().split('\n')) {
+        if is_logged(alloc, line, seat)? {
+            let mark = format!(in alloc; " mark seat {seat}\n")?;
+            is_good = is_good && listed.out.contains(mark.as_str());
+        }
+    }
+    Ok(is_good)
+}

@@ -1,0 +1,96 @@
+// Replays of a log onto devices that fail or lie: how many
+// entries are told of, and what each device holds then.
+use crate::series::damage::plain_log;
+use crate::series::report::Report;
+use bio::Ms;
+use blockdev::BlockDev;
+use fault_layers::{Flakey, Fuse};
+use log_reader::LogReader;
+use refusals::Refusal;
+use replay::{ReplayFault, Upto, replay};
+use sector_disk::SectorDisk;
+use std::alloc::{AllocError, Global};
+use std::sync::Wait;
+use std::thread::Threads;
+use table_line::Feature;
+
+// The device has so many sectors of zeroes before.
+const SECTORS: u64 = 16;
+
+const SECTOR: usize = 512;
+
+// The longest log that is read here, in bytes.
+const MOST_BYTES: usize = 16_384;
+
+// The entries of the log: a write of 65 at sector 5, a flush and a mark. A replay makes one call of
+// the device for them, the write.
+const ENTRIES: u64 = 3;
+
+// A flakey layer that is down all the time.
+const UP: u64 = 0;
+
+const DOWN: u64 = 1;
+
+/// Replays the log onto a device that fails at once, one that takes a call, and one that drops each
+/// write, and reports what is told.
+pub fn run<H: Threads + Wait + Sync>(
+    rt: &H,
+    alloc: Global,
+    report: &mut Report,
+) -> Result<(), AllocError> {
+    let log = plain_log(rt, alloc)?;
+    for calls in [0, 1] {
+        let mut target = Fuse::new(SectorDisk::new(alloc, SECTORS)?, calls);
+        let told = replayed(alloc, &log, &mut target)?;
+        let left = left_on(target.into_lower())?;
+        let line = format!(in alloc; "replay onto a fuse of {calls} calls: {told}, {left}")?;
+        report.line(line.as_str())?;
+    }
+    run_dropped(alloc, &log, report)
+}
+
+// The replay onto a device that drops each write.
+fn run_dropped(alloc: Global, log: &[u8], report: &mut Report) -> Result<(), AllocError> {
+    let disk = SectorDisk::new(alloc, SECTORS)?;
+    let mut target = Flakey::new(disk, UP, DOWN, Feature::DropWrites, Ms::new(0));
+    let told = replayed(alloc, log, &mut target)?;
+    let lies = target.lies();
+    let left = left_on(target.into_lower())?;
+    let line = format!(in alloc;
+        "replay onto a layer that drops writes: {told}, {left}, lies {lies}"
+    )?;
+    report.line(line.as_str())
+}
+
+// What is told of a replay of all entries.
+fn replayed<T: BlockDev>(alloc: Global, log: &[u8], target: &mut T) -> Result<String, AllocError> {
+    let Some(mut reader) = reader_of(alloc, log)? else {
+        return String::from_str(alloc, "no log");
+    };
+    match replay(&mut reader, target, &Upto::Count(ENTRIES)) {
+        Ok(count) => format!(in alloc; "{count} applied"),
+        Err(ReplayFault { applied, cause }) => {
+            format!(in alloc; "{} after {applied}", Refusal::from(cause))
+        }
+    }
+}
+
+// A reader of the log, if it is one.
+fn reader_of(alloc: Global, log: &[u8]) -> Result<Option<LogReader<SectorDisk>>, AllocError> {
+    if log.is_empty() || log.len() % SECTOR != 0 || log.len() > MOST_BYTES {
+        return Ok(None);
+    }
+    let disk = SectorDisk::from_bytes(alloc, Vec::from_slice(alloc, log)?)?;
+    Ok(LogReader::open(alloc, disk).ok())
+}
+
+// What a disk holds, in words: how many of its bytes are no zeroes.
+fn left_on(disk: SectorDisk) -> Result<&'static str, AllocError> {
+    let bytes = disk.into_bytes()?;
+    let changed = bytes.iter().filter(|byte| **byte != 0).count();
+    Ok(match changed {
+        0 => "the content stays",
+        SECTOR => "a sector is new",
+        _ => "the content is another one",
+    })
+}

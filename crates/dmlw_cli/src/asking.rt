@@ -9,8 +9,8 @@ ghost use Rattle.dmlw_cli.specs.declared.name.Name.TheVariants as names;
 use crate::sector_count::SectorCount;
 use crate::task::{Flaw, Task};
 use clap::ArgMatches;
-use dmlw_commands::replay_log::upto_of;
 use dmlw_commands::explain::{CopyNames, ReplayNames};
+use dmlw_commands::replay_log::upto_of;
 use refusals::number_of;
 
 /// The task that `record` asks for with the words that were entered.

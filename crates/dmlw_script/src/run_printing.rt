@@ -6,13 +6,13 @@ ghost use Rattle.dmlw_script.specs.RunPlans.{run_head};
 ghost use Rattle.dmlw_script.specs.RunText.{call_line, call_text, ended_run_line, run_text};
 ghost use Rattle.dmlw_script.specs.RunText.{seats_line};
 
-use crate::printed_head::{push_disk_layers, push_disks};
-use crate::parts::{push_sectors, push_value};
-use crate::steps::push_mark;
-use crate::submissions::push_filling;
 use crate::command::Submission;
+use crate::parts::{push_sectors, push_value};
+use crate::printed_head::{push_disk_layers, push_disks};
 use crate::run_script::RunScript;
 use crate::seat_call::{Call, SeatCall};
+use crate::steps::push_mark;
+use crate::submissions::push_filling;
 use std::alloc::{AllocError, Global};
 
 /// The one text of a run's script: no comments, no empty lines, no leading zeroes, and a line feed

@@ -4,9 +4,9 @@ ghost use Rattle.std.specs.Prelude.{◌≡◌, ◌++◌, ◌∷◌, codes, decim
 ghost use Rattle.dmlw_script.specs.Grammar.{message_verb};
 ghost use Rattle.dmlw_script.specs.CanonicalText.{step_text};
 
-use crate::parts::{push_sectors, push_value};
 use crate::command::Step;
 use crate::disk_name::DiskName;
+use crate::parts::{push_sectors, push_value};
 use std::alloc::AllocError;
 
 // A line that names no request, but for its line feed.

@@ -7,8 +7,8 @@ ghost use Rattle.dmlw_script.specs.CanonicalText.{submission_text};
 ghost use Rattle.dmlw_script.specs.Options.{option_text, option_words, options_text};
 ghost use Rattle.dmlw_script.specs.Words.{byte_text, hex_digit as the_hex_digit};
 
-use crate::parts::{push_name, push_sectors};
 use crate::command::{Submission, WriteOptions};
+use crate::parts::{push_name, push_sectors};
 use crate::script_id::ScriptId;
 use std::alloc::AllocError;
 

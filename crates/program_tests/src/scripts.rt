@@ -1,6 +1,5 @@
 //! What a script and a table's line are read as, field by field, and texts of any length.
-use dmlw_script::print_script;
-use dmlw_script::*;
+use dmlw_script::{print_script, *};
 use std::alloc::{AllocError, Global};
 use std::io::Print;
 use std::process::Abort;

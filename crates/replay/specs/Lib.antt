@@ -5,7 +5,7 @@ pub use Rattle.log_reader.specs.DiskLog
 pub use Rattle.bio.specs.Content
 pub use Rattle.log_format.specs.Entries
 pub use Rattle.log_format.specs.LogOf
-pub use Rattle.log_store.specs.Calls
+pub use Rattle.log_store.specs.Calls as StoreCalls
 pub use Rattle.log_store.specs.Store
 pub mod Refusals
 pub mod Replays

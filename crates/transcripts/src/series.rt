@@ -16,7 +16,6 @@ mod seats;
 mod targets;
 
 pub(crate) use report::Report;
-
 use std::alloc::{AllocError, Global};
 use std::sync::Wait;
 use std::thread::Threads;

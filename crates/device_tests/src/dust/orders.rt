@@ -1,4 +1,5 @@
 //! The messages of a layer with bad blocks.
+use super::{by_sector, over, talk_over};
 use crate::calls::{answer_of, ask, read_of};
 use bio::Ms;
 use blockdev::{BlockDev, Message, MessageError};
@@ -8,7 +9,6 @@ use std::alloc::Global;
 use std::io::Print;
 use std::process::Abort;
 use std::test::Fail;
-use super::{by_sector, over, talk_over};
 use test_devices::{is_same, is_told};
 
 // How many writes of a sector fail before one passes.

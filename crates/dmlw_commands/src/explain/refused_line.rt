@@ -2,7 +2,9 @@
 //! The search alone proves it.
 use crate::explain::advice::advice;
 use crate::explain::counted::{Counted, counted_sectors};
-use crate::explain::layers::{write_bad_number, write_range, write_unknown_target, write_wrong_count};
+use crate::explain::layers::{
+    write_bad_number, write_range, write_unknown_target, write_wrong_count,
+};
 use crate::explain::line::{Shown, explain_line, write_forms};
 use crate::explain::messages::write_message;
 use crate::explain::script_text::{

@@ -1,4 +1,5 @@
 //! Which calls a replay makes.
+use super::{disk_of, image_of, number_of, upto_of};
 use log_reader::LogReader;
 use refusals::Refusal;
 use replay::{ReplayFault, Upto, replay};
@@ -7,7 +8,6 @@ use std::alloc::{AllocError, Global};
 use std::io::Print;
 use std::process::Abort;
 use std::test::Fail;
-use super::{disk_of, image_of, number_of, upto_of};
 use test_devices::{Failing, Watched, holds, is_told};
 
 // A replay's log and its target, each on a device that notes its calls.

@@ -1,5 +1,5 @@
 #!/usr/bin/env python3
-"""Runs the tests of `crates/shared_tests` many times with random delays. In a scratch copy each
+"""Runs the tests of `crates/thread_tests` many times with random delays. In a scratch copy each
 call of a test's device (`Gate`) first sleeps for up to 0.2 ms, by the clock's last digits, a reader
 looks 500 times, and each test's body is run so often. They run with no proof (`rt try --test`).
 Prints what they say, and how long all took; a test that hangs is stopped after an hour. Needs
@@ -69,7 +69,7 @@ def main():
         shutil.copytree(f"{ROOT}/crates", crates, ignore=shutil.ignore_patterns("out", "data"))
         for name in ("crates.txt", "HANDLES"):
             shutil.copy(f"{ROOT}/{name}", f"{folder}/{name}")
-        tests = f"{crates}/shared_tests"
+        tests = f"{crates}/thread_tests"
         edit(f"{tests}/src/gate.rt", delayed)
         edit(f"{tests}/src/play.rt", hasty)
         for name in ("closes", "scenes", "large"):

@@ -13,7 +13,7 @@ import glob, os, re, sys
 
 ROOT = os.path.dirname(os.path.dirname(os.path.abspath(__file__)))
 WIDTH = 100
-TESTS = re.compile(r"_tests$|^test_|^transcripts$|^series$")
+TESTS = re.compile(r"_tests$|^test_|^transcripts$")
 
 
 def text_of(path):

@@ -3,7 +3,7 @@
 
   bench/looks.py [LOOKS]
 
-Runs the tests of crates/shared_tests in a copy, compiled with no proof (`rt try --test`), once as they stand and once with so many looks (50,000,000 if left out)
+Runs the tests of crates/thread_tests in a copy, compiled with no proof (`rt try --test`), once as they stand and once with so many looks (50,000,000 if left out)
 of each of the four readers of `four_seats`, which two tests play. Prints the CPU nanoseconds of a look: what the second run took more, by the looks that it made more.
 CPU time holds beside other work too. It needs Python 3 and the kit's `rt` on the PATH.
 """
@@ -15,7 +15,7 @@ READERS, TESTS = 4, 2
 
 def cpu_of(at, looks):
     """The CPU seconds of the tests with so many looks."""
-    path = f"{at}/crates/shared_tests/src/play.rt"
+    path = f"{at}/crates/thread_tests/src/play.rt"
     with open(path, encoding="utf-8") as it:
         text = it.read()
     text, found = re.subn(r"const LOOKS: u64 = [\d_]+;", f"const LOOKS: u64 = {looks};", text)
@@ -23,7 +23,7 @@ def cpu_of(at, looks):
     with open(path, "w", encoding="utf-8") as it:
         it.write(text)
     before = resource.getrusage(resource.RUSAGE_CHILDREN)
-    done = subprocess.run(["rt", "try", "--test", "--seconds", "600"], cwd=f"{at}/crates/shared_tests", stdout=subprocess.PIPE, stderr=subprocess.STDOUT, text=True)
+    done = subprocess.run(["rt", "try", "--test", "--seconds", "600"], cwd=f"{at}/crates/thread_tests", stdout=subprocess.PIPE, stderr=subprocess.STDOUT, text=True)
     after = resource.getrusage(resource.RUSAGE_CHILDREN)
     last = done.stdout.strip().split("\n")[-1]
     if done.returncode != 0:

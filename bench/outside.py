@@ -277,10 +277,10 @@ def shipped(room):
     home, bare = room / "shipping", dict(os.environ, PATH="/usr/bin:/bin", HOME=str(room / "person"))
     for it in ("XDG_CACHE_HOME", "TMPDIR", "DMLW_EXPLAIN"):
         bare.pop(it, None)
-    (home / "crates/text_words/src").mkdir(parents=True)
+    (home / "crates/refusals/src").mkdir(parents=True)
     shutil.copy(ROOT / "dmlw", home)
     (home / "crates.txt").write_text("words:\n")
-    source = home / "crates/text_words/src/lib.rt"
+    source = home / "crates/refusals/src/lib.rt"
     source.write_text("//! Words.\n")
 
     def launched(*words, **more):

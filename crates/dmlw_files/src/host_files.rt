@@ -10,7 +10,7 @@ use crate::pieces::{PIECE, write_sectors};
 use crate::text::MAX_SCRIPT_BYTES;
 use bio::SECTOR_BYTES;
 use blockdev::BlockDev;
-use sector_disk::{FilledBytes, Image, SectorDisk};
+use sector_disk::{Image, SectorDisk};
 use std::alloc::{AllocError, Global};
 use std::fs::{File, OpenFile, OpenOptions, Permissions};
 use std::io::{Read, Seek, Write};
@@ -270,7 +270,7 @@ fn push_piece(alloc: Global, piece: &[u8], image: &mut Image) -> Result<(), Allo
     if piece.is_empty() {
         return Ok(());
     }
-    image.push(FilledBytes::from_slice(alloc, piece)?)
+    image.push_slice(alloc, piece)
 }
 
 // Reads until a buffer is full or the reader at its end, and returns how many bytes were read.

@@ -8,5 +8,6 @@ pub mod NewPast
 pub mod Lawful
 pub mod Examples
 pub mod PieceAt
+pub mod PackedParts
 mod ImageBack
 mod Counterexamples

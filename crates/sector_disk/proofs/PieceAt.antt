@@ -1,4 +1,4 @@
--- The piece that a sector of the bytes stands in.
+-- The piece that a sector of the bytes is in.
 -- Its own crate alone cites it, for the theorems of src/pieces.rt.
 use Rattle.std.proofs.Common.{◌≡◌, ℕ, suc, zero, ◌+◌, ◌-◌, ◌*◌, ◌%◌, ◌<◌, ◌≤◌, List, [], ◌∷◌, ◌++◌, ◌∙◌, ap}
 use Rattle.std.proofs.Common.{append_assoc, sym}
@@ -9,8 +9,8 @@ use Rattle.std.proofs.lemmas.List.{drop-append-le, take-append-le}
 use Rattle.std.specs.Prelude.{slice_get}
 use Rattle.sector_disk.specs.inside.Pieces.{AreWhole, joined}
 
--- the sector at this place stands in this piece, from this place of it on
-pub record StandsIn (pieces : List (List ℕ)) (from k r : ℕ) : Type 0 where
+-- the sector at this place is in this piece, from this place of it on
+pub record LiesIn (pieces : List (List ℕ)) (from k r : ℕ) : Type 0 where
   pub piece : List ℕ
   pub is : slice_get pieces k ≡ Some piece
   pub within : r + 512 ≤ length piece
@@ -28,10 +28,10 @@ later piece rest from size past =
     let place : from ≡ length piece + (from - 65536) = omega arith in
     ap (λ (n : ℕ). drop n (piece ++ rest)) place ∙ drop-append-add piece rest (from - 65536)
 
-pub stands_in : (pieces : List (List ℕ)) (from k r : ℕ) → from ≡ 65536 * k + r → r + 512 ≤ 65536
-    → AreWhole pieces → from + 512 ≤ length (joined pieces) → StandsIn pieces from k r
-stands_in [] from k r place small whole within = absurd (omega arith)
-stands_in (p ∷ []) from zero r place small whole within =
+pub lies_in : (pieces : List (List ℕ)) (from k r : ℕ) → from ≡ 65536 * k + r → r + 512 ≤ 65536
+    → AreWhole pieces → from + 512 ≤ length (joined pieces) → LiesIn pieces from k r
+lies_in [] from k r place small whole within = absurd (omega arith)
+lies_in (p ∷ []) from zero r place small whole within =
     let same : from ≡ r = omega arith in
     let size : r + 512 ≤ length p = omega (arith, length-append p []) in
     record {
@@ -40,10 +40,10 @@ stands_in (p ∷ []) from zero r place small whole within =
       within = size;
       part = ap (λ (n : ℕ). take 512 (drop n (p ++ []))) same ∙ first p [] r size;
     }
-stands_in (p ∷ []) from (suc k) r place small whole within =
+lies_in (p ∷ []) from (suc k) r place small whole within =
     let few = whole.1 in
     absurd (omega (arith, length-append p []))
-stands_in (p ∷ (q ∷ ps)) from zero r place small whole within =
+lies_in (p ∷ (q ∷ ps)) from zero r place small whole within =
     let same : from ≡ r = omega arith in
     let full = whole.0 in
     let size : r + 512 ≤ length p = omega arith in
@@ -54,9 +54,9 @@ stands_in (p ∷ (q ∷ ps)) from zero r place small whole within =
       part = ap (λ (n : ℕ). take 512 (drop n (p ++ joined (q ∷ ps)))) same
           ∙ first p (joined (q ∷ ps)) r size;
     }
-stands_in (p ∷ (q ∷ ps)) from (suc k) r place small whole within =
+lies_in (p ∷ (q ∷ ps)) from (suc k) r place small whole within =
     let full = whole.0 in
-    let there = stands_in (q ∷ ps) (from - 65536) k r (omega arith) small whole.1
+    let there = lies_in (q ∷ ps) (from - 65536) k r (omega arith) small whole.1
     (omega (arith, length-append p (joined (q ∷ ps)))) in
     record {
       piece = there.piece;
@@ -73,7 +73,7 @@ joined-more (x ∷ xs) piece =
     ap (λ (rest : List ℕ). x ++ rest) (joined-more xs piece)
     ∙ sym (append_assoc x (joined xs) piece)
 
--- behind whole pieces one more may stand
+-- one more piece may follow whole pieces
 pub AreWhole-more : (pieces : List (List ℕ)) (piece : List ℕ) → AreWhole pieces
     → length (joined pieces) % 65536 ≡ 0 → 0 < length piece → length piece ≤ 65536
     → AreWhole (pieces ++ piece ∷ [])

@@ -5,4 +5,6 @@ pub mod Choice
 pub mod CallTable
 pub mod Overlay
 pub mod Pieces
+pub mod Held
+pub mod Packed
 pub mod Runs

@@ -44,8 +44,8 @@ fn without_groups<const N: usize>(bytes: &[u8], end: usize, fill: u8) -> usize
     end
 }
 
-// The end of the bytes without those at it that are this one.
-fn count_before(bytes: &[u8], fill: u8) -> usize
+/// The end of the bytes without those at it that are this one.
+pub(crate) fn count_before(bytes: &[u8], fill: u8) -> usize
     ensures within { result ≤ length bytes.now }
     ensures filled { drop result bytes.now ≡ replicate (length bytes.now - result) fill }
 {
@@ -88,7 +88,24 @@ impl FilledBytes {
         ensures { IfOk result (λ copy. copy ≡ bytes.now) }
     {
         let fill = bytes.last().copied().unwrap_or(0);
-        let end = count_before(bytes, fill);
+        FilledBytes::from_filled(alloc, bytes, count_before(bytes, fill), fill)
+    }
+
+    /// The bytes of a slice, of which those from `end` on are all `fill`. Takes memory for the others.
+    ///
+    /// # Errors
+    ///
+    /// There was no memory.
+    pub(crate) fn from_filled(
+        alloc: Global,
+        bytes: &[u8],
+        end: usize,
+        fill: u8,
+    ) -> Result<FilledBytes, AllocError>
+        requires within { end ≤ length bytes.now }
+        requires filled { drop end bytes.now ≡ replicate (length bytes.now - end) fill }
+        ensures { IfOk result (λ copy. copy ≡ bytes.now) }
+    {
         Ok(FilledBytes {
             bytes: bytes[..end].to_vec(alloc)?,
             fill,

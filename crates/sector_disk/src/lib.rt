@@ -6,7 +6,6 @@
 #![tactic(auto)]
 
 pub use disk::SectorDisk;
-pub use filled::FilledBytes;
 pub use pieces::Image;
 
 mod call;
@@ -14,5 +13,7 @@ mod choice;
 mod disk;
 mod filled;
 pub mod laws;
+mod packed;
+mod piece;
 mod pieces;
 mod runs;

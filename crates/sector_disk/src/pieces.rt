@@ -4,7 +4,7 @@ ghost use Rattle.std.specs.Prelude.{◌≡◌, ◌<◌, ◌≤◌, ◌+◌, ◌+
 ghost use Rattle.std.specs.Prelude.{take};
 ghost use Rattle.sector_disk.specs.inside.Pieces.{AreWhole, joined};
 
-use crate::filled::FilledBytes;
+use crate::piece::Piece;
 use std::alloc::{AllocError, Global};
 use std::marker::Model;
 
@@ -12,7 +12,7 @@ use std::marker::Model;
 const PIECE: usize = 65_536;
 
 // Reads a sector of the bytes that pieces make.
-fn read_piece(pieces: &[FilledBytes], from: usize, buffer: &mut [u8])
+fn read_piece(pieces: &[Piece], from: usize, buffer: &mut [u8])
     requires whole { AreWhole pieces.now }
     requires sector { length buffer.old ≡ 512 }
     requires place { from % 512 ≡ 0 }
@@ -20,15 +20,16 @@ fn read_piece(pieces: &[FilledBytes], from: usize, buffer: &mut [u8])
     ensures { buffer.new ≡ take 512 (drop from (joined pieces.now)) }
 {
     if let Some(piece) = pieces.get(from / PIECE) {
-        piece.read(from % PIECE, buffer);
+        piece.read_sector(from % PIECE, buffer);
     }
 }
 
 /// A list of bytes, as the image of a disk, held in pieces of 65,536 bytes, the last of which may
-/// have fewer. The bytes at a piece's end take no memory if they are all the same.
+/// have fewer. Bytes at a piece's end that are all the same take no memory; or, if that takes less,
+/// those at the end of each of its sectors take the memory of one byte.
 #[derive(Debug, Drop)]
 pub struct Image {
-    pieces: Vec<FilledBytes>,
+    pieces: Vec<Piece>,
     count: usize,
 }
 
@@ -67,7 +68,7 @@ impl Image {
         let mut rest = bytes;
         while !rest.is_empty() {
             let (piece, later) = rest.split_at(rest.len().min(PIECE));
-            image.push(FilledBytes::from_slice(alloc, piece)?)?;
+            image.push_slice(alloc, piece)?;
             rest = later;
         }
         Ok(image)
@@ -112,22 +113,21 @@ impl Image {
         self.count
     }
 
-    /// Appends a piece.
+    /// Appends the bytes of a slice as a piece.
     ///
     /// # Errors
     ///
     /// There was no memory; nothing is changed.
-    pub fn push(&mut self, piece: FilledBytes) -> Result<(), AllocError>
+    pub fn push_slice(&mut self, alloc: Global, piece: &[u8]) -> Result<(), AllocError>
         requires whole { length self.old % 65536 ≡ 0 }
-        requires some { 0 < length piece }
-        requires few { length piece ≤ 65536 }
-        requires fits { length self.old + length piece < 18446744073709551616 }
-        ensures ok { OnOk result (self.new ≡ self.old ++ piece) }
+        requires some { 0 < length piece.now }
+        requires few { length piece.now ≤ 65536 }
+        requires fits { length self.old + length piece.now < 18446744073709551616 }
+        ensures ok { OnOk result (self.new ≡ self.old ++ piece.now) }
         ensures err { OnErr result (self.new ≡ self.old) }
     {
-        let count = self.count + piece.len();
-        self.pieces.push(piece)?;
-        self.count = count;
+        self.pieces.push(Piece::from_slice(alloc, piece)?)?;
+        self.count += piece.len();
         Ok(())
     }
 

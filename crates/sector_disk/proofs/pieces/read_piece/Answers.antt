@@ -3,17 +3,17 @@ use Rattle.std.proofs.Common.{◌≡◌, ℕ, List, ◌+◌, ◌≤◌, ◌/◌,
 use Rattle.std.proofs.lemmas.Bool.{lt-ltb}
 use Rattle.std.proofs.lemmas.Option.{get_or_from_slice_get, slice_get_within}
 use Rattle.sector_disk.specs.inside.Pieces.{AreWhole, joined}
-use Rattle.sector_disk.proofs.PieceAt.{StandsIn, stands_in}
+use Rattle.sector_disk.proofs.PieceAt.{LiesIn, lies_in}
 use Rattle.sector_disk.proofs.pieces.read_piece.Goals as goal
 
--- where the sector stands
+-- where the sector is
 there_in : (pieces : List (List ℕ)) (from : ℕ) → from % 512 ≡ 0 → AreWhole pieces
-    → from + 512 ≤ length (joined pieces) → StandsIn pieces from (from / 65536) (from % 65536)
+    → from + 512 ≤ length (joined pieces) → LiesIn pieces from (from / 65536) (from % 65536)
 there_in pieces from place whole within =
-    stands_in pieces from (from / 65536) (from % 65536) (omega arith) (omega arith) whole within
+    lies_in pieces from (from / 65536) (from % 65536) (omega arith) (omega arith) whole within
 
-pub read-requires : goal.read-requires
-read-requires c =
+pub read_sector-requires-clause-within : goal.read_sector-requires-clause-within
+read_sector-requires-clause-within c =
     let there = there_in c.args.pieces.now c.args.from c.requires.place c.requires.whole
     c.requires.within in
     let same : c.in-Some.piece.now ≡ there.piece =
@@ -30,8 +30,7 @@ returns-in-Some c =
     let same : c.in-Some.piece.now ≡ there.piece =
     c.in-Some.ensures.lookup.1 ∙ get_or_from_slice_get
     c.args.pieces.now (c.args.from / 65536) there.piece c.in-Some.piece.now there.is in
-    c.read.ensures
-    ∙ ap (λ (n : ℕ). take n (drop (c.args.from % 65536) c.in-Some.piece.now)) c.requires.sector
+    c.read_sector.ensures
     ∙ ap (λ (xs : List ℕ). take 512 (drop (c.args.from % 65536) xs)) same
     ∙ sym there.part
 

@@ -1,0 +1,80 @@
+//! A piece of an image, held in the way that takes less memory.
+//! Its clauses are written in specs/inside/Held; the search alone proves it.
+ghost use Rattle.std.specs.Prelude.{◌≡◌, ◌+◌, ◌++◌, ◌<◌, ◌≤◌, ◌%◌, IfOk, OnOk, drop, length, take};
+
+use crate::filled::{FilledBytes, count_before};
+use crate::packed::{PackedSectors, packed_size};
+use std::alloc::{AllocError, Global};
+use std::marker::Model;
+
+// The ways in which a piece is held.
+#[derive(Debug, Drop)]
+enum Held {
+    Filled(FilledBytes),
+    Packed(PackedSectors),
+}
+
+/// A list of up to 65,536 bytes. The bytes at its end take no memory if they are all the same; or,
+/// if that takes at most half of the memory, those at the end of each of its sectors take that of one.
+#[derive(Debug, Drop)]
+pub struct Piece {
+    held: Held,
+}
+
+impl Model for Piece {
+    ghost use Rattle.std.specs.Prelude.{List, ℕ};
+
+    ghost Value = { List ℕ };
+
+    ghost use Rattle.sector_disk.specs.inside.Held.{held_bytes};
+
+    ghost view = { λ p. held_bytes p.held };
+}
+
+impl Piece {
+    /// The bytes of a slice.
+    ///
+    /// # Errors
+    ///
+    /// There was no memory.
+    pub fn from_slice(alloc: Global, bytes: &[u8]) -> Result<Piece, AllocError>
+        requires { length bytes.now ≤ 65536 }
+        ensures { IfOk result (λ copy. copy ≡ bytes.now) }
+    {
+        let fill = bytes.last().copied().unwrap_or(0);
+        let end = count_before(bytes, fill);
+        let held = match packed_size(bytes, end / 2) {
+            Some(size) => Held::Packed(PackedSectors::from_slice(alloc, bytes, size)?),
+            None => Held::Filled(FilledBytes::from_filled(alloc, bytes, end, fill)?),
+        };
+        Ok(Piece { held })
+    }
+
+    /// Reads a sector.
+    pub fn read_sector(&self, from: usize, buffer: &mut [u8])
+        requires sector { length buffer.old ≡ 512 }
+        requires place { from % 512 ≡ 0 }
+        requires within { from + 512 ≤ length self.now }
+        ensures { buffer.new ≡ take 512 (drop from self.now) }
+    {
+        match &self.held {
+            Held::Filled(bytes) => bytes.read(from, buffer),
+            Held::Packed(sectors) => sectors.read_sector(from, buffer),
+        }
+    }
+
+    /// Appends the bytes to a vector. If there is no memory, a beginning of them may be appended.
+    ///
+    /// # Errors
+    ///
+    /// There was no memory.
+    pub fn append_to(&self, to: &mut Vec<u8>) -> Result<(), AllocError>
+        requires { length to.old.items + length self.now < 18446744073709551616 }
+        ensures { OnOk result (to.new.items ≡ to.old.items ++ self.now) }
+    {
+        match &self.held {
+            Held::Filled(bytes) => bytes.append_to(to),
+            Held::Packed(sectors) => sectors.append_to(to),
+        }
+    }
+}

@@ -13,9 +13,10 @@ mod power;
 
 /// A disk in memory, of 1 to 1,048,576 sectors of 512 bytes, with a cache that `crash` loses.
 ///
-/// It keeps its past, for as long as it lives. A call takes about 110 bytes, the bytes of a write
-/// without those at its end that are all the same, and 16 bytes for each run of sectors whose last
-/// writes differ. From the first call on there are 16 bytes for each sector of the disk.
+/// It keeps its past, for as long as it lives. A call takes 64 bytes, and the bytes of a write
+/// without those at its end that are all the same. If the last writes of its sectors differ, it
+/// takes 16 bytes more for each run of sectors with the same one. From the first call on there are
+/// 16 bytes for each sector of the disk.
 #[derive(Debug, Drop)]
 pub struct SectorDisk {
     alloc: Global,

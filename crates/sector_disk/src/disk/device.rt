@@ -42,10 +42,10 @@ impl SectorDisk {
         let count = change.sectors() as usize;
         let before = copy_places(self.alloc, &self.newest, first as usize, count)?;
         let call = Call {
-            first,
-            change,
+            first: first as u32,
             fua,
             after_flush: self.flushed,
+            change,
             before,
         };
         add_call(&mut self.calls, &mut self.newest, call, count)?;

@@ -68,9 +68,9 @@ def sizes(program, always):
 
 
 def bytes_of_request(script, measured, always):
-    """What a request takes beside what any run holds, the data on its disk, the log on its own, and 16 bytes for each sector of the two disks. (The events
+    """What a request takes beside what any run holds, the data on its disk, the log on its own, and 8 bytes for each sector of the two disks. (The events
     share the data of writes that follow one another with the same bytes, and the file is written piece by piece.)"""
-    return (measured.peak - always - script.data - script.image - 16 * script.sectors) / script.requests
+    return (measured.peak - always - script.data - script.image - 8 * script.sectors) / script.requests
 
 
 def main():

@@ -19,7 +19,7 @@ use Rattle.chains.proofs.HoldsLaws.{few-in, few-in-two, holds-turned, is-row, no
 use Rattle.chains.proofs.TableLaws.{table-at, table-kept}
 use Rattle.chains.proofs.WalkLaws.{sound-at, walk-last}
 
--- a row that stands in some chain stands in one of them
+-- a row that is in all chains together is in one of them
 row-in : (row : ℕ) (chains : List (List ℕ)) → 0 < times_in row chains
     → (chain : ℕ) × (0 < times row (chain_in chains chain))
 row-in row [] some = absurd (omega arith)
@@ -29,7 +29,7 @@ row-in row (xs ∷ chains) some = elim (cases_lt 0 (times row xs)) [
       let rest = row-in row chains (omega (arith, sum_by-cons (times row) xs chains)) in (suc rest.0, rest.1)
 ]
 
--- a list that a row stands in, around it
+-- a list that has a row: what comes before it, and what comes after it
 around : (row : ℕ) (rows : List ℕ) → 0 < times row rows
     → (front : List ℕ) × (back : List ℕ) × (rows ≡ front ++ row ∷ back)
 around row [] some = absurd (omega arith)
@@ -40,8 +40,8 @@ around row (x ∷ xs) some = elim (cases_eq x row) [
       (x ∷ rest.0, rest.1, ap (λ ys. x ∷ ys) rest.2)
 ]
 
--- the row whose link leads to the last one of a ring, in which that stands once, stands before it,
--- or it's the only one
+-- The row whose link leads to a ring's last row is the one before that, or the only one. The ring
+-- has its last row once.
 ring-before : (next : List ℕ) (last : ℕ) (rows front : List ℕ) (row : ℕ) (back : List ℕ)
     → IsRing next last rows → rows ≡ front ++ row ∷ back → after next row ≡ last
     → times last rows ≤ 1
@@ -84,7 +84,7 @@ ring-before next last rows front row back ring is leads few =
         let end = times-same last row [] rest in
         omega arith)
 
--- the row to which a row of a ring leads stands in that ring
+-- a row of a ring leads to a row of that ring
 ring-closed : (next : List ℕ) (last : ℕ) (front : List ℕ) (row : ℕ) (back : List ℕ)
     → Leads next last (front ++ row ∷ back) last
     → 0 < times (after next row) (front ++ row ∷ back)
@@ -105,7 +105,7 @@ ring-closed next last (f ∷ fs) row [] way =
     let same : f ≡ after next row = sym way.0 ∙ ap (after next) (sym rest) in
     omega (arith, times-same (after next row) f (fs ++ row ∷ []) same)
 
--- the row to which a row of a chain leads stands in that chain
+-- a row of a chain leads to a row of that chain
 chain-closed : {next : List ℕ} {lasts : List (Option ℕ)} {chains : List (List ℕ)}
     → Holds next lasts [] chains
     → (chain row : ℕ) → 0 < times row (chain_in chains chain)
@@ -123,7 +123,7 @@ chain-closed {next} {lasts} {chains} h chain row some = by_last (last_in lasts c
         (ring-at h chain last noted).leads) in
         let e = ap (times (after next row)) parts.2 in omega arith
 
--- the row whose link leads to the last one of a chain stands in that chain
+-- the row whose link leads to the last one of a chain is in that chain
 row-of : {next : List ℕ} {lasts : List (Option ℕ)} {chains : List (List ℕ)}
     → Holds next lasts [] chains
     → (chain last row : ℕ) → last_in lasts chain ≡ Some last → row < length next

@@ -61,7 +61,7 @@ pub sum-none : {X : Type 0} (f : X → ℕ) (n : ℕ) (x : X) → f x ≡ 0 → 
 sum-none f zero x none = refl
 sum-none f (suc n) x none = omega (arith, sum_by-cons f x (replicate n x), sum-none f n x none)
 
--- no rows, and so many chains
+-- no rows, and n chains
 pub holds-none : (n : ℕ) → Holds [] (replicate n None) [] (replicate n [])
 holds-none n = record {
   size = length-replicate n [] ∙ sym (length-replicate n None);
@@ -316,7 +316,7 @@ module _ {T : Type 0} where
         let e = ap (times row) (default-grown chains 0 []) in omega arith;
   }
 
-  -- so many chains with nothing, and no rows
+  -- chains with nothing, one more than `more`, and no rows
   pub new-table : (more : ℕ) (rows : List (Option T)) → rows ≡ []
       → IsTable [] (replicate (suc more) None) rows (replicate (suc more) [])
   new-table more rows empty = record {

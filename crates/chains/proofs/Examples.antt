@@ -66,7 +66,7 @@ beyond : chain_in three 7 ≡ []
 unfolding three
 beyond = refl
 
--- what is seen after so many changes
+-- what is seen after `changed` changes
 shown : ℕ → ℕ → Shown ℕ
 shown changed spare =
     record { chains = three; changed = changed; walked = None; rows = 3; room = 0; spare = spare }
@@ -116,7 +116,7 @@ unfolding shown
 chains-room-added kept = let room = kept.room in omega arith
 
 -- what is written through the reference to the first of a
--- chain stands there, and all else is as it was
+-- chain is there, and all else is as it was
 written : with_value (shown 5 2) 1 10
     ≡ record (shown 5 2) { chains = [] ∷ (10 ∷ 12 ∷ []) ∷ (21 ∷ []) ∷ [] }
 unfolding shown three
@@ -139,7 +139,7 @@ found-walked : chains_of next (seen_lasts lasts (Some (record { chain = 1; at = 
 unfolding next lasts
 found-walked = refl
 
--- each row stands once, and there is no row 4
+-- each row is there once, and there is no row 4
 once : times_in 2 (chains_of next lasts) ≡ 1
 unfolding next lasts
 once = refl

@@ -4,6 +4,7 @@ use Rattle.std.proofs.lemmas.List.Sums.{sum_by_push}
 use Rattle.std.proofs.Common.{zero, suc, get_or, ◌≡◌, ◌≢◌, ℕ, ◌+◌, ◌<◌, ◌≤◌, List, [], ◌∷◌, ◌++◌}
 use Rattle.std.proofs.Common.{length, set, drop, Option, Some, None, refl, ap, sym, ◌∙◌, subst, inl}
 use Rattle.std.proofs.Common.{inr, arith, length-append, length-set}
+use Rattle.std.specs.Prelude.{IfSome}
 use Rattle.std.proofs.lemmas.Bool.{cases_eq, cases_lt}
 use Rattle.std.proofs.lemmas.List.{get_or-set_same, get_or-set_other, get_or_past, set-set}
 use Rattle.std.proofs.lemmas.List.{set-get_or, append-nil, append_assoc}
@@ -60,7 +61,7 @@ none-at {next} {lasts} {loose} {chains} h chain is =
     chain-at next (last_in lasts chain) None (chain_in chains chain) (chain_in chains chain) is refl
     (h.each chain)
 
--- a row stands at most once in all chains and among the loose ones
+-- a row is at most once in all chains and among the loose ones
 pub holds-few : {next : List ℕ} {lasts : List (Option ℕ)} {loose : List ℕ} {chains : List (List ℕ)}
     → Holds next lasts loose chains
     → (row : ℕ) → times row loose + times_in row chains ≤ 1
@@ -202,7 +203,7 @@ holds-loosened {next} {lasts} {loose} {chains} h chain less =
     (λ row. omega (arith, times-append row (chain_in chains chain) loose))
     (omega (arith, length-append (chain_in chains chain) loose))
 
--- the first row of a chain, and that the others stand behind it
+-- the first row of a chain, and that the others come after it
 pub record IsFirst (next : List ℕ) (last : ℕ) (rows rest : List ℕ) : Type 0 where
   pub is : rows ≡ after next last ∷ rest
   pub leads : Leads next (after next last) rest last
@@ -233,6 +234,28 @@ last-is-row {next} {lasts} {loose} {chains} h chain last there =
     is-row h chain last
     (let some = last-counts next last (chain_in chains chain) (ring-at h chain last there) in
     omega arith)
+
+-- what is noted of a chain is a row, if there is one
+pub noted-is-row : {next : List ℕ} {lasts : List (Option ℕ)} {loose : List ℕ}
+    {chains : List (List ℕ)} → Holds next lasts loose chains
+    → (chain : ℕ) (last : Option ℕ) → last_in lasts chain ≡ last
+    → IfSome last (λ row. row < length next)
+noted-is-row h chain None there = tt
+noted-is-row h chain (Some last) there = last-is-row h chain last there
+
+-- a loose row is a row
+pub loose-is-row : {next : List ℕ} {lasts : List (Option ℕ)} {chains : List (List ℕ)}
+    (row : ℕ) (loose : List ℕ) → Holds next lasts (row ∷ loose) chains → row < length next
+loose-is-row row loose h =
+    is-row h 0 row (let one = times-same row row loose refl in omega arith)
+
+-- the last row of a loose ring is a row
+pub ring-is-row : {next : List ℕ} {lasts : List (Option ℕ)} {chains : List (List ℕ)} (last : ℕ)
+    (rows loose : List ℕ) → Holds next lasts (rows ++ loose) chains → IsRing next last rows
+    → last < length next
+ring-is-row {next} last rows loose h ring =
+    is-row h 0 last
+    (let some = last-counts next last rows ring in omega (arith, times-append last rows loose))
 
 -- The first row taken out of a chain that has others: the last leads to the one behind it.
 pub holds-cut : {next : List ℕ} {lasts : List (Option ℕ)} {loose : List ℕ} {chains : List (List ℕ)}
@@ -521,7 +544,7 @@ holds-fronted {next} {lasts} {loose} {chains} h from onto apart less new noted s
     (ap (λ rows. set (set chains from []) onto (chain_in chains from ++ rows)) e)
     (step (holds-loosened h from less))
 
--- one chain put before another, seen from its last row: it stands behind the other
+-- one chain put before another, seen from its last row: it comes after the other
 pub holds-joined : {next : List ℕ} {lasts : List (Option ℕ)} {loose : List ℕ}
     {chains : List (List ℕ)} → Holds next lasts loose chains
     → (from onto last : ℕ) → last_in lasts from ≡ Some last → onto < length lasts
@@ -552,7 +575,7 @@ holds-joined {next} {lasts} {loose} {chains} h from onto last there less new not
         ∙ ap (λ rs. set (set chains from []) onto (chain_in chains onto ++ rs)) (sym rows))
         (holds-turned then onto end.0 last (chain_in chains onto) here)
 
--- a row put before a chain, which is then seen from it: it stands behind the others
+-- a row put before a chain, which is then seen from it: it comes after the others
 pub holds-lengthened : (new : List ℕ) (noted : List (Option ℕ)) (loose : List ℕ)
     (chains : List (List ℕ)) (chain row : ℕ) → chain < length chains
     → Holds new noted loose (preceded chains chain row)

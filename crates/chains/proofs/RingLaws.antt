@@ -7,7 +7,7 @@ use Rattle.std.proofs.lemmas.List.{get_or-set_other}
 use Rattle.std.specs.Prelude.{is_some, IfSome, true, false}
 use Rattle.chains.specs.inside.Rings.{after, times, Leads, IsRing, IsChain}
 
--- a row stands in a list that begins with it
+-- a row is in a list that begins with it
 pub times-same : (row other : ℕ) (rows : List ℕ) → other ≡ row
     → times row (other ∷ rows) ≡ 1 + times row rows
 times-same row other rows same = ap (λ b. cond b 1 0 + times row rows) (eq-eqb other row same)
@@ -134,14 +134,14 @@ pub sources-none : (next : List ℕ) (from : ℕ) (rows : List ℕ) (to row : �
 sources-none next from rows to row leads none =
     omega (arith, times-sources next from rows to row leads)
 
--- the end of a way that stands on it once is none that it goes along
+-- a way that has its end only once doesn't go on from it
 pub sources-end : (next : List ℕ) (from : ℕ) (rows : List ℕ) (to : ℕ) → Leads next from rows to
     → times to (from ∷ rows) ≤ 1
     → times to (sources from rows) ≡ 0
 sources-end next from rows to leads few =
     let one = times-same to to [] refl in omega (arith, times-sources next from rows to to leads)
 
--- the last row stands in its ring
+-- the last row is in its ring
 pub last-counts : (next : List ℕ) (last : ℕ) (rows : List ℕ) → IsRing next last rows
     → 0 < times last rows
 last-counts next last [] ring = ring.some

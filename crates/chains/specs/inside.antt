@@ -4,4 +4,5 @@ pub mod Rings
 pub mod Changes
 pub mod Steps
 pub mod Tables
+pub mod LastRows
 pub mod Looks

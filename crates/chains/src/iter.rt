@@ -59,7 +59,7 @@ fn unless_last(row: usize, last: usize) -> Option<usize>
 }
 
 impl<T: Drop> Chains<T> {
-    /// The values of a chain, in order. Of the chain that is
+    /// The values of a chain, in order. For the chain that is
     /// being walked, from the one that the walk is at on.
     pub fn iter(&self, chain: usize) -> Iter<'_, T>
         requires { 0 < chain × chain < length self.now.chains }

@@ -1,8 +1,8 @@
 //! The links between rows, and the one call that changes them.
 //! Its clauses are written in specs/; its theorems in proofs/links/.
 ghost use Rattle.std.specs.Prelude.{◌≡◌, ℕ, ◌+◌, ◌-◌, ◌^◌, ◌<◌, ◌≤◌, min, None, [], ◌∷◌, ◌++◌};
-ghost use Rattle.std.specs.Prelude.{length, replicate, slice_set, IfOk, IsOk, OnErr, OnOk, vec_len};
-ghost use Rattle.std.specs.Prelude.{vec_capacity};
+ghost use Rattle.std.specs.Prelude.{length, replicate, slice_set, IfOk, IfSome, IsOk, OnErr, OnOk};
+ghost use Rattle.std.specs.Prelude.{vec_capacity, vec_len};
 ghost use Rattle.chains.specs.inside.Rings.{after, last_in};
 ghost use Rattle.chains.specs.inside.Changes.{IsWithin, lasts_after, next_after};
 
@@ -66,24 +66,68 @@ impl Link {
     }
 }
 
+/// The last row of a chain, if it has rows: `Option<usize>` in one word.
+#[derive(Clone, Drop)]
+struct LastRow {
+    // `usize::MAX` if the chain has no rows: no row of a table has this number.
+    row: usize,
+}
+
+impl Model for LastRow {
+    ghost use Rattle.std.specs.Prelude.{Option, ℕ};
+
+    ghost Value = { Option ℕ };
+
+    ghost use Rattle.chains.specs.inside.LastRows.{row_in};
+
+    ghost view = { λ last. row_in last.row };
+}
+
+impl Debug for LastRow {
+    fn fmt<W: fmt::Write>(&self, f: &mut Formatter<W>) -> fmt::Result {
+        Debug::fmt(&self.row(), f)
+    }
+}
+
+impl LastRow {
+    fn new(row: Option<usize>) -> LastRow
+        requires { IfSome row (λ row. row < 18446744073709551615) }
+        ensures { result ≡ row }
+    {
+        LastRow {
+            row: row.unwrap_or(usize::MAX),
+        }
+    }
+
+    fn row(&self) -> Option<usize>
+        ensures { result ≡ self.now }
+    {
+        if self.row == usize::MAX {
+            None
+        } else {
+            Some(self.row)
+        }
+    }
+}
+
 /// Where the link of each row leads, and which row is the last of each chain.
 #[derive(Debug, Drop)]
 pub struct Links {
     next: Vec<Link>,
-    lasts: Vec<Option<usize>>,
-    // How many links were changed, or 2^64 - 1 where there were more.
+    lasts: Vec<LastRow>,
+    // How many links were changed, or 2^64 - 1 if there were more.
     changed: u64,
 }
 
 impl Links {
-    /// No rows, so many chains, and one more: chain 0.
+    /// No rows, `chains` chains, and one more: chain 0.
     pub fn new(alloc: Global, chains: usize) -> Result<Links, AllocError>
         ensures next { IfOk result (λ links. links.next.items ≡ []) }
         ensures lasts { IfOk result (λ links. links.lasts.items ≡ replicate (chains + 1) None) }
         ensures changed { IfOk result (λ links. links.changed ≡ 0) }
     {
-        let mut lasts = vec![in alloc; None; chains]?;
-        lasts.push(None)?;
+        let mut lasts = vec![in alloc; LastRow::new(None); chains]?;
+        lasts.push(LastRow::new(None))?;
         Ok(Links {
             next: Vec::new(alloc),
             lasts,
@@ -126,10 +170,10 @@ impl Links {
         requires { chain < length self.now.lasts.items }
         ensures { result ≡ last_in self.now.lasts.items chain }
     {
-        self.lasts[chain]
+        self.lasts[chain].row()
     }
 
-    /// How many links were changed; more than 2^64 - 1 are told as that.
+    /// How many links were changed; 2^64 - 1 if there were more.
     pub fn changed(&self) -> u64
         ensures { result ≡ self.now.changed }
     {
@@ -147,7 +191,7 @@ impl Links {
         ensures chain_room { vec_capacity self.new.lasts ≡ vec_capacity self.old.lasts }
     {
         match change {
-            Change::Last(chain, row) => self.lasts[chain] = row,
+            Change::Last(chain, row) => self.lasts[chain] = LastRow::new(row),
             Change::Next(row, to) => self.lead(row, to),
         }
         self.changed = self.changed.saturating_add(1);
@@ -207,7 +251,7 @@ impl Links {
         ensures changed { self.new.changed ≡ self.old.changed }
         ensures room { vec_capacity self.new.lasts ≡ vec_capacity self.old.lasts }
     {
-        self.lasts.push_reserved(None);
+        self.lasts.push_reserved(LastRow::new(None));
     }
 
     /// One more row, in no chain.

@@ -15,7 +15,7 @@ use crate::walk::{Walk, first_row, seen_last};
 use std::alloc::{AllocError, Global};
 use std::marker::Model;
 
-/// Chains of values. A chain is told by its number, from 1 on.
+/// Chains of values. Each chain has a number, from 1 on.
 #[derive(Debug, Drop)]
 pub struct Chains<T> {
     pub(crate) links: Links,
@@ -43,7 +43,7 @@ impl<T: Drop> Chains<T> {
     ghost use Rattle.std.specs.Borrow.{sem};
     ghost use Rattle.chains.specs.Lends.{lends_first};
 
-    /// So many empty chains, numbered from 1 on.
+    /// A table of `chains` empty chains, numbered from 1 on.
     ///
     /// # Errors
     ///
@@ -85,6 +85,7 @@ impl<T: Drop> Chains<T> {
     pub fn reserve_rows(&mut self, more: usize) -> Result<(), AllocError>
         ensures same { self.new ≡ record self.old { spare = self.new.spare } }
         ensures spare { OnOk result (more ≤ self.new.spare) }
+        ensures room { OnOk result (more ≤ new_rows_room self.new) }
         ensures kept { self.old.spare ≤ self.new.spare }
         ensures succeeds { more ≤ new_rows_room self.old → IsOk result }
         ensures full { OnErr result (new_rows_room self.old < more) }
@@ -205,6 +206,7 @@ impl<T: Drop> Chains<T> {
         ensures walked { self.new.walked ≡ None }
         ensures rows { OnOk result (self.new.rows ≡ max self.old.rows (count_in self.new.chains)) }
         ensures room { self.new.room ≡ self.old.room }
+        ensures succeeds { 0 < self.old.spare → IsOk result }
         ensures err { OnErr result (self.new ≡ record self.old { spare = self.new.spare }) }
     {
         self.reserve_row()?;
@@ -224,6 +226,7 @@ impl<T: Drop> Chains<T> {
         ensures changed { ChangesFew self.old self.new 4 }
         ensures walked { self.new.walked ≡ None }
         ensures rows { OnOk result (self.new.rows ≡ max self.old.rows (count_in self.new.chains)) }
+        ensures succeeds { 0 < self.old.room → 0 < self.old.spare → IsOk result }
         ensures err { OnErr result
             (self.new ≡ record self.old { room = self.new.room; spare = self.new.spare }) }
     {
@@ -243,7 +246,7 @@ impl<T: Drop> Chains<T> {
         self.links.chains()
     }
 
-    /// The first value of a chain. Of the chain that is being walked, the one that the walk is at.
+    /// The first value of a chain. For the chain that is being walked, the one that the walk is at.
     pub fn first(&self, chain: usize) -> Option<&T>
         requires { 0 < chain × chain < length self.now.chains }
         ensures { option_copied result ≡ slice_get (chain_in self.now.chains chain) 0 }
@@ -292,7 +295,7 @@ impl<T: Drop> Chains<T> {
         Some(self.walk?.chain)
     }
 
-    /// How many links were changed; more than 2^64 - 1 are told as that.
+    /// How many links were changed; 2^64 - 1 if there were more.
     pub fn links_changed(&self) -> u64
         ensures { result ≡ self.now.changed }
     {

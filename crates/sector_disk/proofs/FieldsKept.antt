@@ -57,42 +57,45 @@ new_place n none table empty zeroes sector =
     place_past none sector (omega arith)
     ∙ sym (ap (λ (xs : List ℕ). place_of xs sector) zeroes ∙ first_place n sector)
 
--- and the content stays
-pub start_opened : (n : ℕ) (calls : List Call) (none table : List ℕ) → length none ≡ 0
-    → table ≡ replicate n 0 → content_at calls none ≡ content_at calls table
-start_opened n calls none table empty zeroes =
-    same_content (content_at calls none) (content_at calls table)
-    (λ s. ap (λ (p : ℕ). value_at calls p s) (new_place n none table empty zeroes s))
+-- and tables without places have the same content
+pub start_opened : (calls : List Call) (none others : List ℕ) → length none ≡ 0 → others ≡ []
+    → content_at calls none ≡ content_at calls others
+start_opened calls none others empty is =
+    let bare = ap length is in
+    same_content (content_at calls none) (content_at calls others)
+    (λ s. ap (λ (p : ℕ). value_at calls p s)
+    (place_past none s (omega arith) ∙ sym (place_past others s (omega arith))))
 
 -- what holds of the fields holds when the tables are made
 pub kept_opened : (sectors : ℕ) (calls : List Call) (newest base places others : List ℕ)
     (begun synced : ℕ) (flushed : Bool)
     → IsKept sectors calls newest base begun synced flushed → length newest ≡ 0
-    → places ≡ replicate sectors 0 → others ≡ replicate sectors 0
+    → places ≡ replicate sectors 0 → others ≡ []
     → IsKept sectors calls places others begun synced flushed
 kept_opened sectors calls newest base places others begun synced flushed kept empty zeroes
-    others_zeroes = record {
+    bare = record {
       some = kept.some;
       few = kept.few;
       table =
           ap (is_table sectors) (ap length zeroes ∙ length-replicate sectors 0)
           ∙ whole_table sectors;
-      base_length = ap length (others_zeroes ∙ sym zeroes);
+      base_length = let none = ap length bare in omega arith;
       begun_within = kept.begun_within;
       synced_some = kept.synced_some;
       synced_within = kept.synced_within;
       synced_now = kept.synced_now;
       base_within = record {
         each = λ s. let h = kept.base_within.each s in
-            let is = ap (λ (xs : List ℕ). place_of xs s) others_zeroes ∙ first_place sectors s in
+            let none = ap length bare in
+            let is = place_past others s (omega arith) in
             omega arith;
       };
       placed =
           let Start : Content → Type 0 =
           λ start. ArePlaced calls synced sectors places
           (cache_after start (past_of calls begun flushed)) in
-          subst Start (start_opened sectors calls base others (kept.base_length ∙ empty)
-          others_zeroes)
+          let few = kept.base_length in
+          subst Start (start_opened calls base others (omega arith) bare)
           (record {
             each = λ sector h.
                 let now = (cache_of calls base begun flushed).now sector in
@@ -405,7 +408,7 @@ kept-put sectors calls newest filled base begun synced flushed call kept opened 
       some = kept.some;
       few = kept.few;
       table = ap (is_table sectors) (fills.size ∙ opened) ∙ whole_table sectors;
-      base_length = kept.base_length ∙ sym fills.size;
+      base_length = let few = kept.base_length in let size = fills.size in omega arith;
       begun_within = let h = kept.begun_within in omega arith;
       synced_some = kept.synced_some;
       synced_within = let h = kept.synced_within in omega arith;
@@ -569,7 +572,7 @@ kept_begun sectors calls places some few table within = record {
   some = some;
   few = few;
   table = table;
-  base_length = refl;
+  base_length = omega arith;
   begun_within = omega arith;
   synced_some = let first = within.each 0 in omega arith;
   synced_within = omega arith;

@@ -43,18 +43,20 @@ impl Change {
     }
 }
 
-/// A write or a discard that a disk keeps.
+/// A write or a discard that a disk keeps, for as long as it lives: so it is small.
 #[derive(Debug, Drop)]
 pub struct Call {
-    /// Its first sector.
-    pub first: u64,
-    pub change: Change,
+    /// Its first sector: a disk has less than 2^32 sectors.
+    pub first: u32,
     pub fua: bool,
     /// Whether a flush came between the call before it and this one.
     pub after_flush: bool,
+    pub change: Change,
     /// For each of its sectors, the place of the call that put the value before.
     pub before: Runs,
 }
+
+const _: () = prove!(mem::size_of::<Call>() <= 64);
 
 // Reads a sector as a write from `first` on left it: zeroes if it wrote nothing there.
 fn read_written(bytes: &FilledBytes, first: u64, sector: u64, buffer: &mut [u8])
@@ -88,8 +90,8 @@ fn read_call(call: &Call, sector: u64, buffer: &mut [u8])
     ensures { buffer.new ≡ value_in (Some call.now) sector }
 {
     match &call.change {
-        Change::Write(bytes) => read_written(bytes, call.first, sector, buffer),
-        Change::Image(image) => read_image(image, call.first, sector, buffer),
+        Change::Write(bytes) => read_written(bytes, u64::from(call.first), sector, buffer),
+        Change::Image(image) => read_image(image, u64::from(call.first), sector, buffer),
         Change::Discard(_) => buffer.fill(0),
     }
 }
@@ -262,6 +264,6 @@ pub fn before(calls: &[Call], place: usize, sector: usize) -> usize
     let Some(call) = calls.get(place) else {
         return 0;
     };
-    let index = (sector as u64).saturating_sub(call.first);
+    let index = (sector as u64).saturating_sub(u64::from(call.first));
     call.before.get(index as usize).unwrap_or(0)
 }

@@ -1,6 +1,7 @@
 //! A disk in memory that keeps its past, so that what a crash may leave is known exactly.
 //! Its clauses are written in specs/inside/Storage; its theorems in proofs/disk/.
 ghost use Rattle.std.proofs.Props.{props};
+ghost use Rattle.std.specs.Prelude.{◌≤◌, length, vec_capacity};
 ghost use Rattle.sector_disk.specs.inside.Storage.{IsKept};
 
 use crate::call::Call;
@@ -13,9 +14,10 @@ mod power;
 
 /// A disk in memory, of 1 to 1,048,576 sectors of 512 bytes, with a cache that `crash` loses.
 ///
-/// It keeps its past, for as long as it lives. A call takes about 110 bytes, the bytes of a write
-/// without those at its end that are all the same, and 16 bytes for each run of sectors whose last
-/// writes differ. From the first call on there are 16 bytes for each sector of the disk.
+/// It keeps its past, for as long as it lives. A call takes 64 bytes, and the bytes of a write
+/// without those at its end that are all the same. If the last writes of its sectors differ, it
+/// takes 16 bytes more for each run of sectors with the same one. From the first call on there are
+/// 8 bytes for each sector of the disk, and room for 8 more, which the first crash fills.
 #[derive(Debug, Drop)]
 pub struct SectorDisk {
     alloc: Global,
@@ -25,7 +27,8 @@ pub struct SectorDisk {
     // For each sector the place of the call that has its value;
     // empty before the second call, when each has the first's.
     newest: Vec<usize>,
-    // And of the one that had it when the past began, at the last crash; empty where that is.
+    // And of the one that had it when the past began, at the last crash. Empty before the first
+    // crash, when each has the first's: there is room then for all sectors.
     base: Vec<usize>,
     // How many calls there were when the past began.
     begun: usize,
@@ -33,5 +36,6 @@ pub struct SectorDisk {
     synced: usize,
     // Whether that flush came after the last call.
     flushed: bool,
+    ghost room: { length newest.items ≤ vec_capacity base },
     ghost kept: { IsKept sectors calls.items newest.items base.items begun synced flushed } by { Prim.hlevel props },
 }

@@ -11,20 +11,20 @@ use std::marker::Model;
 pub struct FilledBytes {
     // The first bytes.
     bytes: Vec<u8>,
-    // The byte in all places behind those.
+    // How many bytes follow on those.
+    more: u32,
+    // Each of the bytes that follow.
     fill: u8,
-    // How many bytes there are in all.
-    count: usize,
 }
 
 impl Model for FilledBytes {
-    ghost use Rattle.std.specs.Prelude.{◌-◌, ◌≤◌, ◌++◌, List, length, replicate, ℕ};
+    ghost use Rattle.std.specs.Prelude.{◌+◌, ◌<◌, ◌++◌, List, length, replicate, ℕ};
 
     ghost Value = { List ℕ };
 
-    ghost view = { λ b. b.bytes.items ++ replicate (b.count - length b.bytes.items) b.fill };
+    ghost view = { λ b. b.bytes.items ++ replicate b.more b.fill };
 
-    ghost invariant = { λ b. length b.bytes.items ≤ b.count };
+    ghost invariant = { λ b. length b.bytes.items + b.more < 18446744073709551616 };
 }
 
 // The end of the bytes without the groups of N at it in which each byte is this one. Behind `end`
@@ -54,6 +54,20 @@ pub(crate) fn count_before(bytes: &[u8], fill: u8) -> usize
     without_groups::<1>(bytes, end, fill)
 }
 
+// Splits bytes of which those from `end` on are all `fill`: how many are held, and how many of that
+// byte follow on them. Bytes whose repeated end is too long to be counted are all held.
+fn split_counts(bytes: &[u8], end: usize, fill: u8) -> (usize, u32)
+    requires within { end ≤ length bytes.now }
+    requires filled { drop end bytes.now ≡ replicate (length bytes.now - end) fill }
+    ensures all { result.0 + result.1 ≡ length bytes.now }
+    ensures filled { drop result.0 bytes.now ≡ replicate result.1 fill }
+{
+    match u32::try_from(bytes.len() - end) {
+        Ok(more) => (end, more),
+        Err(_) => (bytes.len(), 0),
+    }
+}
+
 impl FilledBytes {
     /// No bytes. Takes no memory.
     pub fn empty(alloc: Global) -> FilledBytes
@@ -61,8 +75,8 @@ impl FilledBytes {
     {
         FilledBytes {
             bytes: Vec::new(alloc),
+            more: 0,
             fill: 0,
-            count: 0,
         }
     }
 
@@ -70,11 +84,10 @@ impl FilledBytes {
     pub fn from_vec(bytes: Vec<u8>) -> FilledBytes
         ensures { result ≡ bytes.items }
     {
-        let count = bytes.len();
         FilledBytes {
             bytes,
+            more: 0,
             fill: 0,
-            count,
         }
     }
 
@@ -106,10 +119,11 @@ impl FilledBytes {
         requires filled { drop end bytes.now ≡ replicate (length bytes.now - end) fill }
         ensures { IfOk result (λ copy. copy ≡ bytes.now) }
     {
+        let (held, more) = split_counts(bytes, end, fill);
         Ok(FilledBytes {
-            bytes: bytes[..end].to_vec(alloc)?,
+            bytes: bytes[..held].to_vec(alloc)?,
+            more,
             fill,
-            count: bytes.len(),
         })
     }
 
@@ -117,7 +131,7 @@ impl FilledBytes {
     pub fn len(&self) -> usize
         ensures { result ≡ length self.now }
     {
-        self.count
+        self.bytes.len() + self.more as usize
     }
 
     /// Reads bytes from a place on, until the buffer is full.
@@ -142,7 +156,7 @@ impl FilledBytes {
         ensures { OnOk result (to.new.items ≡ to.old.items ++ self.now) }
     {
         to.extend_from_slice(&self.bytes)?;
-        to.resize(to.len() + (self.count - self.bytes.len()), self.fill)
+        to.resize(to.len() + self.more as usize, self.fill)
     }
 
     /// The bytes as a vector. Takes no memory if they were made from one.
@@ -155,10 +169,10 @@ impl FilledBytes {
     {
         let FilledBytes {
             mut bytes,
+            more,
             fill,
-            count,
         } = self;
-        bytes.resize(count, fill)?;
+        bytes.resize(bytes.len() + more as usize, fill)?;
         Ok(bytes)
     }
 }

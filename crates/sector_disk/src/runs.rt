@@ -14,21 +14,29 @@ struct Run {
     value: usize,
 }
 
-/// A list of numbers. Takes memory for each of its runs of one number but the first.
+/// A list of numbers. Takes memory only if it has more than one run of one number.
 #[derive(Debug, Drop)]
 pub struct Runs {
-    first: Run,
-    later: Vec<Run>,
+    held: Held,
+}
+
+// How the numbers are held, in two words.
+#[derive(Debug, Drop)]
+enum Held {
+    // One number, and how many times it follows on itself.
+    One { count: u32, value: usize },
+    // Runs, one after another.
+    More(Box<Vec<Run>>),
 }
 
 impl Model for Runs {
-    ghost use Rattle.std.specs.Prelude.{◌++◌, List, replicate, ℕ};
+    ghost use Rattle.std.specs.Prelude.{List, ℕ};
 
     ghost Value = { List ℕ };
 
-    ghost use Rattle.sector_disk.specs.inside.Runs.{unrolled};
+    ghost use Rattle.sector_disk.specs.inside.Runs.{held_values};
 
-    ghost view = { λ r. replicate r.first.count r.first.value ++ unrolled r.later.items };
+    ghost view = { λ r. held_values r.held };
 }
 
 // The first run of a list.
@@ -61,14 +69,34 @@ fn value_at(runs: &[Run], index: usize) -> Option<usize>
     None
 }
 
+// The runs of a list.
+fn runs_of(alloc: Global, values: &[usize]) -> Result<Vec<Run>, AllocError>
+    ensures { IfOk result (λ runs. unrolled runs.items ≡ values.now) }
+{
+    let mut runs = Vec::new(alloc);
+    let mut rest = values;
+    while !rest.is_empty() {
+        let run = first_run(rest);
+        runs.push(run)?;
+        rest = &rest[run.count..];
+    }
+    Ok(runs)
+}
+
 impl Runs {
     /// No numbers. Takes no memory.
-    pub fn empty(alloc: Global) -> Runs
+    pub fn empty() -> Runs
         ensures { result ≡ [] }
     {
+        Runs::repeated(0, 0)
+    }
+
+    // One number, which follows on itself `count` times. Takes no memory.
+    fn repeated(count: u32, value: usize) -> Runs
+        ensures { result ≡ replicate count value }
+    {
         Runs {
-            first: Run { count: 0, value: 0 },
-            later: Vec::new(alloc),
+            held: Held::One { count, value },
         }
     }
 
@@ -81,23 +109,24 @@ impl Runs {
         ensures { IfOk result (λ runs. runs ≡ values.now) }
     {
         let first = first_run(values);
-        let mut later = Vec::new(alloc);
-        let mut rest = &values[first.count..];
-        while !rest.is_empty() {
-            let run = first_run(rest);
-            later.push(run)?;
-            rest = &rest[run.count..];
+        if first.count == values.len() {
+            if let Ok(count) = u32::try_from(first.count) {
+                return Ok(Runs::repeated(count, first.value));
+            }
         }
-        Ok(Runs { first, later })
+        let runs = runs_of(alloc, values)?;
+        Ok(Runs {
+            held: Held::More(Box::new(alloc, runs)?),
+        })
     }
 
     /// The number at an index.
     pub fn get(&self, index: usize) -> Option<usize>
         ensures { result ≡ slice_get self.now index }
     {
-        if index < self.first.count {
-            return Some(self.first.value);
+        match &self.held {
+            Held::One { count, value } => (index < *count as usize).then_some(*value),
+            Held::More(runs) => value_at(runs, index),
         }
-        value_at(&self.later, index - self.first.count)
     }
 }

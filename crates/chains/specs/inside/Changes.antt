@@ -1,12 +1,12 @@
 -- What a change of a link makes of the links.
 -- Its own crate alone cites it.
-use Rattle.std.specs.Prelude.{ℕ, ◌<◌, List, Option, length, slice_set}
+use Rattle.std.specs.Prelude.{ℕ, ◌<◌, IfSome, List, Option, length, slice_set}
 use Rattle.chains.specs.declared.links.Change.{Change}
 use Rattle.chains.specs.declared.links.Change.TheVariants.{Last, Next}
 
--- the chain or the row is there
+-- the chain and the row are there
 abbrev pub IsWithin : List ℕ → List (Option ℕ) → Change → Type 0
-IsWithin next lasts (Last chain row) = chain < length lasts
+IsWithin next lasts (Last chain row) = (chain < length lasts) × IfSome row (λ r. r < length next)
 IsWithin next lasts (Next row to) = row < length next
 
 -- where the links lead then

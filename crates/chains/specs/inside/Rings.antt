@@ -13,12 +13,12 @@ after next row = slice_index_or next row 0
 abbrev pub last_in : List (Option ℕ) → ℕ → Option ℕ
 last_in lasts chain = slice_index_or lasts chain None
 
--- how often a row stands in a list
+-- how often a row is in a list
 abbrev pub times : ℕ → List ℕ → ℕ
 times row [] = 0
 times row (other ∷ rows) = (if other == row then 1 else 0) + times row rows
 
--- how often a row stands in all chains
+-- how often a row is in all chains
 abbrev pub times_in : ℕ → List (List ℕ) → ℕ
 times_in row chains = sum_by (times row) chains
 
@@ -37,8 +37,8 @@ abbrev pub IsChain : List ℕ → Option ℕ → List ℕ → Type 0
 IsChain next None rows = rows ≡ []
 IsChain next (Some last) rows = IsRing next last rows
 
--- The links hold these chains. Each row stands just once in
--- all of them and in the list of those that are loose.
+-- The links hold these chains. Each row is there exactly once,
+-- in one of them or in the list of those that are loose.
 pub record Holds (next : List ℕ) (lasts : List (Option ℕ)) (loose : List ℕ)
     (chains : List (List ℕ)) : Type 0 where
   pub size : length chains ≡ length lasts

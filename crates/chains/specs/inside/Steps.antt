@@ -5,7 +5,7 @@ use Rattle.std.specs.Prelude.{vec_capacity}
 use Rattle.chains.specs.declared.links.Links.{Links}
 use Rattle.chains.specs.inside.Rings.{last_in, Holds, IsRing}
 
--- At most so many changes more are counted. There is as
+-- At most `most` changes more are counted. There is as
 -- much room, and there are as many rows and chains.
 pub record Changes (old new : Links) (most : ℕ) : Type 0 where
   pub few : new.changed ≤ old.changed + most

@@ -10,7 +10,7 @@ use Rattle.chains.specs.Edits.{chain_in}
 use Rattle.chains.specs.ChainsView.{Shown}
 use Rattle.chains.specs.inside.Rings.{after, times, Holds}
 
--- the rows to which the links lead from a row up to the last, after so many steps at most
+-- the rows to which the links lead from a row up to the last, after `steps` steps at most
 abbrev pub rows_from : List ℕ → ℕ → ℕ → ℕ → List ℕ
 rows_from next last zero row = []
 rows_from next last (suc steps) row =
@@ -65,8 +65,8 @@ module _ {T : Type 0} where
   filled None = 0
   filled (Some value) = 1
 
-  -- The links hold these chains, and all rows stand in
-  -- them. A row has a value just where it isn't free.
+  -- The links hold these chains, and all rows are in
+  -- them. A row has a value exactly if it isn't free.
   pub record IsTable (next : List ℕ) (lasts : List (Option ℕ)) (rows : List (Option T))
       (chains : List (List ℕ)) : Type 0 where
     pub holds : Holds next lasts [] chains

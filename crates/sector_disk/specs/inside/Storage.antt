@@ -128,7 +128,7 @@ pub record IsKept (sectors : ℕ) (calls : List Call) (newest base : List ℕ) (
   pub some : 0 < sectors
   pub few : sectors ≤ 1048576
   pub table : is_table sectors (length newest) ≡ true
-  pub base_length : length base ≡ length newest
+  pub base_length : length base ≤ length newest
   pub begun_within : begun ≤ length calls
   pub synced_some : 0 < synced
   pub synced_within : synced ≤ length calls

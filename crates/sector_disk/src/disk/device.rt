@@ -15,8 +15,8 @@ use blockdev::BlockDev;
 use std::alloc::AllocError;
 
 impl SectorDisk {
-    // Makes the tables of places, where there are none yet.
-    // Where there is no memory, nothing is changed.
+    // Makes the table of newest places, and room for the one at a crash, if there are none yet.
+    // If there is no memory, nothing is changed.
     fn open_tables(&mut self) -> Result<(), AllocError>
         ensures made { OnOk result (length self.new.newest.items ≡ self.new.sectors) }
         ensures same { HasPast self.old self.new (steps_of self.old) }
@@ -25,7 +25,7 @@ impl SectorDisk {
             return Ok(());
         }
         let newest = vec![in self.alloc; 0; self.sectors as usize]?;
-        self.base = vec![in self.alloc; 0; self.sectors as usize]?;
+        self.base = Vec::with_capacity(self.alloc, self.sectors as usize)?;
         self.newest = newest;
         Ok(())
     }
@@ -42,10 +42,10 @@ impl SectorDisk {
         let count = change.sectors() as usize;
         let before = copy_places(self.alloc, &self.newest, first as usize, count)?;
         let call = Call {
-            first,
-            change,
+            first: first as u32,
             fua,
             after_flush: self.flushed,
+            change,
             before,
         };
         add_call(&mut self.calls, &mut self.newest, call, count)?;

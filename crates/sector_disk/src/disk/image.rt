@@ -25,10 +25,10 @@ fn make(alloc: Global, change: Change) -> Result<SectorDisk, AllocError>
     let mut calls = Vec::new(alloc);
     calls.push(Call {
         first: 0,
-        change,
         fua: false,
         after_flush: false,
-        before: Runs::empty(alloc),
+        change,
+        before: Runs::empty(),
     })?;
     Ok(SectorDisk {
         alloc,

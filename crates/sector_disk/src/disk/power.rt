@@ -1,6 +1,6 @@
 //! The disk loses power: `crash` leaves in each unsynced sector the candidate that its pick names.
-//! Its clauses are written in specs/; the search alone proves it.
-ghost use Rattle.std.specs.Prelude.{◌≡◌, length};
+//! Its clauses are written in specs/; its theorems in proofs/disk/power/.
+ghost use Rattle.std.specs.Prelude.{◌≡◌, ◌≤◌, length, vec_capacity};
 ghost use Rattle.sector_disk.specs.Candidates.{left_by};
 ghost use Rattle.sector_disk.specs.DiskView.{cache_of, shown_of};
 ghost use Rattle.sector_disk.specs.Sizes.{Begins};
@@ -16,6 +16,17 @@ fn copy_over(places: &[usize], copy: &mut Vec<usize>)
     copy.copy_from_slice(places);
 }
 
+// Makes a table as long as this. It has the room, so it takes no memory.
+fn widen(places: &mut Vec<usize>, count: usize)
+    requires room { count ≤ vec_capacity places.old }
+    requires few { length places.old.items ≤ count }
+    ensures { length places.new.items ≡ count }
+{
+    while places.len() < count {
+        places.push_reserved(0);
+    }
+}
+
 impl SectorDisk {
     /// Loses power. The n-th unsynced sector, in rising order, has k candidates: its durable value,
     /// and then the values that were written to it since, in order. It keeps candidate `picks[n]`
@@ -27,6 +38,8 @@ impl SectorDisk {
         ensures { Begins (shown_of self.old).size (left_by (cache_of self.old) picks.now)
             (shown_of self.new) }
     {
+        let sectors = self.newest.len();
+        widen(&mut self.base, sectors);
         choose(
             &self.calls,
             self.synced,

@@ -1,9 +1,9 @@
 -- Answers to the goals of `put_first` (src/rings.rt) that the search leaves.
-use Rattle.std.proofs.Common.{length, set, Some, None, refl, ap, sym, ◌∙◌, arith, length-set}
+use Rattle.std.proofs.Common.{length, set, Some, None, ap, sym, ◌∙◌, arith, length-set}
 use Rattle.std.proofs.lemmas.List.{get_or-set_same}
-use Rattle.chains.proofs.RingLaws.{times-same}
 use Rattle.chains.specs.inside.Rings.{after, last_in}
-use Rattle.chains.proofs.HoldsLaws.{holds-preceded, holds-begun, last-is-row, is-row, holds-same}
+use Rattle.chains.proofs.HoldsLaws.{holds-preceded, holds-begun, holds-same, last-is-row}
+use Rattle.chains.proofs.HoldsLaws.{loose-is-row}
 use Rattle.chains.proofs.rings.put_first.Goals as goal
 
 pub next-first-requires : goal.next-first-requires
@@ -12,8 +12,7 @@ next-first-requires c =
     (c.requires.same ∙ sym c.last.ensures ∙ c.in-Some.is)
 
 pub write-requires : goal.write-requires
-write-requires c = is-row c.requires.holds c.args.chain c.args.row
-    (let one = times-same c.args.row c.args.row c.requires.loose refl in omega arith)
+write-requires c = loose-is-row c.args.row c.requires.loose c.requires.holds
 
 pub write-requires-in-Some : goal.write-requires-in-Some
 write-requires-in-Some c =
@@ -24,8 +23,15 @@ write-requires-in-Some c =
     omega (arith, length-set c.args.links.now.next.items c.args.row c.next-first.result)
 
 pub write-requires-in-None : goal.write-requires-in-None
-write-requires-in-None c = is-row c.requires.holds c.args.chain c.args.row
-    (let one = times-same c.args.row c.args.row c.requires.loose refl in omega arith)
+write-requires-in-None c = loose-is-row c.args.row c.requires.loose c.requires.holds
+
+pub write-requires-in-None-2 : goal.write-requires-in-None-2
+write-requires-in-None-2 c =
+    let small = loose-is-row c.args.row c.requires.loose c.requires.holds in
+    let rows = ap length c.write-in-None.ensures.next in
+    let chains = ap length c.write-in-None.ensures.lasts in
+    let there = c.requires.there in
+    (omega arith, omega (arith, length-set c.args.links.now.next.items c.args.row c.args.row))
 
 pub returns-in-Some-clause-holds : goal.returns-in-Some-clause-holds
 returns-in-Some-clause-holds c = λ lasts loose chains h within same.

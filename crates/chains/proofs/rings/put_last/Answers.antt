@@ -1,7 +1,16 @@
 -- Answers to the goals of `put_last` (src/rings.rt) that the search leaves.
 use Rattle.std.proofs.Common.{refl, arith}
-use Rattle.chains.proofs.HoldsLaws.{holds-lengthened, holds-same}
+use Rattle.chains.proofs.HoldsLaws.{holds-lengthened, holds-same, loose-is-row}
 use Rattle.chains.proofs.rings.put_last.Goals as goal
+
+pub write-requires : goal.write-requires
+write-requires c =
+    let small = loose-is-row c.args.row c.requires.loose c.requires.holds in
+    let kept = c.put_first.ensures.changes in
+    let rows = kept.rows in
+    let chains = kept.chains in
+    let there = c.requires.there in
+    (omega arith, omega arith)
 
 pub returns-clause-holds : goal.returns-clause-holds
 returns-clause-holds c = λ loose chains h.

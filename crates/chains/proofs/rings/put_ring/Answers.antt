@@ -1,9 +1,8 @@
 -- Answers to the goals of `put_ring` (src/rings.rt) that the search leaves.
 use Rattle.std.proofs.Common.{length, set, Some, ap, sym, ◌∙◌, arith, length-set}
-use Rattle.chains.proofs.RingLaws.{times-append, last-counts}
 use Rattle.chains.specs.inside.Rings.{after}
-use Rattle.chains.proofs.HoldsLaws.{holds-embraced, holds-named, last-again, last-is-row, is-row}
-use Rattle.chains.proofs.HoldsLaws.{holds-same}
+use Rattle.chains.proofs.HoldsLaws.{holds-embraced, holds-named, holds-same, last-again}
+use Rattle.chains.proofs.HoldsLaws.{last-is-row, ring-is-row}
 use Rattle.chains.proofs.rings.put_ring.Goals as goal
 
 pub next-first-requires : goal.next-first-requires
@@ -11,10 +10,8 @@ next-first-requires c =
     last-is-row c.requires.holds c.args.chain c.in-Some.kept (sym c.last.ensures ∙ c.in-Some.is)
 
 pub next-second-requires : goal.next-second-requires
-next-second-requires c = is-row c.requires.holds c.args.chain c.args.moved (
-    let some = last-counts c.args.links.now.next.items c.args.moved c.requires.rows
-    c.requires.ring in
-    omega (arith, times-append c.args.moved c.requires.rows c.requires.loose))
+next-second-requires c =
+    ring-is-row c.args.moved c.requires.rows c.requires.loose c.requires.holds c.requires.ring
 
 pub write-requires : goal.write-requires
 write-requires c =
@@ -22,12 +19,16 @@ write-requires c =
 
 pub write-requires-in-Some : goal.write-requires-in-Some
 write-requires-in-Some c =
-    let small = is-row c.requires.holds c.args.chain c.args.moved (
-    let some = last-counts c.args.links.now.next.items c.args.moved c.requires.rows
-    c.requires.ring in
-    omega (arith, times-append c.args.moved c.requires.rows c.requires.loose)) in
+    let small =
+    ring-is-row c.args.moved c.requires.rows c.requires.loose c.requires.holds c.requires.ring in
     let e = ap length c.write.ensures.next in
     omega (arith, length-set c.args.links.now.next.items c.in-Some.kept c.next-second.result)
+
+pub write-requires-in-None : goal.write-requires-in-None
+write-requires-in-None c = (
+  c.requires.there,
+  ring-is-row c.args.moved c.requires.rows c.requires.loose c.requires.holds c.requires.ring,
+)
 
 pub returns-in-Some-clause-holds : goal.returns-in-Some-clause-holds
 returns-in-Some-clause-holds c = λ rows loose chains h ring.

@@ -1,6 +1,14 @@
 -- Answers to the goals of `Chains::rest` (src/table.rt) that the search leaves.
-use Rattle.chains.proofs.WalkLaws.{rest-made}
+use Rattle.std.proofs.Common.{Some}
+use Rattle.chains.proofs.HoldsLaws.{noted-is-row}
+use Rattle.chains.proofs.WalkLaws.{rest-made, sound-at, walk-last}
 use Rattle.chains.proofs.table.Chains.rest.Goals as goal
+
+pub write-requires : goal.write-requires
+write-requires g c =
+    let s = sound-at c.self.inside.walk (Some c.in-Some.walk) c.in-Some.is c.self.invariant in
+    let at = walk-last c.in-Some.walk s in
+    (s.walks.1, noted-is-row s.table.holds c.in-Some.walk.chain c.in-Some.walk.at at)
 
 pub invariant_of-self : goal.invariant_of-self
 invariant_of-self g c =

@@ -52,7 +52,7 @@ put_first-requires g c =
 rests : (g : given.Over) (c : goal.After-put_first g) → walked_in c.self.inside.walk ≡ None
 rests g c = rw (← c.self.view_is) at c.requires.rests
 
--- the row stands first in its chain
+-- the row is the first of its chain
 first-rest : (g : given.Over) (c : goal.After-put_first g)
     → (rest : List ℕ) × (chain_in (seen_chains c.self.inside.links c.self.inside.walk) c.args.chain
     ≡ c.in_ok-row.row ∷ rest)

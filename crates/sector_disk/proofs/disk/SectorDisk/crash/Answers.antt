@@ -1,5 +1,5 @@
 -- Answers to the goals of `SectorDisk::crash` (src/disk.rt) that the search leaves.
-use Rattle.std.proofs.Common.{ap, length, ◌∙◌}
+use Rattle.std.proofs.Common.{ap, arith, length, ◌∙◌}
 use Rattle.sector_disk.specs.inside.Storage.{is_table}
 use Rattle.sector_disk.proofs.NewPast.{begins_chosen, chosen_of, kept_chosen}
 use Rattle.sector_disk.proofs.disk.SectorDisk.crash.Goals as goal
@@ -19,6 +19,9 @@ invariant_of-self c =
     record {
       kept = kept_chosen old picks c.copy_over.new.copy.items chosen c.len-self.result choice
           table (c.copy_over.ensures ∙ c.deref-3.ensures.value) count;
+      room =
+          let size = ap length (c.copy_over.ensures ∙ c.deref-3.ensures.value) in
+          omega (arith, c.choose.new.chosen.ok);
     }
 
 pub returns : goal.returns

@@ -1,5 +1,6 @@
 -- Answers to the goals of `SectorDisk::open_tables` (src/disk.rt) that the search leaves.
-use Rattle.std.proofs.Common.{refl, sym, ◌∙◌, arith}
+use Rattle.std.proofs.Common.{ℕ, length, refl, ap, sym, ◌∙◌, arith}
+use Rattle.std.proofs.lemmas.List.{length-replicate}
 use Rattle.std.proofs.lemmas.Bool.{eqb-true}
 use Rattle.sector_disk.proofs.FieldsKept.{kept_opened, start_opened}
 use Rattle.sector_disk.proofs.disk.SectorDisk.open_tables.Goals as goal
@@ -15,7 +16,11 @@ invariant_of-self c =
           (let none = eqb-true old.newest.len 0
           (sym c.is_empty.ensures ∙ c.if-not-is_empty.false) in omega arith)
           (c.in_ok-newest.ensures.items_if_clones_equal (λ y same. same))
-          (c.in_ok-self.ensures.items_if_clones_equal (λ y same. same));
+          c.in_ok-self.ensures.items;
+      room =
+          let size = ap length (c.in_ok-newest.ensures.items_if_clones_equal (λ y same. same)) in
+          let exact = c.in_ok-self.ensures.exact in
+          omega (arith, length-replicate {A = ℕ} old.sectors 0);
     }
 
 pub returns-clause-same : goal.returns-clause-same
@@ -23,11 +28,10 @@ returns-clause-same c =
     let old = c.args.self.now in
     record {
       sectors = refl;
-      start = sym (start_opened old.sectors old.calls.items old.base.items
-          c.in_ok-self.field-0.items
-          (old.kept.base_length
-          ∙ (let none = eqb-true old.newest.len 0
-          (sym c.is_empty.ensures ∙ c.if-not-is_empty.false) in omega arith))
-          (c.in_ok-self.ensures.items_if_clones_equal (λ y same. same)));
+      start = sym (start_opened old.calls.items old.base.items c.in_ok-self.field-0.items
+          (let none = eqb-true old.newest.len 0
+          (sym c.is_empty.ensures ∙ c.if-not-is_empty.false) in
+          let few = old.kept.base_length in omega arith)
+          c.in_ok-self.ensures.items);
       past = refl;
     }

@@ -1,5 +1,5 @@
 -- Answers to the goals of `SectorDisk::put` (src/disk.rt) that the search leaves.
-use Rattle.std.proofs.Common.{ap, drop, List, refl, take, ◌∷◌, ◌∙◌}
+use Rattle.std.proofs.Common.{ap, arith, drop, List, refl, take, ◌∷◌, ◌∙◌}
 use Rattle.sector_disk.specs.Candidates.{Puts, Step}
 use Rattle.sector_disk.specs.inside.Storage.{change_values}
 use Rattle.sector_disk.proofs.FieldsKept.{kept_added, past_added, start_added}
@@ -18,6 +18,7 @@ invariant_of-self-2 c =
           c.add_call.new.newest.items old.base.items
           old.begun old.synced c.sectors-count.result old.flushed _ done.calls old.kept
           c.in_ok-open_tables.ensures.made refl c.sectors-count.ensures before done.newest;
+      room = let size = done.newest.size in let room = old.room in omega arith;
     }
 
 pub returns-clause-ok : goal.returns-clause-ok

@@ -53,10 +53,9 @@ pub returns : goal.returns
 returns c =
     let inside = c.self.inside in
     let bytes = inside.bytes.items in
-    let view : bytes ++ replicate (inside.count - length bytes) inside.fill ≡ c.args.self.now =
-    c.self.view_is in
+    let view : bytes ++ replicate inside.more inside.fill ≡ c.args.self.now = c.self.view_is in
     let size = simp (length-append, length-replicate) at (ap length view) in
-    let parts = part bytes (inside.count - length bytes) inside.fill c.args.from
+    let parts = part bytes inside.more inside.fill c.args.from
     (length c.args.buffer.now) c.min-from.result c.min-held.result
     (omega arith) (omega arith) (omega arith) in
     let held : c.min-from.result + c.min-held.result - c.min-from.result ≡ c.min-held.result =

@@ -14,6 +14,7 @@ invariant_of-self c =
           kept_synced old.sectors old.calls.items old.newest.items old.base.items old.begun
           old.synced c.len-self.result old.flushed old.kept
           (c.len-self.ensures ∙ old.calls.ok.0);
+      room = old.room;
     }
 
 pub returns-clause-goes : goal.returns-clause-goes

@@ -1,11 +1,11 @@
--- Answers to the goals of `Runs::from_slice` (src/runs.rt) that the search leaves.
+-- Answers to the goals of `runs_of` (src/runs.rt) that the search leaves.
 use Rattle.std.proofs.Common.{◌≡◌, ℕ, ◌-◌, ◌≤◌, List, [], ◌∷◌, ◌++◌, ◌∙◌, ap, append_assoc, arith}
 use Rattle.std.proofs.Common.{drop, length, length-drop, replicate, sym, take}
 use Rattle.std.proofs.lemmas.Grind.{common_steps}
 use Rattle.std.proofs.lemmas.List.{take_all}
 use Rattle.sector_disk.specs.declared.runs.Run.{Run}
 use Rattle.sector_disk.specs.inside.Runs.{unrolled}
-use Rattle.sector_disk.proofs.runs.Runs.from_slice.Goals as goal
+use Rattle.sector_disk.proofs.runs.runs_of.Goals as goal
 
 -- the values of runs, and of one more
 unrolled-more : (runs : List Run) (run : Run)
@@ -16,12 +16,12 @@ unrolled-more (x ∷ xs) run =
     ∙ sym (append_assoc (replicate x.count x.value) (unrolled xs) (replicate run.count run.value))
 
 -- the first run of the rest goes to the runs
-more : (front all rest : List ℕ) (runs new : List Run) (run : Run) (n : ℕ)
+more : (all rest : List ℕ) (runs new : List Run) (run : Run) (n : ℕ)
     → length rest - run.count ≤ n → new ≡ runs ++ run ∷ []
     → rest ≡ replicate run.count run.value ++ drop run.count rest
-    → front ++ (unrolled runs ++ rest) ≡ all
-    → front ++ (unrolled new ++ take n (drop run.count rest)) ≡ all
-more front all rest runs new run n enough pushed split earlier =
+    → unrolled runs ++ rest ≡ all
+    → unrolled new ++ take n (drop run.count rest) ≡ all
+more all rest runs new run n enough pushed split earlier =
     let whole = take_all n (drop run.count rest) (omega (arith, length-drop run.count rest)) in
     let last = unrolled-more runs run in
     let joined =
@@ -30,7 +30,6 @@ more front all rest runs new run n enough pushed split earlier =
 
 pub loop-rest-preserved : goal.loop-rest-preserved
 loop-rest-preserved c =
-    more (replicate c.first_run-first.result.count c.first_run-first.result.value)
-    c.args.values.now c.loop-rest.rest.now c.loop-rest.later.items c.push.new.self.items
+    more c.args.values.now c.loop-rest.rest.now c.loop-rest.runs.items c.push.new.self.items
     c.first_run-run.result _ (omega arith) c.in_ok-push.ensures.items c.first_run-run.ensures.run
     c.loop-rest.invariant

@@ -1,0 +1,7 @@
+-- How one word holds a chain's last row.
+-- Its own crate alone cites it.
+use Rattle.std.specs.Prelude.{ℕ, ◌==◌, Option, Some, None, if◌then◌else◌}
+
+-- the row of this number; the greatest number that a word holds means none
+abbrev pub row_in : ℕ → Option ℕ
+row_in word = if word == 18446744073709551615 then None else Some word

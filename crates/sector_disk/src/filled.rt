@@ -50,7 +50,9 @@ pub(crate) fn count_before(bytes: &[u8], fill: u8) -> usize
     ensures filled { drop result bytes.now ≡ replicate (length bytes.now - result) fill }
 {
     let end = without_groups::<512>(bytes, bytes.len(), fill);
+    let end = without_groups::<128>(bytes, end, fill);
     let end = without_groups::<32>(bytes, end, fill);
+    let end = without_groups::<8>(bytes, end, fill);
     without_groups::<1>(bytes, end, fill)
 }
 

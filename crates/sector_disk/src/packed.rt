@@ -11,8 +11,8 @@ use std::marker::Model;
 // How many bytes a bound takes.
 const BOUND: usize = 4;
 
-/// The bytes of up to 128 whole sectors. Bytes at a sector's end that are all the same take the
-/// memory of one.
+/// The bytes of up to 128 whole sectors. The bytes at a sector's end that are all the same take the
+/// memory of one byte.
 #[derive(Debug, Drop)]
 pub struct PackedSectors {
     // For each sector in turn, its bytes up to the first of those at its end that are all the same.
@@ -134,7 +134,7 @@ impl PackedSectors {
         refill(part, buffer);
     }
 
-    /// Appends the bytes to a vector. If there is no memory, a beginning of them may be appended.
+    /// Appends the bytes to a vector. If there is no memory, a prefix of them may be appended.
     ///
     /// # Errors
     ///

@@ -14,8 +14,8 @@ enum Held {
     Packed(PackedSectors),
 }
 
-/// A list of up to 65,536 bytes. The bytes at its end take no memory if they are all the same; or,
-/// if that takes at most half of the memory, those at the end of each of its sectors take that of one.
+/// A list of up to 65,536 bytes, held without the bytes at its end that are all the same. If that
+/// takes at most half of the memory, each of its sectors is held so.
 #[derive(Debug, Drop)]
 pub struct Piece {
     held: Held,
@@ -63,7 +63,7 @@ impl Piece {
         }
     }
 
-    /// Appends the bytes to a vector. If there is no memory, a beginning of them may be appended.
+    /// Appends the bytes to a vector. If there is no memory, a prefix of them may be appended.
     ///
     /// # Errors
     ///

@@ -25,8 +25,8 @@ fn read_piece(pieces: &[Piece], from: usize, buffer: &mut [u8])
 }
 
 /// A list of bytes, as the image of a disk, held in pieces of 65,536 bytes, the last of which may
-/// have fewer. Bytes at a piece's end that are all the same take no memory; or, if that takes less,
-/// those at the end of each of its sectors take the memory of one byte.
+/// have fewer. A piece, or each sector of it if that takes at most half of the memory, is held
+/// without the bytes at its end that are all the same.
 #[derive(Debug, Drop)]
 pub struct Image {
     pieces: Vec<Piece>,

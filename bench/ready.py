@@ -4,14 +4,14 @@
   bench/ready.py [--count]
         Says which files `rt fmt` would change (the gate refuses their crate whole), which edits, of must-fail/ and of planted.txt, name a text that isn't once in its
         file, which edits have no entry in their crate's planted.txt, and if docs/lab/PLANTED.md has other counts than there are. --count writes the counts.
-        Says also where docs/HEADLINE.md isn't what bench/headline.py writes, which places the documents cite that aren't there, which files have no head
-        or one that isn't true (bench/heads.py), and where release/ is there and isn't of the tree at hand (bench/release.py).
+        Says also where docs/HEADLINE.md isn't what bench/headline.py writes, which places the documents cite that aren't there, which files have no head, which cite what
+        another crate has in proofs/ or specs/inside/, and if release/ is there and isn't of the tree at hand (bench/release.py).
 
 The repository's files stay as they are, but for the counts. It needs the kit's `rt` on the PATH.
 """
 import glob, os, re, shutil, subprocess, sys, tempfile
 
-import heads, planted, release
+import planted, release
 
 root = os.path.dirname(os.path.dirname(os.path.abspath(__file__)))
 
@@ -65,6 +65,20 @@ def cited():
                 yield f"{os.path.relpath(page, root)}: {bare} isn't there"
 
 
+def sources_off():
+    """Files without a head, and citations of what another crate keeps to itself."""
+    crates = set(os.listdir(f"{root}/crates"))
+    for crate in sorted(crates):
+        places = (f"{root}/crates/{crate}/{it}" for it in ("specs/**/*.antt", "proofs/**/*.antt", "src/**/*.rt"))
+        for file in sorted(it for place in places for it in glob.glob(place, recursive=True)):
+            text = text_of(file)
+            if not text.startswith(("--", "//")) and os.path.basename(file) not in ("Answers.antt", "Invariants.antt"):
+                yield f"{os.path.relpath(file, root)}: it has no head"
+            for name, place in re.findall(r"Rattle\.([a-z_]+)\.(proofs|specs\.inside)\b", text):
+                if name in crates - {crate} and not crate.endswith("_tests"):
+                    yield f"{os.path.relpath(file, root)}: cites {place} of {name}"
+
+
 def headline_off():
     said = subprocess.run([sys.executable, f"{root}/bench/headline.py", "--check"], stdout=subprocess.PIPE, text=True).stdout
     return said.split("\n")[:-1]
@@ -76,7 +90,7 @@ def main():
     kept = [(edit.split("/")[-3], os.path.basename(edit)[:-5], text_of(edit).split("\n")) for edit in sorted(glob.glob(f"{root}/crates/*/must-fail/*.edit"))]
     more = [(crate, planted.slug_of(name), edit) for crate in crates for name, _, edit in bugs[crate] if edit]
     page = text_of(f"{root}/docs/lab/PLANTED.md")
-    found = [*not_laid_out(), *edits_off(kept + more), *cited(), *headline_off(), *heads.off(), *release.off()]
+    found = [*not_laid_out(), *edits_off(kept + more), *cited(), *headline_off(), *sources_off(), *release.off()]
     for crate, name, _ in kept:
         if not any(planted.slug_of(bug) == name for bug, _, _ in bugs[crate]):
             found.append(f"crates/{crate}/must-fail/{name}.edit: no entry in planted.txt")

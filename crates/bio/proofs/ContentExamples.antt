@@ -1,6 +1,5 @@
 -- The definitions of `Content` on examples: what a write and a discard put, and what they leave.
 -- Each is proved by evaluation alone; nothing cites them.
--- Nothing cites it: it is checked with its crate.
 use Rattle.std.proofs.Common.{◌≡◌, ℕ, Some, None, List, [], ◌∷◌, ◌++◌, replicate, refl}
 use Rattle.bio.specs.Content.{Content, discards, gather, moved, over, put, sector_of, writes}
 

@@ -1,6 +1,5 @@
 -- Worked examples, by computation: which sectors requests cover, which overlap, what `check`
 -- answers, and which event lists are well formed or lawful.
--- Nothing cites it: it is checked with its crate.
 use Rattle.std.proofs.Common.{◌≡◌, true, false, None, Some, [], ◌∷◌, Ok, Err, refl, replicate}
 use Rattle.bio.specs.declared.event.CoreEvent.TheVariants.{Submit, Complete, Mark, Stop, Close}
 use Rattle.refusals.specs.declared.end.End.TheVariants as ends

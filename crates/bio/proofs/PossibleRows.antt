@@ -1,5 +1,4 @@
 -- Which requests are durable and which are replaced, by computation.
--- Nothing cites it: it is checked with its crate.
 use Rattle.std.proofs.Common.{◌≡◌, ℕ, zero, suc, Bool, true, false, None, Some, List, [], ◌∷◌}
 use Rattle.std.proofs.Common.{get_or, slice_get, refl, replicate, ap, inl, inr, arith}
 use Rattle.std.specs.Prelude.{◌==◌, if◌then◌else◌, unwrap_or}

@@ -1,6 +1,5 @@
 -- Whether a request may be sent to a device of so many sectors, and else the first reason against
 -- it: what `check` and `check_sized` answer.
--- Any crate above may cite it.
 use Rattle.std.specs.Prelude.{ℕ, ◌+◌, ◌/◌, ◌%◌, ◌==◌, length, Bool, Result, Ok, Err, nat_lt}
 use Rattle.std.specs.Prelude.{if◌then◌else◌}
 use Rattle.bio.specs.declared.request.Bio.{Bio}

@@ -1,6 +1,5 @@
 -- What a device has in each sector, and the values that a write or a discard puts there.
 -- The law of block devices and the replay of logs are said in these words.
--- Any crate above may cite it.
 use Rattle.std.specs.Prelude.{◌≡◌, ℕ, ◌+◌, ◌-◌, ◌*◌, ◌/◌, ◌<◌, ◌≤◌, ◌&&◌, nat_le, nat_lt, Option}
 use Rattle.std.specs.Prelude.{Some, None, unwrap_or, List, length, take, drop, replicate, ◌⊎◌}
 use Rattle.std.specs.Prelude.{if◌then◌else◌}

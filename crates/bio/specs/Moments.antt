@@ -1,6 +1,5 @@
 -- What `Ms::later_by` answers: a later moment, but never one past 2^64 - 1. Layers
 -- that delay cite it.
--- Any crate above may cite it.
 use Rattle.std.specs.Prelude.{ℕ, ◌+◌, ◌-◌, ◌^◌, min}
 
 -- the moment that comes so much later, and the last moment where that is past it

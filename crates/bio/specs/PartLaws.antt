@@ -1,5 +1,4 @@
 -- Parts of a call's values: what they leave, one after another.
--- Any crate above may cite it.
 use Rattle.std.proofs.Common.{◌≡◌, ℕ, ◌+◌, ◌-◌, ◌*◌, ◌/◌, ◌<◌, ◌≤◌, true, false, ◌&&◌, Option, Some}
 use Rattle.std.proofs.Common.{None, List, length, take, drop, replicate, refl, ap, sym, ◌∙◌, inl}
 use Rattle.std.proofs.Common.{inr, arith}

@@ -1,6 +1,5 @@
 -- Tests and lists over the places below a number: the first that passes, all, any, and a join.
 -- `Content` gathers sectors with `collect`; the laws of these words are in `PlaceLaws`.
--- Any crate above may cite it.
 use Rattle.std.specs.Prelude.{ℕ, zero, suc, Bool, true, false, ◌&&◌, ◌||◌, Option, Some, None, List}
 use Rattle.std.specs.Prelude.{[], ◌++◌}
 

@@ -1,6 +1,5 @@
 -- What a device that was sent these requests could hold,
 -- had power failed after the last of the events.
--- Any crate above may cite it.
 use Rattle.std.specs.Prelude.{◌≡◌, ◌⊎◌, ℕ, Bool, false, ◌&&◌, ◌||◌, Option, Some, None, List}
 use Rattle.std.specs.Prelude.{length, slice_get}
 use Rattle.bio.specs.Places.{any_below}

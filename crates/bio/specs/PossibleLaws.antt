@@ -1,5 +1,4 @@
 -- Which sectors a request has values for: just those that it covers.
--- Any crate above may cite it.
 use Rattle.std.proofs.Common.{◌≡◌, ℕ, ◌-◌, true, false, Option, Some, None, List, replicate, refl}
 use Rattle.std.proofs.Common.{ap, sym, ◌∙◌, inl, inr, arith}
 use Rattle.std.specs.Prelude.{if◌then◌else◌}

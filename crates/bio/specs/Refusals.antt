@@ -1,6 +1,5 @@
 -- The refusals that device errors and bad requests are shown by.
 -- The conversions to `Refusal` in `outcome` and `request` give these.
--- Any crate above may cite it.
 use Rattle.refusals.specs.declared.refusal.Refusal.{Refusal}
 use Rattle.refusals.specs.declared.refusal.Refusal.TheVariants as refusals
 use Rattle.bio.specs.declared.outcome.DevError.{DevError}

@@ -1,6 +1,5 @@
 -- What a request is to the rest: which sectors it covers, whether it flushes, has
 -- FUA, is aligned, and whether two overlap.
--- Any crate above may cite it.
 use Rattle.std.specs.Prelude.{ℕ, ◌+◌, ◌/◌, ◌%◌, ◌==◌, Bool, true, false, ◌&&◌, length, nat_lt}
 use Rattle.std.specs.Prelude.{nat_le}
 use Rattle.bio.specs.declared.request.Bio.{Bio}

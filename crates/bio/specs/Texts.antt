@@ -1,5 +1,4 @@
 -- What a user reads of a status.
--- Any crate above may cite it.
 use Rattle.std.specs.Prelude.{ℕ, List, [], ◌++◌, Option, Some, None, codes}
 use Rattle.std.specs.Fmt.{decimal}
 use Rattle.refusals.specs.declared.end.End.{End}

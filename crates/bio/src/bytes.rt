@@ -1,5 +1,4 @@
 //! The data of a request and the text of a mark: bytes that clones can share.
-//! Its clauses are written in specs/inside/Storage; the search alone proves it.
 ghost use Rattle.std.specs.Prelude.{◌≡◌, ◌==◌, IfOk, length, take};
 ghost use Rattle.bio.specs.inside.Storage.{stored};
 

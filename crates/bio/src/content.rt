@@ -1,6 +1,5 @@
 //! Sectors of 512 bytes, and laws of what a device has in each of them. A law's function does
 //! nothing, and its clause is the law: it says what a write and a discard leave in each sector.
-//! Its clauses are written in specs/Content; its theorems in proofs/content/.
 ghost use Rattle.std.specs.Prelude.{◌≡◌, ◌⊎◌, ◌+◌, ◌-◌, ◌/◌, ◌<◌, ◌≤◌, List, None, Some, length};
 ghost use Rattle.std.specs.Prelude.{replicate, ℕ};
 ghost use Rattle.bio.specs.Content.{Content, HasBytes, HasWholeSectors, HasWholeValues, Patch};

@@ -1,6 +1,5 @@
 //! What the definitions in `specs/` come to, in plain words: covered sectors,
 //! overlaps, order of ends, and lawful event lists.
-//! Its clauses are written in specs/; its theorems in proofs/laws/.
 ghost use Rattle.std.specs.Prelude.{◌≡◌, ◌≢◌, ◌↔◌, ◌+◌, ◌/◌, ◌<◌, ◌≤◌, Bool, EachIndex, IsTrue};
 ghost use Rattle.std.specs.Prelude.{List, Ok, Some, false, length, slice_index, ℕ};
 ghost use Rattle.bio.specs.declared.event.CoreEvent.{CoreEvent};

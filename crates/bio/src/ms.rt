@@ -1,5 +1,4 @@
 //! A moment in milliseconds: device calls are given one and answer one, and layers delay by some.
-//! Its clauses are written in specs/Moments; the search alone proves it.
 ghost use Rattle.std.specs.Prelude.{◌≡◌, ℕ};
 ghost use Rattle.bio.specs.Moments.{later_by};
 

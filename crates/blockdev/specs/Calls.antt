@@ -1,6 +1,5 @@
 -- The calls of a block device, and the ranges of sectors that they may name.
 -- `BlockDev` takes them in its contracts (src/device), and each layer says by them what it does.
--- Any crate above may cite it.
 use Rattle.std.specs.Prelude.{◌≡◌, ℕ, ◌+◌, ◌/◌, ◌%◌, ◌<◌, ◌≤◌, Bool, List}
 
 -- A call of a device. A read says what its buffer held before it and holds after it.

@@ -1,5 +1,4 @@
 -- What the law comes to in the subject's words.
--- Any crate above may cite it.
 use Rattle.std.proofs.Common.{ℕ, ◌+◌, true, List, refl, ◌∙◌, inl, inr, arith}
 use Rattle.std.specs.Prelude.{Bool}
 use Rattle.bio.specs.Content.{Content, HasBytes, Patch, nothing, writes}

@@ -1,5 +1,4 @@
 -- Calls of a device, one after another.
--- Any crate above may cite it.
 use Rattle.std.specs.Prelude.{◌≡◌, ◌⊎◌, ℕ, List, [], ◌∷◌, Result, Ok, Err}
 use Rattle.bio.specs.declared.outcome.DevError.{DevError}
 use Rattle.blockdev.specs.Calls.{Call}

@@ -1,5 +1,4 @@
 -- What several calls come to, of which each does a part of one whole call.
--- Any crate above may cite it.
 use Rattle.std.proofs.Common.{◌≡◌, ℕ, ◌≤◌, Bool, None, refl, sym, ◌∙◌, inl, inr, arith}
 use Rattle.bio.specs.Content.{Content, HasNoneBelow, HasWholeSectors, Patch, nothing}
 use Rattle.bio.specs.ContentLaws.{patched-same, put-none}

@@ -1,5 +1,4 @@
 -- What a message may change, and what it is refused by.
--- Any crate above may cite it.
 use Rattle.std.proofs.Common.{◌≡◌, ℕ, refl, ◌∙◌}
 use Rattle.refusals.specs.declared.refusal.Refusal.{Refusal}
 use Rattle.refusals.specs.declared.refusal.Refusal.TheVariants as refusals

@@ -1,5 +1,4 @@
 -- A device over another one, with faults and lies of its own beside the lower one's.
--- Any crate above may cite it.
 use Rattle.std.proofs.Common.{◌≡◌, ℕ, ◌+◌, ◌<◌, ◌≤◌, Bool, false, Err, ap, ◌∙◌, inl, inr, arith}
 use Rattle.std.proofs.lemmas.Bool.{cases_lt, or_parts}
 use Rattle.std.specs.Prelude.{◌⊎◌, ◌||◌, Result, min}

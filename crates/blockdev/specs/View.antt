@@ -1,6 +1,5 @@
 -- What contracts see of a block device: its content, what a crash may leave, faults and lies.
 -- `Law` says how a call changes it; `IsLawful` is what each `BlockDev` owes at all times.
--- Any crate above may cite it.
 use Rattle.std.specs.Prelude.{ℕ, Bool, ◌-◌, ◌<◌, ◌≤◌, ◌^◌}
 use Rattle.bio.specs.Content.{Content, HasWholeSectors}
 

@@ -1,6 +1,5 @@
 //! The trait `BlockDev`: sectors that are read, written, discarded and flushed, under contracts.
 //! Disks, layers and stacks implement it; recorders, readers and replays call devices by it alone.
-//! Its clauses are written in specs/Calls, specs/Law and specs/View; the search alone proves it.
 ghost use Rattle.std.specs.Prelude.{◌≡◌, ◌/◌, OnOk, Result, false, length, ℕ};
 ghost use Rattle.bio.specs.declared.outcome.DevError.{DevError};
 ghost use Rattle.blockdev.specs.Calls.{Call, Discards, Flushes, IsByteRange, IsRange, Reads};

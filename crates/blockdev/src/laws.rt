@@ -1,6 +1,5 @@
 //! Laws of block devices, apart from the code: each function does nothing, its clause is the law.
 //! They say what a crash leaves of flushed and FUA writes, and of a call that it cuts.
-//! Its clauses are written in specs/Law; its theorems in proofs/laws/.
 ghost use Rattle.std.specs.Prelude.{◌≡◌, ◌<◌, ◌≤◌, Bool, List, None, true, ℕ};
 ghost use Rattle.blockdev.specs.Law.{DeviceFrame, IsTorn, WriteDone, FlushDone};
 ghost use Rattle.bio.specs.Content.{Content, HasBytes, HasWholeSectors, Patch, nothing, writes};

@@ -1,6 +1,5 @@
 //! Messages to a layer of a device, and why one is refused, which a script's run shows.
 //! A layer with bad blocks obeys them; a stack of layers hands each to the layer of its number.
-//! Its clauses are written in specs/Messages; the search alone proves it.
 ghost use Rattle.std.specs.Prelude.{◌≡◌, List, Result, ℕ};
 ghost use Rattle.blockdev.specs.Messages.{Unchanged, message_refusal};
 

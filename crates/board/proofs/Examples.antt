@@ -1,5 +1,4 @@
 -- Statuses that may follow one another, and some that may not; and what they are as numbers.
--- Nothing cites it: it is checked with its crate.
 use Rattle.std.proofs.Common.{◌≡◌, Bool, true, false, true≢false, List, [], ◌∷◌, Some, None, refl}
 use Rattle.std.proofs.Common.{ap, arith, ◌==◌}
 use Rattle.refusals.specs.declared.end.End.TheVariants.{Full, Device, Memory}

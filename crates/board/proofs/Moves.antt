@@ -1,5 +1,4 @@
 -- Each step keeps the rule of a board.
--- Its own crate alone cites it, for the theorems of src/lib.rt.
 use Rattle.std.proofs.Common.{◌≡◌, ◌≢◌, ℕ, zero, suc, List, [], ◌∷◌, ◌++◌, set, true, false}
 use Rattle.std.proofs.Common.{true≢false, refl, sym, ap, ◌∙◌, subst, ⊎_elim}
 use Rattle.std.specs.Prelude.{slice_set, slice_index}

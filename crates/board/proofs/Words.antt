@@ -1,5 +1,4 @@
 -- A status and its number stand for each other.
--- Its own crate alone cites it, for the theorems of src/lib.rt.
 use Rattle.std.proofs.Common.{◌≡◌, ℕ, ◌+◌, ◌*◌, ◌≤◌, Option, Some, None, refl, arith}
 use Rattle.refusals.specs.declared.end.End.{End}
 use Rattle.refusals.specs.declared.end.End.TheVariants as ends

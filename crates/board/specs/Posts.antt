@@ -1,5 +1,4 @@
 -- Statuses that are posted one after another, and how one of them is a single number.
--- Any crate above may cite it.
 use Rattle.std.specs.Prelude.{◌≡◌, ℕ, ◌+◌, ◌*◌, ◌≤◌, List, [], ◌∷◌, ◌++◌, Option, Some, None}
 use Rattle.std.specs.Prelude.{slice_get}
 use Rattle.refusals.specs.declared.end.End.{End}

@@ -1,5 +1,4 @@
 // The rule over the passes of a board's writer and readers, and the steps that they take under it.
-// Its clauses are written in specs/Posts and specs/Rules; the search alone proves it.
 
 use atomic_table::{Join, Play, Split, Table, TableRule};
 use bio::Status;

@@ -1,6 +1,5 @@
 // A status as one number: the entries from bit 26 on, the
 // sector from bit 5 on, and below it why logging ended.
-// Its clauses are written in specs/Posts; the search alone proves it.
 ghost use Rattle.std.specs.Prelude.{◌≡◌, ◌≤◌, Option};
 ghost use Rattle.refusals.specs.declared.end.End.{End};
 ghost use Rattle.bio.specs.declared.outcome.Status.{Status as Said};

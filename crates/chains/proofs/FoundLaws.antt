@@ -1,5 +1,4 @@
 -- The chains that links hold are just those that are found by following them.
--- Its own crate alone cites it, for the theorems of src/iter.rt, src/rows.rt and src/table.rt.
 use Rattle.std.proofs.Common.{◌≡◌, ◌≢◌, ℕ, zero, suc, ◌<◌, ◌≤◌, List, [], ◌∷◌, length, Option, Some}
 use Rattle.std.proofs.Common.{None, refl, ap, sym, ◌∙◌, arith, cond}
 use Rattle.std.proofs.lemmas.Bool.{eq-eqb, ne_eqb}

@@ -1,5 +1,4 @@
 -- What each way to write links makes of the chains that they hold.
--- Its own crate alone cites it, for theorems of many of its files.
 use Rattle.std.proofs.lemmas.List.Sums.{sum_by_push}
 use Rattle.std.proofs.Common.{zero, suc, get_or, ◌≡◌, ◌≢◌, ℕ, ◌+◌, ◌<◌, ◌≤◌, List, [], ◌∷◌, ◌++◌}
 use Rattle.std.proofs.Common.{length, set, drop, Option, Some, None, refl, ap, sym, ◌∙◌, subst, inl}

@@ -1,5 +1,4 @@
 -- Laws of lists of lists: what is in a chain after a write, and sums over all chains.
--- Its own crate alone cites it, for theorems of many of its files.
 use Rattle.std.proofs.Common.{◌≡◌, ◌≢◌, ℕ, zero, suc, ◌+◌, ◌<◌, ◌≤◌, List, [], ◌∷◌, length, get_or}
 use Rattle.std.proofs.Common.{set, refl, ap, inl, inr, arith}
 use Rattle.std.proofs.lemmas.Bool.{cases_lt}

@@ -1,5 +1,4 @@
 -- A row is taken out of the table, or put in: one row is loose between.
--- Its own crate alone cites it, for the theorems of src/iter.rt, src/rows.rt and src/table.rt.
 use Rattle.std.proofs.Common.{◌≡◌, ℕ, ◌<◌, List, [], ◌∷◌, ◌++◌, length, map, set, drop, Option}
 use Rattle.std.proofs.Common.{Some, None, refl, ap, sym, ◌∙◌, subst, inl, inr, arith, length-append}
 use Rattle.std.proofs.Common.{length-set}

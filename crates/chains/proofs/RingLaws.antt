@@ -1,5 +1,4 @@
 -- Laws of rows in lists and of the links that lead over them.
--- Its own crate alone cites it, for theorems of many of its files.
 use Rattle.std.proofs.Common.{◌≡◌, ◌≢◌, ℕ, ◌+◌, ◌<◌, ◌≤◌, List, [], ◌∷◌, ◌++◌, set, Option, Some}
 use Rattle.std.proofs.Common.{None, refl, ap, sym, ◌∙◌, subst, arith, length-append, cond}
 use Rattle.std.proofs.lemmas.Bool.{eq-eqb, ne_eqb}

@@ -1,5 +1,4 @@
 -- What the calls make of the table.
--- Its own crate alone cites it, for the theorems of src/rows.rt and src/table.rt.
 use Rattle.std.proofs.Common.{◌≡◌, ℕ, ◌<◌, List, [], length, set, Option, Some, None, refl, ap, sym}
 use Rattle.std.proofs.Common.{◌∙◌, subst, arith, length-append, ◌++◌, ◌∷◌}
 use Rattle.std.proofs.lemmas.List.{set-append_left}

@@ -1,5 +1,4 @@
 -- The values in the rows of chains.
--- Its own crate alone cites it, for the theorems of src/iter.rt, src/rows.rt and src/table.rt.
 use Rattle.std.proofs.Common.{◌≡◌, ◌≢◌, ℕ, zero, suc, ◌<◌, List, [], ◌∷◌, ◌++◌, length, map, set}
 use Rattle.std.proofs.Common.{Option, Some, None, refl, ap, sym, ◌∙◌, arith}
 use Rattle.std.proofs.lemmas.List.{get_or-set_other, get_or_append_left, map-set}

@@ -1,5 +1,4 @@
 -- What chains end as, where a `&mut` to one of their values is returned.
--- Any crate above may cite it.
 use Rattle.std.specs.Prelude.{ℕ}
 use Rattle.std.specs.Borrow.{Fml, Lends, MutBor, RattleType}
 use Rattle.chains.specs.Edits.{with_first}

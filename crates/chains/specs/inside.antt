@@ -1,5 +1,4 @@
 -- The definitions of `chains` that its proofs alone use: no other crate cites them.
--- Any crate above may cite it.
 pub mod Rings
 pub mod Changes
 pub mod Steps

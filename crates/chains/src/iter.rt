@@ -1,5 +1,4 @@
 //! The values of one chain, in order.
-//! Its clauses are written in specs/Edits and specs/inside/Looks; its theorems in proofs/iter/.
 ghost use Rattle.std.specs.Prelude.{◌≡◌, ◌==◌, ◌<◌, None, Some, length, if◌then◌else◌};
 ghost use Rattle.std.specs.Iterator.{YieldsFirstRef, item_count};
 ghost use Rattle.chains.specs.Edits.{chain_in};

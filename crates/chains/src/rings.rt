@@ -1,6 +1,5 @@
 //! What is done with chains as rings of links: a row is taken out or put in, and two chains are
 //! made one, by a few changes each.
-//! Its clauses are written in specs/; its theorems in proofs/rings/.
 ghost use Rattle.std.specs.Prelude.{◌≡◌, ◌≢◌, ℕ, ◌+◌, ◌<◌, None, Some, Option, List, ◌∷◌};
 ghost use Rattle.std.specs.Prelude.{◌++◌, length, slice_set, IfSome};
 ghost use Rattle.chains.specs.Edits.{chain_in, fronted, joined, lengthened, preceded, shortened};

@@ -1,5 +1,4 @@
 //! The rows of a table: one is got for a value, and a value is put into it or taken out.
-//! Its clauses are written in specs/Edits and specs/inside/Tables; its theorems in proofs/rows/.
 ghost use Rattle.std.specs.Prelude.{◌≡◌, ℕ, IsSome, ◌+◌, ◌-◌, ◌<◌, ◌≤◌, None, Some, List, length};
 ghost use Rattle.std.specs.Prelude.{map, max, slice_set, vec_capacity};
 ghost use Rattle.std.specs.Borrow.{Lends, sem};

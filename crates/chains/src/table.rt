@@ -1,5 +1,4 @@
 //! Chains of values, and the calls that change them.
-//! Its clauses are written in specs/; its theorems in proofs/table/.
 ghost use Rattle.std.specs.Prelude.{◌≡◌, ◌≢◌, ◌+◌, ◌<◌, ◌≤◌, ◌==◌, None, Some, Option, []};
 ghost use Rattle.std.specs.Prelude.{◌∷◌, ◌++◌, length, replicate, max, IfOk, IsOk, OnOk, OnErr};
 ghost use Rattle.std.specs.Prelude.{OnSome, slice_get};

@@ -1,5 +1,4 @@
 //! A walk over one chain.
-//! Its clauses are written in specs/; its theorems in proofs/walk/.
 ghost use Rattle.std.specs.Prelude.{◌≡◌, ℕ, ◌<◌, IsSome, Some, length};
 ghost use Rattle.chains.specs.inside.Rings.{after, last_in};
 ghost use Rattle.chains.specs.inside.Steps.{IsKept};

@@ -1,5 +1,4 @@
 -- What a chain of calls makes of a command, as clap reads it.
--- Its own crate alone cites it, for the theorems of src/program.rt.
 use Rattle.std.proofs.Common.{◌≡◌, ◌∙◌, Result, Ok, Err, IfOk, ap, false, refl}
 use Rattle.clap.specs.declared.builder.arg.Arg.{Arg}
 use Rattle.clap.specs.declared.builder.command.Command.{Command}

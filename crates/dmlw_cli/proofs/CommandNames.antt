@@ -1,5 +1,4 @@
 -- The names of commands are told apart.
--- Its own crate alone cites it, for the theorems of src/command_line.rt and src/laws.rt.
 use Rattle.std.proofs.Common.{◌≡◌, ◌∙◌, ℕ, Bool, true, false, List, Option, Some, ap, cond, refl}
 use Rattle.std.proofs.Common.{subst, sym}
 use Rattle.std.specs.Cmp.Lexicographic.{same_text}

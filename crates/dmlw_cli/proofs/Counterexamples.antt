@@ -1,6 +1,5 @@
 -- For each definition of what a command line asks for, what breaks it, and is refused by it, and
 -- what holds.
--- Its own crate alone cites it.
 use Rattle.std.proofs.Common.{◌≡◌, ◌∙◌, ℕ, true, false, List, [], ◌∷◌, Option, Some, None}
 use Rattle.std.proofs.Common.{Bor, ap, arith, inl, inr, option_map}
 use Rattle.std.proofs.Common.{refl, slice_index_or, subst, sym}

@@ -1,6 +1,5 @@
 -- For each definition of how a command line ends and what it tells, what breaks it, and is refused
 -- by it, and what holds.
--- Nothing cites it: it is checked with its crate.
 use Rattle.std.proofs.Common.{◌≡◌, ◌∙◌, ◌⊎◌, ℕ, true, false, List, [], ◌∷◌, Option, Some, None}
 use Rattle.std.proofs.Common.{Result, Ok, Err, MatchResult, Bor, ap, arith, inl, inr}
 use Rattle.std.proofs.Common.{refl, subst, sym}

@@ -1,5 +1,4 @@
 -- How every task ends.
--- Its own crate alone cites it, for the theorems of src/command_line.rt and src/executing.rt.
 use Rattle.std.proofs.Common.{◌≡◌, ◌≤◌, ◌⊎◌, ◌++◌, ℕ, [], append-nil, Bool, false, true, List}
 use Rattle.std.proofs.Common.{Option, Some, None, Result, Ok, Err, arith, inl, inr, refl, subst}
 use Rattle.std.proofs.Common.{sym}

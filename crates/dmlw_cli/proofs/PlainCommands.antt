@@ -1,5 +1,4 @@
 -- Plain words are read as the command that they name.
--- Its own crate alone cites it, for the theorems of src/laws.rt.
 use Rattle.std.proofs.Common.{◌≡◌, ◌∙◌, ◌==◌, ℕ, Bool, List, [], ◌∷◌, Option, Some, Err, arith, ap}
 use Rattle.std.proofs.Common.{false, inl, inr, not, refl, subst, sym, true}
 use Rattle.std.proofs.lemmas.Bool.{and_parts}

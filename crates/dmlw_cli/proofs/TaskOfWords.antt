@@ -1,5 +1,4 @@
 -- The command that words enter, and the task that it asks for.
--- Its own crate alone cites it, for the theorems of src/command_line.rt and src/laws.rt.
 use Rattle.std.proofs.Common.{◌≡◌, ◌∙◌, ℕ, List, [], ◌∷◌, ap, drop, map, refl, subst, sym, true}
 use Rattle.std.specs.List.{list_any}
 use Rattle.clap.proofs.OnLiterals.{clap_on_literals}

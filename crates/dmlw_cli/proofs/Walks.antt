@@ -1,5 +1,4 @@
 -- The walk of clap over plain words, of which each goes to the next place.
--- Its own crate alone cites it, for the theorems of src/laws.rt.
 use Rattle.std.proofs.Common.{◌≡◌, ◌∙◌, ◌==◌, ℕ, Bool, true, false, not, List, [], ◌∷◌, ◌++◌}
 use Rattle.std.proofs.Common.{Option, Some, None, ap, arith, fold, refl, ◌&&◌}
 use Rattle.std.specs.List.{AllByRecursion}

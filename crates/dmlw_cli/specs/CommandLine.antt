@@ -1,6 +1,5 @@
 -- The command line of the program as clap reads it: its commands, their words and `--explain`.
 -- `Tasks` says what such a command line asks for.
--- Any crate above may cite it.
 use Rattle.std.specs.Prelude.{◌≡◌, ℕ, ◌==◌, ◌&&◌, Bool, true, false, not, List, [], ◌∷◌, Some}
 use Rattle.std.specs.Prelude.{codes, fold}
 use Rattle.std.specs.List.{filter, list_any}

@@ -1,5 +1,4 @@
 -- What a command line comes to.
--- Any crate above may cite it.
 use Rattle.std.specs.Prelude.{◌≡◌, ◌≤◌, ◌⊎◌, ◌++◌, ℕ, Bool, true, false, Err, IfErr, List}
 use Rattle.std.specs.Prelude.{MatchResult, Option, Result, codes}
 use Rattle.std.specs.declared.io.ErrorKind.{ErrorKind as IoErrorKind}

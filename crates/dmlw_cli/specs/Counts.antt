@@ -1,5 +1,4 @@
 -- The number of sectors of a new disk, as a word.
--- Any crate above may cite it.
 use Rattle.std.specs.Prelude.{ℕ, ◌≤◌, List}
 use Rattle.refusals.specs.Words.{IsNumber}
 

@@ -1,5 +1,4 @@
 -- The names of the commands, and the words that each takes.
--- Any crate above may cite it.
 use Rattle.std.specs.Prelude.{◌≡◌, ℕ, Bool, true, List, [], ◌∷◌, Option, Some, None, codes}
 use Rattle.std.specs.Prelude.{if◌then◌else◌, is_some, nat_eq}
 use Rattle.std.specs.Cmp.Lexicographic.{pointwise}

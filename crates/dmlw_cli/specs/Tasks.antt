@@ -1,6 +1,5 @@
 -- Which task the words of a command line ask for, and why some ask for none.
 -- The contracts in `command_line` and `asking` are stated with it.
--- Any crate above may cite it.
 use Rattle.std.specs.Prelude.{◌≡◌, ℕ, Bool, List, [], Option, Some, false, true}
 use Rattle.clap.specs.Words.{IsAmong, Row, Text, fault_of, first_of, kind_of, subcommand_of}
 use Rattle.std.specs.Prelude.{codes}

@@ -1,5 +1,4 @@
 //! The task of each command, by the words that were entered for it.
-//! Its clauses are written in specs/Names and specs/Tasks; its theorems in proofs/asking/.
 ghost use Rattle.std.specs.Prelude.{◌≡◌, IfSome, is_some, option_map, true};
 ghost use Rattle.clap.specs.Words.{first_of, found_of, rows_of};
 ghost use Rattle.dmlw_cli.specs.Names.{HasWords};

@@ -1,5 +1,4 @@
 //! Reads a command line by `clap`, and finds the task that it asks for.
-//! Its clauses are written in specs/; its theorems in proofs/command_line/.
 ghost use Rattle.std.specs.Prelude.{◌≡◌, ◌⊎◌, List, ℕ, ◌++◌, IfOk, IfSome, None, OnOk, Some, false};
 ghost use Rattle.std.specs.Prelude.{is_some, map, not, true};
 ghost use Rattle.std.specs.List.{filter, list_any};

@@ -1,5 +1,4 @@
 //! Does what a command line asks for: `execute` is all that the program calls.
-//! Its clauses are written in specs/; its theorems in proofs/executing/.
 ghost use Rattle.std.specs.Prelude.{◌≡◌, ◌⊎◌, Bool, IfErr, MatchResult, OnOk, false, map, true};
 ghost use Rattle.std.specs.Io.KnownBytes.{Appends, Keeps};
 ghost use Rattle.std.specs.IoError.{error_kind};

@@ -1,5 +1,4 @@
 // The page of the formats, which has the text of docs/FORMATS.md.
-// The search alone proves it.
 
 /// The page that `dmlw help formats` prints: what is read
 /// and printed. docs/FORMATS.md has the same text.

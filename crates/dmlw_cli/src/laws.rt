@@ -1,5 +1,4 @@
 //! Laws of command lines: each is a function whose contract it is, and which runs to nothing.
-//! Its clauses are written in specs/; its theorems in proofs/laws/.
 ghost use Rattle.std.specs.Prelude.{◌≡◌, ◌∷◌, [], List, Option, Some, false, true, ℕ};
 ghost use Rattle.dmlw_cli.specs.CommandLine.{command_words, is_positional};
 ghost use Rattle.dmlw_cli.specs.Commands.{DoesWords, LeavesLog, LeavesReplayed, LeavesRun};

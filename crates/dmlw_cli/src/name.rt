@@ -1,5 +1,4 @@
 //! The names of the commands.
-//! Its clauses are written in specs/Names; the search alone proves it.
 ghost use Rattle.std.specs.Prelude.{◌≡◌};
 ghost use Rattle.dmlw_cli.specs.Names.{name_of};
 

@@ -1,5 +1,4 @@
 //! The program's command line, as `clap` reads it: its commands, their words and their help.
-//! Its clauses are written in specs/CommandLine; its theorems in proofs/program/.
 ghost use Rattle.std.specs.Prelude.{◌≡◌, IfOk, codes, false};
 ghost use Rattle.clap.specs.Words.{App, app_of, new_app, rule_of, with_rule, with_subcommand};
 ghost use Rattle.dmlw_cli.specs.CommandLine.{IsCommandOf, bare_app, command_app, needed};

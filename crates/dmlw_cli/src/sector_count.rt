@@ -1,5 +1,4 @@
 //! The number of sectors that a command line names for a new disk.
-//! Its clauses are written in specs/Counts; the search alone proves it.
 ghost use Rattle.std.specs.Prelude.{◌≡◌, ◌≤◌, IfSome, None, ℕ};
 ghost use Rattle.dmlw_cli.specs.Counts.{IsSectorCount};
 

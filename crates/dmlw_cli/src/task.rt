@@ -1,5 +1,4 @@
 //! The tasks that a command line asks for.
-//! Its clauses are written in specs/Commands; the search alone proves it.
 ghost use Rattle.std.specs.Prelude.{◌≡◌};
 ghost use Rattle.dmlw_cli.specs.Commands.{flaw_forms};
 

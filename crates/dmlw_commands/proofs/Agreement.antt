@@ -1,5 +1,4 @@
 -- That a finding has the verdict that judging gives.
--- Its own crate alone cites it, for the theorems of src/judge_image/laws.rt.
 use Rattle.std.proofs.Common.{◌≡◌, ℕ, List, arith, length, subst, sym, take}
 use Rattle.std.proofs.lemmas.List.{take_all}
 use Rattle.bio.specs.Content.{Content, sector_of}

@@ -1,6 +1,5 @@
 -- How the commands end: a recording leaves its log or each file as it was.
 -- Serves the proofs of `record_script`, `record`, `list` and `status`.
--- Its own crate alone cites it, for the theorems of src/list.rt, src/record.rt and src/status.rt.
 use Rattle.std.proofs.Common.{◌≡◌, ◌∙◌, ◌⊎◌, ℕ, List, Option, None, Some, Result, Ok, Err, IfErr}
 use Rattle.std.proofs.Common.{IfOk, OnErr, inl, inr, refl, subst, sym}
 use Rattle.std.specs.Io.KnownBytes.{Keeps}

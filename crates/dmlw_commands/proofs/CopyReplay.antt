@@ -1,5 +1,4 @@
 -- What is read of the image of a copy, and what it replays to.
--- Its own crate alone cites it, for the theorems of src/copy_log/laws.rt.
 use Rattle.std.proofs.Common.{◌≡◌, ◌∙◌, ℕ, ◌/◌, List, map, take, Option, None, ap, arith, length}
 use Rattle.std.proofs.Common.{refl, subst, sym}
 use Rattle.std.proofs.lemmas.List.{length-map}

@@ -1,5 +1,4 @@
 -- For each definition of a judging, what breaks it, and is refused by it.
--- Nothing cites it: it is checked with its crate.
 use Rattle.std.proofs.Common.{Bool, true, ◌≡◌, ◌∙◌, ◌⊎◌, ℕ, ◌*◌, ◌<◌, ◌≤◌, ◌++◌, false, Option}
 use Rattle.std.proofs.Common.{Some, None, List, [], ◌∷◌, Result, Ok, Err, ap, arith, inl, inr}
 use Rattle.std.proofs.Common.{length, refl, replicate, slice_index_or, subst, sym}

@@ -1,5 +1,4 @@
 -- The last moment of a list of events.
--- Its own crate alone cites it, for the theorems of src/judge_image/moments.rt.
 use Rattle.std.proofs.Common.{◌≡◌, ◌∙◌, ◌<◌, ℕ, suc, Bool, true, false, Option, Some, None, List}
 use Rattle.std.proofs.Common.{ap, length, sym, subst}
 use Rattle.std.specs.Prelude.{get_or, slice_get, unwrap_or}

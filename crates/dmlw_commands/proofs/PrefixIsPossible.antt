@@ -1,5 +1,4 @@
 -- That what a beginning of a log leaves is judged possible.
--- Its own crate alone cites it, for the theorems of src/judge_image/laws.rt.
 use Rattle.std.proofs.Common.{◌≡◌, ◌⊎◌, ℕ, ◌*◌, ◌/◌, ◌<◌, ◌≤◌, true, false, IsTrue, Some, List}
 use Rattle.std.proofs.Common.{arith, length, refl, subst, sym}
 use Rattle.std.specs.Prelude.{slice_get, take}

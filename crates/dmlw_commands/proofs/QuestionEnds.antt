@@ -1,5 +1,4 @@
 -- What a question on an image comes to.
--- Its own crate alone cites it, for the theorems of src/judge_image/answering.rt.
 use Rattle.std.proofs.Common.{◌≡◌, ◌∙◌, ◌⊎◌, ℕ, true, Option, Some, None, List, Result, Ok, Err}
 use Rattle.std.proofs.Common.{◌≤◌, IfErr, IfOk, ap, inl, inr, length, refl, subst, sym}
 use Rattle.std.specs.Prelude.{IsOk, take}

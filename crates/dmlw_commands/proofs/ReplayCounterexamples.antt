@@ -1,5 +1,4 @@
 -- For each definition of a replay's command, what breaks it, and is refused by it.
--- Nothing cites it: it is checked with its crate.
 use Rattle.std.proofs.Common.{◌≡◌, ◌∙◌, ℕ, ◌<◌, true, false, Option, Some, None, List, [], ◌∷◌}
 use Rattle.std.proofs.Common.{◌++◌, Result, Ok, Err, ap, arith, drop, inl, inr, length, refl}
 use Rattle.std.proofs.Common.{replicate, slice_index_or, subst, sym}

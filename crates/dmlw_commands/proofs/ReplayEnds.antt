@@ -1,5 +1,4 @@
 -- How the replay of the log in a file ends.
--- Its own crate alone cites it, for the theorems of src/replay_log/replaying.rt.
 use Rattle.std.proofs.Common.{◌≡◌, ◌∙◌, ◌⊎◌, ℕ, List, Option, Result, Ok, Err, OnErr, OnOk, ap, inl}
 use Rattle.std.proofs.Common.{inr, refl, subst, sym}
 use Rattle.std.specs.Io.KnownBytes.{Appends, Keeps}

@@ -1,5 +1,4 @@
 -- How the run of the script in a file ends.
--- Its own crate alone cites it, for the theorems of src/run.rt.
 use Rattle.std.proofs.Common.{◌≡◌, ◌∙◌, ◌⊎◌, ℕ, List, Option, None, Some, Result, Ok, Err, IfErr}
 use Rattle.std.proofs.Common.{IfOk, OnErr, inl, inr, refl, subst, sym}
 use Rattle.std.specs.Io.KnownBytes.{Keeps}

@@ -1,5 +1,4 @@
 -- What the run of the script in a file comes to.
--- Its own crate alone cites it, for the theorems of src/run.rt.
 use Rattle.std.proofs.Common.{◌≡◌, ◌∙◌, ◌≤◌, ℕ, Err, IfErr, IfOk, List, None, Ok, Option, Result}
 use Rattle.std.proofs.Common.{Some, ap, arith, inl, inr, length, refl, subst, sym}
 use Rattle.std.specs.Io.KnownBytes.{Appends}

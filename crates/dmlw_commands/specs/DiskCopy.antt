@@ -1,5 +1,4 @@
 -- What a copy comes to on disks in memory: a reader of the old log, and a store of the new one.
--- Any crate above may cite it.
 use Rattle.std.specs.Prelude.{◌≡◌, ◌⊎◌, ℕ, ◌/◌, false, IsTrue, List, length, map, None}
 use Rattle.std.specs.List.{list_all}
 use Rattle.bio.specs.Content.{AgreeBelow, sector_of}

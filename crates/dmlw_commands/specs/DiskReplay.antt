@@ -1,5 +1,4 @@
 -- What a replay leaves of a disk in memory, and why it stops.
--- Any crate above may cite it.
 use Rattle.std.specs.Prelude.{◌≡◌, ℕ, ◌/◌, ◌<◌, ◌≤◌, List, Option, length}
 use Rattle.bio.specs.Content.{AgreeBelow, sector_of}
 use Rattle.blockdev.specs.View.{View}

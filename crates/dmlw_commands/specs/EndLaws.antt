@@ -1,5 +1,4 @@
 -- A law of what is told, for the proofs of the crates above too.
--- Any crate above may cite it.
 use Rattle.std.specs.Prelude.{◌≡◌, ℕ, true, false, List, [], ◌++◌}
 use Rattle.std.specs.Io.KnownBytes.{Appends}
 use Rattle.dmlw_commands.specs.declared.ending.Ended.{Ended}

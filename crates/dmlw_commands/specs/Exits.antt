@@ -1,6 +1,5 @@
 -- The exit status of the program, by how a command ends, and the lines that a user is told.
 -- The replay, copy and record commands state their ends with it.
--- Any crate above may cite it.
 use Rattle.std.specs.Prelude.{◌⊎◌, ◌≡◌, ℕ, List, [], ◌++◌, None, Option, Result, Ok, Err, Some}
 use Rattle.std.specs.Prelude.{codes}
 use Rattle.refusals.specs.declared.end.End.{End}

@@ -1,6 +1,5 @@
 -- What copying the log in a file to a new log with sectors
 -- of 4,096 bytes comes to. A disk has sectors of 512 bytes.
--- Any crate above may cite it.
 use Rattle.std.specs.Prelude.{◌≡◌, ◌⊎◌, ℕ, ◌+◌, ◌*◌, ◌≤◌, IsTrue, List, ◌++◌, Option, None}
 use Rattle.std.specs.Prelude.{Some, Result, Ok, Err, codes, length, map, slice_get, take}
 use Rattle.std.specs.Fmt.{decimal}

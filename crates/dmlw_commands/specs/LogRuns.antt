@@ -1,5 +1,4 @@
 -- What running the seats of the script in a file comes to.
--- Any crate above may cite it.
 use Rattle.std.specs.Prelude.{◌≡◌, ◌⊎◌, ℕ, suc, List, [], ◌∷◌, ◌++◌, decimal, Option, Result, Some}
 use Rattle.std.specs.Prelude.{MatchResult, Ok, Err, codes}
 use Rattle.std.specs.Io.KnownBytes.{Appends, Keeps}

@@ -1,6 +1,5 @@
 -- What `path` answers: a run of the cache machine that
 -- leaves an image, or what rules the image out.
--- Any crate above may cite it.
 use Rattle.std.specs.Prelude.{ℕ, List, ◌++◌, Option, codes}
 use Rattle.std.specs.List.{flat_map}
 use Rattle.judge.specs.declared.verdict.Verdict.{Verdict}

@@ -1,5 +1,4 @@
 -- Images that are what a beginning of a script's log leaves.
--- Any crate above may cite it.
 use Rattle.std.specs.Prelude.{ℕ, ◌/◌, ◌≤◌, List, length, take}
 use Rattle.bio.specs.Content.{AgreeBelow, Content, sector_of}
 use Rattle.bio.specs.declared.event.CoreEvent.{CoreEvent}

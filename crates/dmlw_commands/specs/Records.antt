@@ -1,5 +1,4 @@
 -- What recording the script in a file comes to.
--- Any crate above may cite it.
 use Rattle.std.specs.Prelude.{◌≡◌, ◌⊎◌, ℕ, Bool, ◌&&◌, List, [], ◌++◌, decimal, nat_eq}
 use Rattle.std.specs.Prelude.{if◌then◌else◌, Option, Result, Some, MatchResult, Ok, Err, codes}
 use Rattle.std.specs.Io.KnownBytes.{Appends, Keeps}

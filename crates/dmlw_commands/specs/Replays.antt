@@ -1,5 +1,4 @@
 -- What replaying the log in a file on the image in another one comes to.
--- Any crate above may cite it.
 use Rattle.std.specs.Prelude.{◌≡◌, ◌⊎◌, ℕ, ◌/◌, ◌<◌, ◌≤◌, List, ◌++◌, Option, None, Some}
 use Rattle.std.specs.Prelude.{Result, Ok, Err, codes, length}
 use Rattle.std.specs.Fmt.{decimal}

@@ -1,5 +1,4 @@
 -- How the end of a replay is named by a word.
--- Any crate above may cite it.
 use Rattle.std.specs.Prelude.{◌≡◌, ℕ, List, ◌++◌, codes}
 use Rattle.refusals.specs.Words.{IsNumber}
 use Rattle.replay.specs.declared.upto.Upto.{Upto}

@@ -1,5 +1,4 @@
 //! How a command ends: its exit, and the line that reports a fault.
-//! Its clauses are written in specs/Exits; the search alone proves it.
 ghost use Rattle.std.specs.Prelude.{◌≡◌, ◌++◌, [], Err, OnOk, true};
 ghost use Rattle.std.specs.Io.KnownBytes.{Appends, Keeps};
 ghost use Rattle.dmlw_commands.specs.declared.exit.Exit.{Exit};

@@ -1,5 +1,4 @@
 //! The exit status of a command.
-//! Its clauses are written in specs/Exits; the search alone proves it.
 ghost use Rattle.std.specs.Prelude.{◌≡◌};
 ghost use Rattle.dmlw_commands.specs.Exits.{exit_at, exit_of, status_of};
 

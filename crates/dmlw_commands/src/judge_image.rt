@@ -3,7 +3,6 @@
 //! (`specs/Judgements`); `path` prints a run of the cache machine that leaves the image, where
 //! there is one (`specs/Paths`). They share one form: `answering`, over an `Answer`. `laws` says
 //! that `judge` rules out no beginning of the script's log (`specs/PrefixImages`).
-//! Its theorems are in proofs/judge_image/.
 pub use judging::judge;
 pub use pathing::path;
 

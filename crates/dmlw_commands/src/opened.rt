@@ -1,6 +1,5 @@
 // The log of an image, opened on a disk that the image becomes without a copy.
 // Its entries are read one by one, without a write's data.
-// Its clauses are written in specs/ImageLog and specs/Lists; its theorems in proofs/opened/.
 ghost use Rattle.std.specs.Prelude.{◌≡◌, ◌⊎◌, IfErr, IfOk, List, Option, false};
 ghost use Rattle.log_format.specs.declared.entry.Entry.{Entry};
 ghost use Rattle.log_reader.specs.declared.fault.LogFault.{LogFault};

@@ -1,5 +1,4 @@
 //! `record SCRIPT LOG`: records the requests of a script in a new log.
-//! Its clauses are written in specs/; its theorems in proofs/record/.
 ghost use Rattle.std.specs.Prelude.{◌≡◌, ◌⊎◌, IfErr, IfOk, OnErr, OnOk, Some};
 ghost use Rattle.std.specs.Io.KnownBytes.{Appends};
 ghost use Rattle.refusals.specs.Errors.{IsFileError};

@@ -1,7 +1,6 @@
 //! The command `replay`: it applies the entries of the log in a file, up to one that is named, to
 //! the image in another file, and asks for the image that comes of it to be written
 //! (`specs/Replays`).
-//! Its theorems are in proofs/replay_log/.
 pub use replaying::replay;
 pub use what::upto_of;
 

@@ -1,5 +1,4 @@
 //! Running the seats of a script, from the names of its files to how it ended.
-//! Its clauses are written in specs/; its theorems in proofs/run/.
 ghost use Rattle.std.specs.Prelude.{◌≡◌, ◌⊎◌, Err, IfErr, IfOk, OnErr, OnOk, Some};
 ghost use Rattle.std.specs.Io.KnownBytes.{Appends};
 ghost use Rattle.refusals.specs.declared.refusal.Refusal.TheVariants as refusals;

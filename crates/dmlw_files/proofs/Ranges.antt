@@ -1,5 +1,4 @@
 -- What the pieces of a disk's image come to.
--- Its own crate alone cites it, for the theorems of src/pieces.rt.
 use Rattle.std.proofs.Common.{◌≡◌, ◌∙◌, ℕ, zero, suc, ◌+◌, ◌++◌, List, Option, None}
 use Rattle.std.proofs.Common.{Some, ap, arith, sym}
 use Rattle.std.proofs.lemmas.List.{append_assoc, append-nil}

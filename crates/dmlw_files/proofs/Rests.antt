@@ -1,5 +1,4 @@
 -- What a reader gives in several reads.
--- Its own crate alone cites it, for the theorems of src/host_files.rt.
 use Rattle.std.proofs.Common.{List, ℕ, ◌++◌, Option, Some, None, sym, ap, ◌∙◌, append_assoc}
 use Rattle.std.specs.Io.KnownBytes.{Consumes}
 

@@ -1,6 +1,5 @@
 -- Which error a failed call on a file gives, and the refusal that shows it.
 -- The contracts of `src/files` cite both.
--- Any crate above may cite it.
 use Rattle.std.specs.declared.io.ErrorKind.{ErrorKind}
 use Rattle.std.specs.declared.io.ErrorKind.TheVariants as kinds
 use Rattle.refusals.specs.declared.refusal.Refusal.{Refusal}

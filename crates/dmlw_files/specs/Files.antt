@@ -1,6 +1,5 @@
 -- What is known of files by their names: which writes were asked for, and what each file holds.
 -- The contracts of the files and of the commands that read or write them cite it.
--- Any crate above may cite it.
 use Rattle.std.specs.Prelude.{◌≡◌, ◌≤◌, ◌<◌, ℕ, length, List, [], ◌∷◌, ◌++◌, Option, Some, None}
 use Rattle.std.specs.Prelude.{option_map}
 

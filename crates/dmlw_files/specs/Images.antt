@@ -1,5 +1,4 @@
 -- Which bytes are an image, and which image a disk has.
--- Any crate above may cite it.
 use Rattle.std.proofs.Common.{◌≡◌, ◌≤◌, ℕ, List, Option, Some, None, length, subst, sym}
 use Rattle.std.specs.Prelude.{◌%◌}
 use Rattle.bio.specs.Content.{gather}

@@ -1,5 +1,4 @@
 //! The files that a command reads and writes, by their names, and why one isn't read or written.
-//! Its clauses are written in specs/; the search alone proves it.
 ghost use Rattle.std.specs.Prelude.{◌≡◌, ◌≤◌, Bool, IfErr, IfOk, List, OnErr, OnOk, Option, false};
 ghost use Rattle.std.specs.Prelude.{is_some, length, true, ℕ};
 ghost use Rattle.refusals.specs.Errors.{refused_by};

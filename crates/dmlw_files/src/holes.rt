@@ -1,5 +1,4 @@
 //! Writes a regular file with holes: pieces of zeroes are skipped.
-//! Its theorems are in proofs/holes/.
 ghost use Rattle.std.specs.Prelude.{◌≡◌, None, IfOk, OnErr, OnOk, length, replicate, true};
 ghost use Rattle.std.specs.Io.KnownBytes.{Appends, Keeps};
 

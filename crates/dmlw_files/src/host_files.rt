@@ -1,5 +1,4 @@
 //! The system's files.
-//! Its theorems are in proofs/host_files/.
 ghost use Rattle.std.specs.Prelude.{◌≡◌, ◌≤◌, ◌<◌, ◌+◌, ◌++◌, ◌%◌, IfOk, IfSome, None, OnOk};
 ghost use Rattle.std.specs.Prelude.{is_some, length, take};
 ghost use Rattle.std.specs.Io.KnownBytes.{Consumes, IsAtEnd};

@@ -1,5 +1,4 @@
 //! Reads an image from a file: whole sectors, 512 MiB at most.
-//! Its clauses are written in specs/Files and specs/Images; the search alone proves it.
 ghost use Rattle.std.specs.Prelude.{◌≡◌, IfErr, IfOk};
 ghost use Rattle.refusals.specs.Errors.{IsFileError, memory_error};
 ghost use Rattle.dmlw_files.specs.Files.{KeepsFiles, MatchesContents};

@@ -1,5 +1,4 @@
 //! The output of a program whose reader may go away.
-//! The search alone proves it.
 use std::io;
 use std::io::Write;
 

@@ -1,6 +1,5 @@
 //! How the image of a disk is written, piece by piece in
 //! one buffer, so that it is never in memory as a whole.
-//! Its clauses are in words of `bio` and `sector_disk`; its theorems in proofs/pieces/.
 ghost use Rattle.std.specs.Prelude.{◌≡◌, ◌≤◌, ◌<◌, ◌/◌, ◌%◌, ◌+◌, OnOk, length};
 ghost use Rattle.std.specs.Io.KnownBytes.{Appends};
 ghost use Rattle.bio.specs.Content.{gather};

@@ -1,5 +1,4 @@
 //! What a command is lent: where it takes memory from, its files and its streams.
-//! The search alone proves it.
 use std::alloc::Global;
 
 /// What a command is lent. It reads and writes `files`, prints on `out`, and reports a fault on

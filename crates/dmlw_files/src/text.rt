@@ -1,5 +1,4 @@
 //! Reads a script's text from a file: 4 MiB at most.
-//! Its clauses are written in specs/Files; the search alone proves it.
 ghost use Rattle.std.specs.Prelude.{◌≡◌, ◌≤◌, IfErr, IfOk, length};
 ghost use Rattle.dmlw_files.specs.declared.files.FileError.{FileError};
 ghost use Rattle.dmlw_files.specs.Files.{IsWithin, KeepsFiles, MatchesContents};

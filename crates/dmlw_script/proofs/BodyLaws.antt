@@ -1,6 +1,5 @@
 -- Laws of a script's body: names of requests, and one more command after others.
 -- `CanonicalTextLaws`, `RecorderFaults`, `RecorderLaws` and `RunLaws` cite it.
--- Its own crate alone cites it, for theorems of many of its files.
 use Rattle.std.proofs.Common.{◌≡◌, ℕ, ◌+◌, ◌<◌, true, false, cond, List, [], ◌∷◌, ◌++◌}
 use Rattle.std.proofs.Common.{length, get_or, Option, Some, None, Ok, Err, ⊎_elim, refl, ap, ◌∙◌}
 use Rattle.std.proofs.Common.{sym, subst, arith, append_assoc}

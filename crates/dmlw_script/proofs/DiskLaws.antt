@@ -1,5 +1,4 @@
 -- Laws of disks and their layers.
--- Its own crate alone cites it, for theorems of many of its files.
 use Rattle.std.proofs.Common.{◌≡◌, ℕ, suc, ◌+◌, ◌-◌, ◌≤◌, ◌<◌, true, List, [], ◌∷◌, ◌++◌, length}
 use Rattle.std.proofs.Common.{Some, refl, ap, ◌∙◌, sym, arith}
 use Rattle.std.specs.Prelude.{nat_le, slice_get}

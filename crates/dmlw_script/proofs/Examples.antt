@@ -1,5 +1,4 @@
 -- Definitions on texts, each by computation.
--- Nothing cites it: it is checked with its crate.
 use Rattle.std.proofs.Common.{◌≡◌, ℕ, Bool, true, false, None, Some, List, [], ◌∷◌, Err, Ok}
 use Rattle.std.proofs.Common.{replicate, refl, arith}
 use Rattle.std.specs.Prelude.{◌/◌, ◌≤◌, ◌++◌, codes, decimal}

@@ -1,5 +1,4 @@
 -- Laws of the lines of layers.
--- Its own crate alone cites it, for theorems of many of its files.
 use Rattle.std.proofs.Common.{◌≡◌, List, ℕ, Some, Ok, Err, ◌⊎◌, inl, inr, refl, ap, ◌∙◌, sym}
 use Rattle.std.specs.Prelude.{◌↔◌, Result}
 use Rattle.table_line.specs.declared.layer_spec.LayerSpec.{LayerSpec}

@@ -1,6 +1,5 @@
 -- What is heard of a line is what it says by the grammar, and the other way round.
 -- `CanonicalTextLaws`, `RecorderLaws`, `RunLines` and `ScriptLaws` cite it.
--- Its own crate alone cites it, for theorems of many of its files.
 use Rattle.std.proofs.Common.{◌≡◌, ℕ, ◌+◌, ◌-◌, ◌*◌, ◌/◌, ◌%◌, ◌<◌, Bool, true, false, ◌&&◌}
 use Rattle.std.proofs.Common.{cond, List, [], ◌∷◌, ◌++◌, Option, Some, None, ◌⊎◌, inl, inr, ⊎_elim}
 use Rattle.std.proofs.Common.{refl, ap, subst, ◌∙◌, sym, arith}

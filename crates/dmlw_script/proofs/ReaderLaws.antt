@@ -1,5 +1,4 @@
 -- What is known of a reader of scripts, and what follows of the texts that it reads.
--- Its own crate alone cites it, for theorems of many of its files.
 use Rattle.std.proofs.Common.{◌≡◌, ℕ, Bool, true, false, not, List, [], ◌∷◌, ◌++◌, append_assoc}
 use Rattle.std.proofs.Common.{Option, Some, None, Ok, Err, ⊎_elim, refl, ap, ◌∙◌, sym, subst}
 use Rattle.std.specs.Prelude.{Result, IfOk}

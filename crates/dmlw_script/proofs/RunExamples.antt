@@ -1,5 +1,4 @@
 -- What some lines of a run's script say, and which plans are a script's.
--- Nothing cites it: it is checked with its crate.
 use Rattle.std.proofs.Common.{◌≡◌, ℕ, true, false, List, [], ◌∷◌, Some, None, refl, arith}
 use Rattle.std.specs.Prelude.{◌≤◌, codes}
 use Rattle.bio.specs.declared.sector_size.SectorSize.TheVariants as sizes

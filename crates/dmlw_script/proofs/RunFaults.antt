@@ -1,5 +1,4 @@
 -- Why a run's reader refuses a text, as `FaultLaws` asks for it.
--- Its own crate alone cites it, for the theorems of src/laws.rt and src/run_reader.rt.
 use Rattle.std.proofs.Common.{◌≡◌, ℕ, ◌<◌, true, false, List, [], ◌∷◌, ◌++◌, Option, Some, None, Ok}
 use Rattle.std.proofs.Common.{Err, ◌⊎◌, inl, inr, ⊎_elim, refl, ap, ◌∙◌, sym}
 use Rattle.std.specs.Prelude.{Result, codes, map, nat_le, nat_lt}

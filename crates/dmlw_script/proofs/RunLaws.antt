@@ -1,5 +1,4 @@
 -- What a run's reader has read, as `ReaderLaws` asks for it.
--- Its own crate alone cites it, for the theorems of src/laws.rt and src/run_reader.rt.
 use Rattle.std.proofs.Common.{◌≡◌, ℕ, ◌≤◌, true, List, [], ◌∷◌, ◌++◌, append_assoc, Option, Some}
 use Rattle.std.proofs.Common.{None, Ok, refl, ap, ◌∙◌, sym, subst}
 use Rattle.std.specs.Prelude.{map, nat_le, nat_lt, Result}

@@ -1,6 +1,5 @@
 -- What is heard of a line of a run's script is what it
 -- says, by the grammar's words, and the other way round.
--- Its own crate alone cites it, for the theorems of src/laws.rt and src/run_reader.rt.
 use Rattle.std.proofs.Common.{◌≡◌, ℕ, Bool, true, false, cond, List, [], ◌∷◌, ◌++◌, Option, Some}
 use Rattle.std.proofs.Common.{None, ⊎_elim, refl, ap, subst, ◌∙◌, sym}
 use Rattle.std.specs.Prelude.{◌==◌, codes}

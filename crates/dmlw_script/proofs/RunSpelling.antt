@@ -1,5 +1,4 @@
 -- A run's head is spelled as a recorder's, but for the line of its seats.
--- Its own crate alone cites it, for the theorems of src/run_printing.rt.
 use Rattle.std.proofs.Common.{◌≡◌, ℕ, List, [], ◌∷◌, ◌++◌, refl, ap, ◌∙◌, sym, append_assoc}
 use Rattle.std.specs.Prelude.{flat_map, map}
 use Rattle.std.proofs.lemmas.List.Concat.{flat_map-append}

@@ -1,5 +1,4 @@
 -- What is read of small texts of a run, each by computation.
--- Nothing cites it: it is checked with its crate.
 use Rattle.std.proofs.Common.{◌≡◌, ℕ, false, List, [], ◌∷◌, ◌++◌, Some, Ok, Err, refl}
 use Rattle.std.specs.Prelude.{Result, codes}
 use Rattle.bio.specs.declared.sector_size.SectorSize.TheVariants as sizes

@@ -1,6 +1,5 @@
 -- Laws of whole scripts: their texts, skipped lines, the lines of commands, and ends of requests.
 -- Serves `scripts_have_own_texts` and `requests_end_once`, among other laws of `laws.rt`.
--- Its own crate alone cites it, for the theorems of src/laws.rt.
 use Rattle.std.proofs.Common.{◌≡◌, ℕ, zero, suc, ◌+◌, ◌<◌, ◌≤◌, Bool, true, false, not, ◌||◌, cond}
 use Rattle.std.proofs.Common.{List, [], ◌∷◌, ◌++◌, length, Option, Some, None, ⊎_elim, get_or, refl}
 use Rattle.std.proofs.Common.{ap, ◌∙◌, sym, subst, arith, append_assoc}

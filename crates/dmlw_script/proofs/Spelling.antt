@@ -1,5 +1,4 @@
 -- The text of a script is that of its parts, one after another: `print_script` writes it in three.
--- Its own crate alone cites it, for the theorems of src/printing.rt.
 use Rattle.std.proofs.Common.{◌≡◌, ℕ, List, [], ◌∷◌, ◌++◌, Option, Some, None, ap, ◌∙◌, sym}
 use Rattle.std.proofs.Common.{append_assoc}
 use Rattle.std.specs.Prelude.{decimal, flat_map, map}

@@ -1,5 +1,4 @@
 -- The one text of a script.
--- Any crate above may cite it.
 use Rattle.std.specs.Prelude.{ℕ, List, [], ◌∷◌, ◌++◌, Option, Some, None, Result, Ok, Err, codes}
 use Rattle.std.specs.Prelude.{decimal, flat_map, map}
 use Rattle.dmlw_script.specs.LineMeaning.{LineMeaning}

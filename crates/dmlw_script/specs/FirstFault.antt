@@ -1,5 +1,4 @@
 -- What reading answers to a text that is no script: the first line that is at fault, and why.
--- Any crate above may cite it.
 use Rattle.std.specs.Prelude.{◌≡◌, ℕ, ◌+◌, ◌<◌, Bool, true, false, not, List, [], ◌∷◌, ◌++◌, Option}
 use Rattle.std.specs.Prelude.{Some, None, Err, Result, Ok, length, nat_le, if◌then◌else◌}
 use Rattle.std.specs.List.{list_any, AllZip}

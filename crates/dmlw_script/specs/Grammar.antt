@@ -1,5 +1,4 @@
 -- The grammar of a recorder's scripts, as a relation between texts and scripts.
--- Any crate above may cite it.
 use Rattle.std.specs.Prelude.{◌≡◌, ℕ, ◌<◌, true, ◌+◌, List, [], ◌∷◌, ◌++◌, Result, Ok, Err, Some}
 use Rattle.std.specs.Prelude.{codes, length, slice_get}
 use Rattle.std.specs.List.{join_with_byte, AllByRecursion, AllZip}

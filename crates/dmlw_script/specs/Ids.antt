@@ -1,5 +1,4 @@
 -- Ids, and the names that they are kept as.
--- Any crate above may cite it.
 use Rattle.std.specs.Prelude.{ℕ, ◌-◌, Bool, ◌&&◌, ◌||◌, List, ◌++◌, Option, Some, None, length}
 use Rattle.std.specs.Prelude.{nat_lt, nat_le, replicate, if◌then◌else◌, nat_eq}
 use Rattle.std.specs.Char.{is_ascii_digit}

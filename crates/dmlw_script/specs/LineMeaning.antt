@@ -1,5 +1,4 @@
 -- What a line of a script says.
--- Any crate above may cite it.
 use Rattle.std.specs.Prelude.{ℕ, List}
 use Rattle.dmlw_script.specs.declared.line.HeadLine.{HeadLine}
 use Rattle.dmlw_script.specs.declared.line.BodyLine.{BodyLine}

@@ -1,5 +1,4 @@
 -- The lines of a text.
--- Any crate above may cite it.
 use Rattle.std.specs.Prelude.{◌≡◌, ℕ, ◌+◌, ◌==◌, Bool, true, not, ◌&&◌, List, [], ◌∷◌, ◌++◌, Option}
 use Rattle.std.specs.Prelude.{filter, flat_map, nat_lt, slice_get, if◌then◌else◌}
 use Rattle.std.specs.List.{list_all, onto_first}

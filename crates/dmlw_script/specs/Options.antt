@@ -1,5 +1,4 @@
 -- The options of a write, as words.
--- Any crate above may cite it.
 use Rattle.std.specs.Prelude.{Bool, List, [], ◌∷◌, ◌++◌, ℕ, codes, if◌then◌else◌}
 use Rattle.dmlw_script.specs.declared.command.WriteOptions.{WriteOptions}
 

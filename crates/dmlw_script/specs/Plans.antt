@@ -1,5 +1,4 @@
 -- What a script is, apart from any text, and what its lines say.
--- Any crate above may cite it.
 use Rattle.std.specs.Prelude.{◌≡◌, ℕ, ◌+◌, ◌/◌, ◌^◌, ◌<◌, ◌≤◌, ◌==◌, nat_le, Bool, true, false}
 use Rattle.std.specs.Prelude.{◌&&◌, List, [], ◌∷◌, ◌++◌, Option, Some, None, is_some, Result, Ok}
 use Rattle.std.specs.Prelude.{length, map, position, slice_index_or, count_by, if◌then◌else◌}

@@ -1,5 +1,4 @@
 -- What reading answers to a text that is no run's script: the first line that is at fault, and why.
--- Any crate above may cite it.
 use Rattle.std.specs.Prelude.{◌≡◌, ℕ, ◌+◌, ◌<◌, ◌≤◌, List, [], ◌∷◌, ◌++◌, Option, Some, None}
 use Rattle.std.specs.Prelude.{Result, Ok, Err, length, nat_le, true, if◌then◌else◌}
 use Rattle.std.specs.List.{AllZip}

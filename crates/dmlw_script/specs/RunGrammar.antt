@@ -1,5 +1,4 @@
 -- The grammar of the scripts of a run, as a relation between texts and scripts.
--- Any crate above may cite it.
 use Rattle.std.specs.Prelude.{◌≡◌, ℕ, ◌<◌, true, List, [], ◌∷◌, ◌++◌, codes}
 use Rattle.std.specs.List.{AllByRecursion, AllZip}
 use Rattle.dmlw_script.specs.declared.command.Submission.TheVariants as submits

@@ -1,5 +1,4 @@
 -- What a run's script is, apart from any text, and what its lines say.
--- Any crate above may cite it.
 use Rattle.std.specs.Prelude.{◌≡◌, ℕ, ◌<◌, ◌≤◌, ◌/◌, List, ◌∷◌, ◌++◌, Result, Ok, map, true}
 use Rattle.std.specs.List.{AllByRecursion}
 use Rattle.bio.specs.declared.request.BadBio.{BadBio}

@@ -1,5 +1,4 @@
 -- The one text of a run's script.
--- Any crate above may cite it.
 use Rattle.std.specs.Prelude.{ℕ, List, [], ◌∷◌, ◌++◌, codes, decimal, flat_map}
 use Rattle.dmlw_script.specs.declared.command.Submission.TheVariants as submits
 use Rattle.dmlw_script.specs.declared.run_line.RunLine.{RunLine}

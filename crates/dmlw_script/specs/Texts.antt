@@ -1,5 +1,4 @@
 -- What a user reads of an id.
--- Any crate above may cite it.
 use Rattle.std.specs.Prelude.{ℕ, List, flat_map}
 use Rattle.std.specs.Char.{encode_utf8}
 use Rattle.dmlw_script.specs.declared.script_id.ScriptId.{ScriptId}

@@ -1,5 +1,4 @@
 -- The definitions of `dmlw_script` that its proofs alone use: no other crate cites them.
--- Any crate above may cite it.
 pub mod LineParser
 pub mod Stages
 pub mod Heads

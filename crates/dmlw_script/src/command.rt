@@ -1,5 +1,4 @@
 //! The commands that a script's lines are.
-//! The search alone proves it.
 use crate::disk_name::DiskName;
 use bio::{Bytes, Ms};
 

@@ -1,5 +1,4 @@
 //! A disk of a script: its sectors, and the layers over it.
-//! Its clauses are written in specs/FirstFault and specs/Plans; its theorems in proofs/disk/.
 ghost use Rattle.std.specs.Prelude.{◌≡◌, OnOk};
 ghost use Rattle.dmlw_script.specs.Plans.{top_of};
 ghost use Rattle.dmlw_script.specs.FirstFault.{bare, with_layer};

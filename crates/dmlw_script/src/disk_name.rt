@@ -1,5 +1,4 @@
 // The two disks of a script.
-// The search alone proves it.
 
 /// A disk of a script.
 #[derive(Clone, Copy, Debug, PartialEq, Eq)]

@@ -1,5 +1,4 @@
 //! The body of a script, line by line: which requests were submitted and which of them are open.
-//! Its clauses are written in specs/Plans and specs/inside/Drafts; its theorems in proofs/draft/.
 ghost use Rattle.std.specs.Prelude.{◌≡◌, ◌<◌, ℕ, [], Ok, OnOk, false, length, option_map};
 ghost use Rattle.bio.specs.Sizes.{bytes_of};
 ghost use Rattle.dmlw_script.specs.Plans.{moment_at, range_test, submission_answer};

@@ -1,5 +1,4 @@
 //! The head of a script: its disks, the size of its log's sectors, and its layers, in their order.
-//! Its clauses are written in specs/; the search alone proves it.
 ghost use Rattle.std.specs.Prelude.{◌≡◌, List, false, ℕ};
 ghost use Rattle.bio.specs.Sizes.{bytes_of};
 ghost use Rattle.dmlw_script.specs.Plans.{is_disk_size as is_a_disk_size};

@@ -1,5 +1,4 @@
 //! Laws of the grammar, apart from the code: each function does nothing, and its clause is the law.
-//! Its clauses are written in specs/; its theorems in proofs/laws/.
 ghost use Rattle.std.specs.Prelude.{◌≡◌, ◌≢◌, ◌<◌, ◌≤◌, ◌+◌, ◌++◌, ◌∷◌, ◌⊎◌, [], None, Some};
 ghost use Rattle.std.specs.Prelude.{true, ℕ, List};
 ghost use Rattle.std.specs.List.{AllByRecursion};

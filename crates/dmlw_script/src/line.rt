@@ -1,5 +1,4 @@
 //! What a line of a script says by its words alone, whatever stands before it.
-//! Its clauses are written in specs/; its theorems in proofs/line/.
 ghost use Rattle.std.specs.Prelude.{◌≡◌, option_copied, option_map};
 ghost use Rattle.dmlw_script.specs.LineMeaning.{as_said};
 ghost use Rattle.dmlw_script.specs.Lines.{is_line_byte as is_a_line_byte};

@@ -1,5 +1,4 @@
 //! Why reading a script ends at a line.
-//! Its clauses are in words of `bio` and `table_line`; the search alone proves it.
 ghost use Rattle.std.specs.Prelude.{◌≡◌};
 ghost use Rattle.dmlw_script.specs.declared.line_error.LineError.TheVariants.{Memory};
 ghost use Rattle.dmlw_script.specs.declared.line_error.LineError.TheVariants as line_errors;

@@ -1,5 +1,4 @@
 //! The options of a write: flush, fua and meta, in this order.
-//! Its clauses are written in specs/inside/LineParser; the search alone proves it.
 ghost use Rattle.std.specs.Prelude.{◌≡◌, option_copied};
 ghost use Rattle.dmlw_script.specs.inside.LineParser.{options_of as the_options};
 ghost use Rattle.dmlw_script.specs.inside.LineParser.{take_word as the_taking};

@@ -1,5 +1,4 @@
 //! The parts that lines are made of: a first word, numbers and ids.
-//! Its clauses are written in specs/Ids; the search alone proves it.
 ghost use Rattle.std.specs.Prelude.{◌≡◌, ◌++◌, ◌∷◌, decimal, OnOk};
 ghost use Rattle.dmlw_script.specs.Ids.{letters_of};
 

@@ -1,5 +1,4 @@
 //! The lines of a script's head.
-//! Its clauses are written in specs/; its theorems in proofs/printed_head/.
 ghost use Rattle.std.specs.Prelude.{◌≡◌, ◌++◌, flat_map, map, OnOk};
 ghost use Rattle.dmlw_script.specs.CanonicalText.{ended_line, line_text};
 ghost use Rattle.dmlw_script.specs.Plans.{data_line, head_of, layer_line, log_line};

@@ -1,5 +1,4 @@
 //! Prints a recorder's script: `print_script` gives its one text.
-//! Its clauses are written in specs/; its theorems in proofs/printing/.
 ghost use Rattle.std.specs.Prelude.{◌≡◌, ◌<◌, ◌+◌, ◌^◌, ◌++◌, flat_map, length, IfOk, OnOk};
 ghost use Rattle.dmlw_script.specs.Grammar.{IsTextOf};
 ghost use Rattle.dmlw_script.specs.LineMeaning as parsed_lines;

@@ -1,6 +1,5 @@
 //! Reads the text of a recorder's script: `read_script`
 //! gives the script, or the first line at fault.
-//! Its clauses are written in specs/; its theorems in proofs/reader/.
 ghost use Rattle.std.specs.Prelude.{◌≡◌, ◌<◌, ◌∷◌, [], None, IfErr, IfOk, MatchOption, OnOk};
 ghost use Rattle.std.specs.Prelude.{length, option_copied, option_map};
 ghost use Rattle.dmlw_script.specs.LineMeaning.{as_said};

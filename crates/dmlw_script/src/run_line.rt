@@ -1,5 +1,4 @@
 //! What a line of a run's script says by its words alone.
-//! Its clauses are written in specs/inside/RunLineParser; the search alone proves it.
 ghost use Rattle.std.specs.Prelude.{◌≡◌, IfErr, IfOk, Some, option_copied};
 ghost use Rattle.dmlw_script.specs.inside.RunLineParser.{call_of as the_call, mark_call};
 ghost use Rattle.dmlw_script.specs.inside.RunLineParser.{parse_run_line, run_head_line};

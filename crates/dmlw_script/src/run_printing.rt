@@ -1,5 +1,4 @@
 //! Prints a run's script as one text.
-//! Its clauses are written in specs/; its theorems in proofs/run_printing/.
 ghost use Rattle.std.specs.Prelude.{◌≡◌, ◌++◌, flat_map, map, IfOk, OnOk};
 ghost use Rattle.dmlw_script.specs.RunGrammar.{IsRunText};
 ghost use Rattle.dmlw_script.specs.RunPlans.{run_head};

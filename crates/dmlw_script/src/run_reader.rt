@@ -1,5 +1,4 @@
 //! Reads a script of `dmlw run`.
-//! Its clauses are written in specs/; its theorems in proofs/run_reader/.
 ghost use Rattle.std.specs.Prelude.{IfErr, IfOk};
 ghost use Rattle.bio.specs.Sizes.{bytes_of};
 ghost use Rattle.dmlw_script.specs.RunGrammar.{IsRunText};

@@ -1,5 +1,4 @@
 //! A run's script: its disks, its seats, and what they do.
-//! Its clauses are written in specs/Plans and specs/RunPlans; the search alone proves it.
 ghost use Rattle.std.specs.Prelude.{◌≡◌, ◌/◌, ◌≤◌};
 
 use crate::disk::DiskSpec;

@@ -1,5 +1,4 @@
 //! A script that was read: its disks, its commands, and the crash that ends it, if one does.
-//! Its clauses are written in specs/Plans; the search alone proves it.
 ghost use Rattle.std.specs.Prelude.{◌≡◌, ◌≤◌, ◌/◌, option_copied, option_map};
 
 use crate::command::Command;

@@ -1,5 +1,4 @@
 //! The id by which a script's lines name a request.
-//! Its clauses are written in specs/Ids and specs/Texts; its theorems in proofs/script_id/.
 ghost use Rattle.std.specs.Prelude.{◌≡◌, ◌≤◌, Some, length};
 ghost use Rattle.std.specs.List.{list_all};
 ghost use Rattle.dmlw_script.specs.Ids.{is_name_byte as is_id_byte, is_id as is_an_id};

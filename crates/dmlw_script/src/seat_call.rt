@@ -1,5 +1,4 @@
 //! What a line of a run's body says: a seat, and what it does.
-//! The search alone proves it.
 use crate::command::Submission;
 use bio::Bytes;
 

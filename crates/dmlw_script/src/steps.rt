@@ -1,5 +1,4 @@
 //! The lines that are no submissions: ends, marks, turns, moments and messages.
-//! Its clauses are written in specs/CanonicalText and specs/Grammar; the search alone proves it.
 ghost use Rattle.std.specs.Prelude.{◌≡◌, ◌++◌, ◌∷◌, codes, decimal, OnOk};
 ghost use Rattle.dmlw_script.specs.Grammar.{message_verb};
 ghost use Rattle.dmlw_script.specs.CanonicalText.{step_text};

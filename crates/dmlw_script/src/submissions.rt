@@ -1,5 +1,4 @@
 //! The lines of submissions.
-//! Its clauses are written in specs/; the search alone proves it.
 ghost use Rattle.std.specs.Prelude.{◌≡◌, ◌<◌, ◌++◌, ◌∷◌, decimal, OnOk};
 ghost use Rattle.dmlw_script.specs.Grammar.{spaced};
 ghost use Rattle.dmlw_script.specs.Ids.{letters_of};

@@ -1,5 +1,4 @@
 //! The values that words of a line say: the picks of a crash, and a byte.
-//! Its clauses are written in specs/; its theorems in proofs/values/.
 ghost use Rattle.std.specs.Prelude.{◌≡◌, IfErr, IfOk, Some, option_copied};
 ghost use Rattle.dmlw_script.specs.inside.Readers.{HasNoPicks};
 ghost use Rattle.dmlw_script.specs.inside.LineParser.{picks_of as the_picks};

@@ -1,5 +1,4 @@
 -- How far a call got over the blocks of a device.
--- Its own crate alone cites it, for the theorems of src/blocks.rt.
 use Rattle.std.proofs.Common.{◌≡◌, ℕ, suc, ◌+◌, ◌-◌, ◌*◌, ◌/◌, ◌<◌, ◌≤◌, Bool, true, false}
 use Rattle.std.proofs.Common.{◌&&◌, Option, None, Ok, Err, length, take, drop}
 use Rattle.std.proofs.Common.{replicate, refl, ap, sym, subst, ◌∙◌, inl, inr, arith}

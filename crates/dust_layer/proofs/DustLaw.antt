@@ -1,2 +1,1 @@
 -- The law of a device whose calls go block by block over another one.
--- Nothing cites it: it is checked with its crate.

@@ -1,5 +1,4 @@
 -- Blocks of so many sectors that begin within a layer of so many, and blocks that don't.
--- Nothing cites it: it is checked with its crate.
 use Rattle.std.proofs.Common.{arith}
 use Rattle.dust_layer.specs.Orders.{IsWithin}
 

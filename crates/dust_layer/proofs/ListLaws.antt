@@ -1,5 +1,4 @@
 -- What calls and messages leave of the list, the mode and the counts, by what is said that they do.
--- Nothing cites it: it is checked with its crate.
 use Rattle.std.proofs.Common.{◌≡◌, ℕ, ◌+◌, ◌-◌, ◌/◌, ◌*◌, ◌<◌, ◌≤◌, Bool, true, false, Ok, Err}
 use Rattle.std.proofs.Common.{List, length, Some, None, refl, subst, inl, inr, ◌∙◌, arith}
 use Rattle.std.specs.Prelude.{Result, is_some, nat_lt}

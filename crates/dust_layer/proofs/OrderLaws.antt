@@ -1,5 +1,4 @@
 -- What the reader finds is what the orders' words say.
--- Its own crate alone cites it, for the theorems of src/order.rt.
 use Rattle.std.proofs.Common.{◌≡◌, ℕ, ◌<◌, ◌≤◌, Bool, true, false, cond, List, [], ◌∷◌, ◌++◌}
 use Rattle.std.proofs.Common.{Option, Some, None, ◌⊎◌, inl, inr, ⊎_elim, refl, ap, subst, ◌∙◌, sym}
 use Rattle.std.proofs.Common.{arith}

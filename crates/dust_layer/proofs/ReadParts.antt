@@ -1,5 +1,4 @@
 -- How far a read over the blocks of a device got, and which bytes it has put into the buffer.
--- Its own crate alone cites it, for the theorems of src/blocks.rt.
 use Rattle.std.proofs.Common.{◌≡◌, ℕ, zero, suc, ◌+◌, ◌-◌, ◌*◌, ◌/◌, ◌<◌, ◌≤◌, false}
 use Rattle.std.proofs.Common.{◌++◌, Ok, Err, List, length, take, drop}
 use Rattle.std.proofs.Common.{refl, ap, sym, subst, ◌∙◌, inl, inr, arith}

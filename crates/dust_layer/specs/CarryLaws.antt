@@ -1,6 +1,5 @@
 -- What a device does beneath bad blocks, said of what is made of that device: where each of its
 -- calls is carried over, so is a call that goes block by block.
--- Any crate above may cite it.
 use Rattle.std.proofs.Common.{ℕ, zero, suc, ◌+◌, Ok, Err, ap, subst, sym}
 use Rattle.std.specs.Prelude.{Result}
 use Rattle.bio.specs.declared.outcome.DevError.{DevError}

@@ -1,5 +1,4 @@
 -- What a write or a discard asks for.
--- Any crate above may cite it.
 use Rattle.std.specs.Prelude.{ℕ, Bool, false}
 use Rattle.blockdev.specs.Calls.{Call, Discards, Writes}
 use Rattle.dust_layer.specs.declared.parts.Change.{Change}

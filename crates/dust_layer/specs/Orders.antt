@@ -1,6 +1,5 @@
 -- The orders that a device with bad blocks takes as messages: which words ask for each, and what
 -- each answers and leaves.
--- Any crate above may cite it.
 use Rattle.std.specs.Prelude.{◌≡◌, ℕ, ◌*◌, ◌<◌, ◌≤◌, Bool, true, false, List, [], ◌∷◌, Some, None}
 use Rattle.std.specs.Prelude.{Result, Ok, Err, codes, is_some}
 use Rattle.std.specs.List.{join_with_byte}

@@ -1,5 +1,4 @@
 -- The sizes of blocks, and the words for what a device does about bad ones.
--- Any crate above may cite it.
 use Rattle.std.specs.Prelude.{ℕ, ◌<◌, ◌≤◌, List, codes}
 use Rattle.std.proofs.Common.{refl, arith}
 use Rattle.table_line.specs.Ranges.{IsBlockSize}

@@ -1,5 +1,4 @@
 -- How a call goes over a device block by block.
--- Any crate above may cite it.
 use Rattle.std.specs.Prelude.{◌≡◌, ℕ, zero, suc, ◌+◌, ◌-◌, ◌*◌, ◌/◌, ◌<◌, ◌≤◌, min, max, Bool, true}
 use Rattle.std.specs.Prelude.{false, List, length, take, drop, Some, is_some, nat_lt, Ok, Err}
 use Rattle.std.specs.Prelude.{Result}

@@ -1,6 +1,5 @@
 //! Does what a message to a device with bad blocks asks for, or refuses it.
 //! `Dust` calls `apply` for each order that `order` reads.
-//! Its clauses are written in specs/BadBlocks and specs/Orders; the search alone proves it.
 ghost use Rattle.std.specs.Prelude.{◌<◌, ◌↔◌, IsTrue};
 ghost use Rattle.dust_layer.specs.BadBlocks.{listed};
 ghost use Rattle.dust_layer.specs.Orders.{IsAnswered, IsWithin};

@@ -1,6 +1,5 @@
 //! The list of bad blocks of a device, each with the count of writes and discards that it fails.
 //! Calls change it block by block (`blocks`), and messages do (`apply`).
-//! Its clauses are written in specs/BadBlocks; the search alone proves it.
 ghost use Rattle.std.specs.Prelude.{◌≡◌, ◌-◌, IfErr, Err, Ok, OnErr, OnOk, Some, None, false};
 ghost use Rattle.std.specs.Prelude.{is_some, nat_lt, true};
 ghost use Rattle.blockdev.specs.declared.message.MessageError.TheVariants.{AlreadyBad, Memory};

@@ -1,6 +1,5 @@
 //! Writes, discards and reads that go block by block, as far as the first block that fails them.
 //! `Dust` does its calls so where bad blocks fail calls.
-//! Its clauses are written in specs/; its theorems in proofs/blocks/.
 ghost use Rattle.std.specs.Prelude.{◌≡◌, ◌<◌, ◌≤◌, ◌/◌, OnOk, length};
 ghost use Rattle.blockdev.specs.Calls.{IsByteRange, IsRange, Reads};
 ghost use Rattle.blockdev.specs.Law.{DeviceFrame, WriteDone, NoLie, CrashSetKept};

@@ -1,6 +1,5 @@
 //! The layer with bad blocks, as Linux's dm-dust has them: `Dust`, a block device over another one.
 //! In bypass it passes every call; else reads, writes and discards go block by block.
-//! Its clauses are written in specs/; the search alone proves it.
 ghost use Rattle.std.proofs.Props.{props};
 ghost use Rattle.table_line.specs.Ranges.{IsBlockSize};
 ghost use Rattle.dust_layer.specs.Sizes.{IsBlock};

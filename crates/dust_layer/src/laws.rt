@@ -1,6 +1,5 @@
 //! The law of a device with bad blocks, apart from the code: the function does nothing.
 //! Where bad blocks fail calls, what ended Ok touched no block that fails it.
-//! Its clauses are written in specs/; the search alone proves it.
 ghost use Rattle.std.specs.Prelude.{◌≡◌, ◌/◌, Bool, List, None, Ok, length, ℕ};
 ghost use Rattle.blockdev.specs.Calls.{Discards, Reads, Writes};
 ghost use Rattle.dust_layer.specs.declared.dust.Dust.{Dust};

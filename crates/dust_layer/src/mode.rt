@@ -1,6 +1,5 @@
 //! The two modes of a device with bad blocks, and dm-dust's words for them.
 //! The messages `enable` and `disable` change the mode of a `Dust`.
-//! Its clauses are written in specs/MessageRule and specs/Sizes; the search alone proves it.
 ghost use Rattle.dust_layer.specs.MessageRule.{is_enabled};
 ghost use Rattle.dust_layer.specs.Sizes.{mode_text};
 

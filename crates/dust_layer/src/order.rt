@@ -1,6 +1,5 @@
 //! Reads the order that a message to a device with bad blocks gives, in dm-dust's words.
 //! `Dust` hands the order to `apply`; a message that gives none is a bad one.
-//! Its clauses are written in specs/; its theorems in proofs/order/.
 ghost use Rattle.std.specs.Prelude.{◌≡◌, ◌↔◌, ◌<◌, Some, option_copied};
 ghost use Rattle.dust_layer.specs.declared.order.Order.{Order};
 ghost use Rattle.dust_layer.specs.Orders.{AsksFor};

@@ -1,6 +1,5 @@
 //! The part of a call that falls on some of its sectors, done on the device beneath.
 //! `blocks` calls it for each block that a write, a discard or a read touches.
-//! Its clauses are written in specs/Change and specs/Walk; its theorems in proofs/parts/.
 ghost use Rattle.std.specs.Prelude.{◌≡◌, ◌<◌, ◌≤◌, ◌+◌, ◌-◌, ◌*◌, ◌/◌, OnOk, drop, length};
 ghost use Rattle.std.specs.Prelude.{take};
 ghost use Rattle.blockdev.specs.Calls.{IsByteRange, IsRange, Reads};

@@ -1,6 +1,5 @@
 -- For each clause of what becomes of a call that a gate decides about, devices that break it and
 -- nothing else, and are refused by it.
--- Nothing cites it: it is checked with its crate.
 use Rattle.std.proofs.Common.{◌≡◌, ℕ, ◌+◌, List, [], ◌∷◌, Ok, Err, slice_index_or, refl, ap, ◌∙◌}
 use Rattle.std.proofs.Common.{arith}
 use Rattle.bio.specs.declared.outcome.DevError.TheVariants.{Io}

@@ -1,5 +1,4 @@
 -- Worked decisions, by computation.
--- Nothing cites it: it is checked with its crate.
 use Rattle.std.proofs.Common.{◌≡◌, ℕ, true, false, [], ◌∷◌, refl}
 use Rattle.std.specs.Prelude.{◌-◌, ◌^◌}
 use Rattle.blockdev.specs.Calls.{Discards, Flushes}

@@ -1,5 +1,4 @@
 -- What a device does with a call about which its gate decides.
--- Any crate above may cite it.
 use Rattle.std.specs.Prelude.{◌≡◌, ◌≤◌, ℕ, Err, Ok, Result}
 use Rattle.bio.specs.declared.outcome.DevError.{DevError}
 use Rattle.bio.specs.declared.outcome.DevError.TheVariants.{Io}

@@ -1,5 +1,4 @@
 -- The rule of the device whose calls begin later.
--- Any crate above may cite it.
 use Rattle.std.proofs.Common.{◌≡◌, ℕ, Ok, refl}
 use Rattle.blockdev.specs.Calls.{Call, Discards, Flushes, Reads, Writes}
 use Rattle.bio.specs.Moments.{later_by}

@@ -1,5 +1,4 @@
 -- A layer that may not drop calls drops none, and none learns to.
--- Any crate above may cite it.
 use Rattle.std.proofs.Common.{◌≡◌, ℕ, Bool, zero, suc, true, false, refl}
 use Rattle.table_line.specs.declared.feature.Feature.{Feature}
 use Rattle.table_line.specs.declared.feature.Feature.TheVariants as features

@@ -1,5 +1,4 @@
 -- The rule of the device that fails.
--- Any crate above may cite it.
 use Rattle.std.specs.Prelude.{ℕ}
 use Rattle.fault_layers.specs.declared.gate.Kind.{Kind}
 use Rattle.fault_layers.specs.declared.gate.Verdict.{Verdict}

@@ -1,5 +1,4 @@
 -- The rule of the fuse, by how many calls it passes yet.
--- Any crate above may cite it.
 use Rattle.std.specs.Prelude.{ℕ, zero, suc, ◌-◌}
 use Rattle.fault_layers.specs.declared.gate.Kind.{Kind}
 use Rattle.fault_layers.specs.declared.gate.Kind.TheVariants.{Discard, Flush, Read, Write}

@@ -1,6 +1,5 @@
 //! The delay layer: each call reaches the device beneath so many milliseconds later.
 //! `layer_table` makes its gate of a `delay` line.
-//! Its clauses are written in specs/; the search alone proves it.
 use crate::gate::{Gate, Kind, Verdict};
 use crate::gated::Gated;
 use bio::Ms;

@@ -1,6 +1,5 @@
 //! The error layer: every call fails, and the device beneath isn't called.
 //! `layer_table` uses its gate for an `error` line.
-//! Its clauses are written in specs/; the search alone proves it.
 ghost use Rattle.std.specs.Prelude.{◌≡◌, false};
 
 use crate::gate::{Gate, Kind, Verdict};

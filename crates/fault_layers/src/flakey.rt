@@ -1,6 +1,5 @@
 //! The flakey layer: it works for some seconds and is unreliable for some, in turn.
 //! `layer_table` makes its gate of a `flakey` line.
-//! Its clauses are written in specs/; the search alone proves it.
 ghost use Rattle.fault_layers.specs.FlakeyRule.{Cycle};
 ghost use Rattle.table_line.specs.Ranges.{IsCycle};
 

@@ -1,6 +1,5 @@
 //! The fuse layer: after so many writes, discards and flushes each later one fails.
 //! `layer_table` makes its gate of a `fuse` line.
-//! Its clauses are written in specs/; the search alone proves it.
 use crate::gate::{Gate, Kind, Verdict};
 use crate::gated::Gated;
 use bio::Ms;

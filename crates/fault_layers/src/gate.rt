@@ -1,6 +1,5 @@
 //! What decides, call by call, whether the device beneath does it, and when: `Gate`.
 //! The delay, error, flakey and fuse layers each have one, and `Gated` asks it.
-//! The search alone proves it.
 ghost use Rattle.std.specs.Prelude.{◌≡◌, ℕ, Bool, false};
 ghost use Rattle.fault_layers.specs.declared.gate.Kind.{Kind};
 ghost use Rattle.fault_layers.specs.declared.gate.Kind.TheVariants.{Read};

@@ -1,6 +1,5 @@
 //! The one device over all gates: it asks its gate about each call, and counts faults and lies.
 //! The delay, error, flakey and fuse layers are this device.
-//! Its clauses are written in specs/Decision; the search alone proves it.
 use crate::gate::{Gate, Kind, Verdict};
 use bio::{DevError, Ms};
 use blockdev::{BlockDev, Message, MessageError};

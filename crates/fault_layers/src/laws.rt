@@ -1,5 +1,4 @@
 //! Laws of the layers, apart from the code: each function does nothing, and its clause is the law.
-//! Its clauses are written in specs/Decision and specs/DelayRule; the search alone proves it.
 ghost use Rattle.std.specs.Prelude.{◌≡◌, Ok, ℕ};
 ghost use Rattle.bio.specs.Moments.{later_by};
 ghost use Rattle.blockdev.specs.Calls.{Call};

@@ -1,6 +1,5 @@
 //! The linear layer: a range of another device's sectors as a device of its own.
 //! `layer_table` puts one beneath each layer that it makes.
-//! Its clauses are written in specs/Window and specs/WindowLaws; its theorems in proofs/linear/.
 ghost use Rattle.std.proofs.Props.{props};
 ghost use Rattle.blockdev.specs.Calls.{IsRange};
 

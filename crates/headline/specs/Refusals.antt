@@ -1,6 +1,5 @@
 -- The refusal that is shown for a log that wasn't reopened and replayed.
 -- `ReopenError` in `src/reopening.rt` turns into it.
--- Any crate above may cite it.
 use Rattle.refusals.specs.declared.refusal.Refusal.{Refusal}
 use Rattle.log_reader.specs.Refusals.{open_device_refusal}
 use Rattle.replay.specs.Refusals.{replay_refusal}

@@ -1,6 +1,5 @@
 //! Laws about the headline, apart from the code: what it promises is never empty, and a crash leaves
 //! what `reopen_and_replay` asks for. Each function does nothing: its contract is the law.
-//! Its clauses are written in specs/Headline; its theorems in proofs/laws/.
 ghost use Rattle.std.specs.Prelude.{◌≡◌, ◌≤◌, ℕ, List, length};
 ghost use Rattle.bio.specs.Content.{AgreeBelow, Content};
 ghost use Rattle.bio.specs.declared.event.CoreEvent.{CoreEvent};

@@ -1,5 +1,4 @@
 -- Verdicts by computation: two writes of sector 3, both ended, and a flush after them.
--- Nothing cites it: it is checked with its crate.
 use Rattle.std.proofs.Common.{◌≡◌, ℕ, zero, suc, true, false, None, Some, List, [], ◌∷◌, length}
 use Rattle.std.proofs.Common.{take, get_or, slice_get, replicate, refl, ap, sym, ◌∙◌, inl, inr}
 use Rattle.std.proofs.Common.{arith}

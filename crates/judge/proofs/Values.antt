@@ -1,5 +1,4 @@
 -- The values that requests have for a sector.
--- Its own crate alone cites it, for the theorems of src/held.rt.
 use Rattle.std.proofs.Common.{◌≡◌, ℕ, ◌+◌, ◌-◌, ◌*◌, ◌/◌, ◌<◌, ◌≤◌, false, List, take, drop}
 use Rattle.std.proofs.Common.{replicate, ap, sym, ◌∙◌, inl, inr, arith}
 use Rattle.std.proofs.lemmas.List.{drop-replicate, take-replicate}

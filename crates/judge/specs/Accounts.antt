@@ -1,5 +1,4 @@
 -- What a list of events and an image come to, sector by sector.
--- Any crate above may cite it.
 use Rattle.std.specs.Prelude.{◌≡◌, ℕ, zero, suc, ◌<◌, Bool, false, not, ◌&&◌, Option, Some, None}
 use Rattle.std.specs.Prelude.{List, length, get_or, slice_get, if◌then◌else◌}
 use Rattle.std.specs.Str.{bytes_eq}

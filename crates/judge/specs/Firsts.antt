@@ -1,5 +1,4 @@
 -- What was on a device before the first event.
--- Any crate above may cite it.
 use Rattle.std.specs.Prelude.{◌≡◌, ℕ, List, length, replicate}
 use Rattle.bio.specs.Content.{Content, sector_of}
 use Rattle.judge.specs.declared.first.First.{First}

@@ -1,6 +1,5 @@
 //! What events and an image come to, sector by sector, and the verdict on the image that follows
 //! from it. `could_hold` makes one account and asks for its verdict.
-//! Its clauses are written in specs/; its theorems in proofs/accounts/.
 ghost use Rattle.std.specs.Prelude.{◌≡◌, ◌/◌, ◌%◌, ◌<◌, IfOk, List, length, true};
 ghost use Rattle.bio.specs.declared.event.CoreEvent.{CoreEvent};
 ghost use Rattle.bio.specs.Lawful.{is_lawful};

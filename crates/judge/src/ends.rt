@@ -1,6 +1,5 @@
 //! Where each request of an event list ended, in one pass; whether it succeeded or came before
 //! another. `Account::of` begins with it.
-//! Its clauses are written in specs/Accounts and specs/inside/Last; its theorems in proofs/ends/.
 ghost use Rattle.std.specs.Prelude.{◌≡◌, ◌==◌, ◌&&◌, ◌≤◌, IfOk, Some, length, nat_lt, ℕ};
 ghost use Rattle.bio.specs.Events.{is_end_of};
 ghost use Rattle.bio.specs.Possible.{ended_ok, is_success};

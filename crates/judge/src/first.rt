@@ -1,5 +1,4 @@
 // The first content, before any event.
-// The search alone proves it.
 
 /// What was on a device before the first event.
 #[derive(Clone, Copy, Debug)]

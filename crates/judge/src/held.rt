@@ -1,6 +1,5 @@
 //! For each sector of an image, the latest request whose value it has and could
 //! still hold. `Account::of` ends with it.
-//! Its clauses are written in specs/; its theorems in proofs/held/.
 ghost use Rattle.std.specs.Prelude.{◌≡◌, ◌&&◌, ◌<◌, ◌≤◌, ◌⊎◌, ◌+◌, ◌*◌, ◌/◌, IfOk};
 ghost use Rattle.std.specs.Prelude.{MatchOption, Option, Some, if◌then◌else◌, length};
 ghost use Rattle.std.specs.Prelude.{ℕ};

@@ -1,5 +1,4 @@
 //! Judges an image: `could_hold` says whether a device could have held it, had power failed then.
-//! Its clauses are written in specs/Firsts and specs/Verdicts; its theorems in proofs/images/.
 ghost use Rattle.std.specs.Prelude.{◌≡◌, ◌/◌, ◌%◌, IfOk, length, take, true};
 ghost use Rattle.bio.specs.Lawful.{is_lawful};
 ghost use Rattle.bio.specs.Content.{sector_of};

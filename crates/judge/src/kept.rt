@@ -1,5 +1,4 @@
 //! For each sector, the durable request over it that was submitted last: it rules out older values.
-//! Its clauses are written in specs/Accounts and specs/inside/Last; its theorems in proofs/kept/.
 ghost use Rattle.std.specs.Prelude.{◌≡◌, ◌&&◌, ◌<◌, ◌≤◌, IfOk, Some, false, true, length};
 ghost use Rattle.std.specs.Prelude.{slice_get, ℕ};
 ghost use Rattle.bio.specs.declared.event.CoreEvent.TheVariants.{Submit};

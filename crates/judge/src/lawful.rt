@@ -1,6 +1,5 @@
 //! Decides whether a recorder may have recorded a list of events: `is_lawful`,
 //! which `could_hold` requires.
-//! Its clauses are in words of `bio`; its theorems in proofs/lawful/.
 ghost use Rattle.std.specs.Prelude.{◌≡◌, ◌<◌, Some, is_none, length, slice_get};
 ghost use Rattle.bio.specs.Events.{end_of, is_close, is_end_of, is_open_at, is_request, is_stop};
 ghost use Rattle.bio.specs.Lawful.{can_follow, has_no_close, has_no_stop, is_lawful, is_recording};

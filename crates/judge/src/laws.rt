@@ -1,5 +1,4 @@
 //! What holds of verdicts: an image has one; the last flush and the last durable request decide.
-//! Its clauses are written in specs/Latest and specs/Verdicts; its theorems in proofs/laws/.
 ghost use Rattle.std.specs.Prelude.{◌≡◌, ◌&&◌, ◌||◌, List, Option, slice_get, ℕ};
 ghost use Rattle.bio.specs.declared.event.CoreEvent.{CoreEvent};
 ghost use Rattle.bio.specs.Events.{is_before, submits};

@@ -1,6 +1,5 @@
 //! The answer of `could_hold`, and its text: `yes`, or the lowest sector that fails
 //! and what rules it out.
-//! Its clauses are written in specs/Texts; the search alone proves it.
 ghost use Rattle.std.specs.Prelude.{Some};
 ghost use Rattle.judge.specs.Texts.{reason_text, verdict_text};
 

@@ -1,6 +1,5 @@
 -- For each clause of what a stack shows and of what becomes of a call at a layer, what breaks it
 -- and nothing else, and is refused by it.
--- Nothing cites it: it is checked with its crate.
 use Rattle.std.proofs.Common.{◌≡◌, ◌⊎◌, ℕ, ◌+◌, true, false, List, [], ◌∷◌, Ok, Err, replicate}
 use Rattle.std.proofs.Common.{slice_index_or, refl, sym, ap, ◌∙◌, inr, arith}
 use Rattle.bio.specs.declared.outcome.DevError.TheVariants.{Io}

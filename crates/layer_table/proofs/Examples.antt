@@ -1,5 +1,4 @@
 -- The definitions on examples: what holds, and what doesn't.
--- Nothing cites it: it is checked with its crate.
 use Rattle.std.proofs.Common.{◌≡◌, true, false, [], ◌∷◌, refl}
 use Rattle.blockdev.specs.View.{View}
 use Rattle.fault_layers.specs.declared.gate.Kind.TheVariants as kinds

@@ -1,6 +1,5 @@
 -- What messages leave of a stack's layers, and what a layer
 -- that was put shows, by what is said of them.
--- Nothing cites it: it is checked with its crate.
 use Rattle.std.proofs.Common.{◌≡◌, ℕ, ◌+◌, ◌≤◌, List, [], Ok, refl, inl, inr, arith}
 use Rattle.std.specs.Prelude.{◌↔◌, Result}
 use Rattle.blockdev.specs.Calls.{Call}

@@ -1,5 +1,4 @@
 -- No gate drops a read, or a call that it may not drop.
--- Any crate above may cite it.
 use Rattle.std.proofs.Common.{◌≡◌, ℕ, false, refl}
 use Rattle.fault_layers.specs.declared.gate.Kind.{Kind}
 use Rattle.fault_layers.specs.declared.gate.Kind.TheVariants.{Read}

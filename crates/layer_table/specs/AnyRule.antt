@@ -1,5 +1,4 @@
 -- The rule of a gate, by which gate it is.
--- Any crate above may cite it.
 use Rattle.std.specs.Prelude.{ℕ, Bool, false}
 use Rattle.fault_layers.specs.declared.gate.Kind.{Kind}
 use Rattle.fault_layers.specs.declared.gate.Verdict.{Verdict}

@@ -1,5 +1,4 @@
 -- What a slot shows and does, by the layers.
--- Any crate above may cite it.
 use Rattle.std.proofs.Common.{◌≡◌, ℕ, suc, Bool, true, false, List, [], length, Result, refl, ap}
 use Rattle.std.proofs.Common.{subst, sym, ◌∙◌}
 use Rattle.bio.specs.declared.outcome.DevError.{DevError}

@@ -1,5 +1,4 @@
 -- The layers of a stack, and the disk beneath them.
--- Any crate above may cite it.
 use Rattle.std.specs.Prelude.{◌≡◌, ◌↔◌, ℕ, zero, suc, length, ◌⊎◌, ◌+◌, ◌/◌, ◌<◌, ◌≤◌, ◌||◌, false}
 use Rattle.std.specs.Prelude.{List, [], ◌∷◌, ◌++◌, None, Result, Err, Ok}
 use Rattle.bio.specs.declared.outcome.DevError.{DevError}

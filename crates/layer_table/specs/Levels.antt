@@ -1,5 +1,4 @@
 -- Which slots of a stack have a layer, and the disk beneath them.
--- Any crate above may cite it.
 use Rattle.std.specs.Prelude.{Bool, List, []}
 use Rattle.blockdev.specs.declared.device.BlockDev.{Ghosts}
 use Rattle.sector_disk.specs.declared.disk.SectorDisk.{SectorDisk}

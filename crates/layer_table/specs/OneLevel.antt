@@ -1,5 +1,4 @@
 -- The lowest slot, over the disk.
--- Any crate above may cite it.
 use Rattle.std.specs.Prelude.{◌≡◌, ℕ, Err, List, Result}
 use Rattle.bio.specs.declared.outcome.DevError.{DevError}
 use Rattle.blockdev.specs.declared.message.MessageError.{MessageError}

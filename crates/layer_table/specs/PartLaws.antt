@@ -1,5 +1,4 @@
 -- What stands over a disk shows a part of it.
--- Any crate above may cite it.
 use Rattle.std.proofs.Common.{ℕ, ◌+◌, ap, refl, ◌∙◌, arith}
 use Rattle.blockdev.specs.declared.device.BlockDev.{Ghosts}
 use Rattle.blockdev.specs.Calls.{IsRange}

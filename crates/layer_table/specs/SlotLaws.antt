@@ -1,5 +1,4 @@
 -- A place for a layer keeps the law of a device, and whether a layer stands there.
--- Any crate above may cite it.
 use Rattle.std.proofs.Common.{◌≡◌, ℕ, Bool, false, List, ◌∷◌, Result, refl, ap, ◌∙◌}
 use Rattle.bio.specs.declared.outcome.DevError.{DevError}
 use Rattle.bio.specs.Moments.{later_by}

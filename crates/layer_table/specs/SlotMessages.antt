@@ -1,5 +1,4 @@
 -- What becomes of a message: which layer it goes to, and what stays.
--- Any crate above may cite it.
 use Rattle.std.specs.Prelude.{◌≡◌, ℕ, ◌-◌, ◌<◌, List, Err, Result}
 use Rattle.blockdev.specs.declared.device.BlockDev.{Ghosts}
 use Rattle.blockdev.specs.declared.message.MessageError.{MessageError}

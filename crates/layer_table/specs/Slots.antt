@@ -1,5 +1,4 @@
 -- A place for a layer: what is shown of it, and what its calls do.
--- Any crate above may cite it.
 use Rattle.std.specs.Prelude.{◌≡◌, ℕ, Bool, true, false, List, [], ◌∷◌, Result}
 use Rattle.std.specs.List.{list_all}
 use Rattle.bio.specs.declared.outcome.DevError.{DevError}

@@ -1,5 +1,4 @@
 -- Laws of stacks.
--- Any crate above may cite it.
 use Rattle.std.proofs.Common.{◌≡◌, ℕ, ◌<◌, Bool, true, false, [], ◌∷◌, length, Result, refl, ap}
 use Rattle.std.proofs.Common.{subst, sym, ◌∙◌, arith}
 use Rattle.blockdev.specs.declared.device.BlockDev.{Ghosts}

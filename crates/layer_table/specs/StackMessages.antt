@@ -1,5 +1,4 @@
 -- What becomes of a message to a layer of a stack.
--- Any crate above may cite it.
 use Rattle.std.proofs.Common.{◌≡◌, ℕ, zero, suc, ◌-◌, ◌<◌, ◌≤◌, Bool, true, List, [], ◌∷◌, Result}
 use Rattle.std.proofs.Common.{refl, ap, ◌∙◌, arith}
 use Rattle.std.specs.Prelude.{◌⊎◌}

@@ -1,5 +1,4 @@
 -- What becomes of a call at the top of layers, by the rule of the top.
--- Any crate above may cite it.
 use Rattle.std.proofs.Common.{◌≡◌, ℕ, List, [], ◌∷◌, length, Result, refl, ap, subst, sym, ◌∙◌}
 use Rattle.bio.specs.Moments.{later_by}
 use Rattle.dust_layer.specs.declared.mode.Mode.{Mode}

@@ -1,5 +1,4 @@
 -- The second slot, over the lowest.
--- Any crate above may cite it.
 use Rattle.std.specs.Prelude.{ℕ, List, Result}
 use Rattle.bio.specs.declared.outcome.DevError.{DevError}
 use Rattle.blockdev.specs.declared.message.MessageError.{MessageError}

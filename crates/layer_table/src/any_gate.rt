@@ -1,6 +1,5 @@
 //! One gate for all layers that only decide about calls: error, flakey, fuse, delay, or open.
 //! A `Slot` keeps such a layer under it, so that its type has no parameter for the gate.
-//! Its clauses are written in specs/; the search alone proves it.
 use bio::Ms;
 use fault_layers::{DelayGate, ErrorGate, FlakeyGate, FuseGate, Gate, Kind, Verdict};
 use table_line::Target;

@@ -1,5 +1,4 @@
 //! Laws of stacks, apart from the code: each function does nothing, and its clause is the law.
-//! Its clauses are written in specs/Layers; its theorems in proofs/laws/.
 ghost use Rattle.std.specs.Prelude.{◌≡◌, ◌∷◌, ℕ, List, Result};
 ghost use Rattle.bio.specs.declared.outcome.DevError.{DevError};
 ghost use Rattle.blockdev.specs.Calls.{Call};

@@ -1,6 +1,5 @@
 //! A place for one layer: the device beneath alone, a range of it under a gate, or with bad blocks.
 //! A `Stack` has four, each over the next; its calls go through them.
-//! Its clauses are written in specs/; the search alone proves it.
 use crate::any_gate::AnyGate;
 use bio::{DevError, Ms};
 use blockdev::{BlockDev, Message, MessageError};

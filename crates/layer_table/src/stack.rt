@@ -1,6 +1,5 @@
 //! A disk in memory under up to four layers, which fill the slots from the lowest up.
 //! `building` puts layers on, `device` does the calls, and `messages` hands messages to layers.
-//! Its clauses are written in specs/Levels and specs/Slots; its theorems in proofs/stack/.
 ghost use Rattle.std.specs.Prelude.{◌≡◌, true};
 ghost use Rattle.std.proofs.Props.{props};
 ghost use Rattle.layer_table.specs.Levels.{shape_of};

@@ -1,5 +1,4 @@
 -- What the rule of a keeper and its holders allows, and what it doesn't, by computation.
--- Nothing cites it: it is checked with its crate.
 use Rattle.std.proofs.Common.{◌≡◌, ◌∙◌, ℕ, zero, suc, List, [], ◌∷◌, Option, Some, None}
 use Rattle.std.proofs.Common.{true≢false, refl, sym, ap, subst, arith}
 use Rattle.std.specs.Prelude.{slice_get}

@@ -1,5 +1,4 @@
 -- Lists that are read by `slice_get`, of which one item changes or to which one is added.
--- Its own crate alone cites it, for the theorems of src/holders.rt.
 use Rattle.std.proofs.Common.{◌≡◌, ◌≢◌, ℕ, zero, suc, List, [], ◌∷◌, ◌++◌, length, set, Some, refl}
 use Rattle.std.proofs.Common.{ap}
 use Rattle.std.specs.Prelude.{slice_get}

@@ -1,5 +1,4 @@
 -- Each step keeps the rule of a keeper and its holders.
--- Its own crate alone cites it, for the theorems of src/holders.rt.
 use Rattle.std.proofs.Common.{◌≡◌, ◌≢◌, ◌⊎◌, ℕ, zero, suc, ◌<◌, List, [], ◌∷◌, ◌++◌, length, set}
 use Rattle.std.proofs.Common.{Option, Some, None, true, false, true≢false, refl, sym, ap, ◌∙◌}
 use Rattle.std.proofs.Common.{subst, inl, inr, ⊎_elim, arith, cond, eqb, eq-eqb, ne_eqb}

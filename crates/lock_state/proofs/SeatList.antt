@@ -1,5 +1,4 @@
 -- A list is compared with what the history has of a seat, event after event.
--- Its own crate alone cites it, for the theorems of src/compare.rt and src/served.rt.
 use Rattle.std.proofs.Common.{◌≡◌, ◌≢◌, ℕ, zero, suc, ◌≤◌, Bool, true, false, List, [], ◌∷◌, ◌++◌}
 use Rattle.std.proofs.Common.{length, take, drop, Option, Some, refl, ap, sym, ◌∙◌, arith}
 use Rattle.std.proofs.Common.{append_assoc}

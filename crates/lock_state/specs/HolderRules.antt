@@ -1,5 +1,4 @@
 -- The rule of a keeper and its holders, and what each step does to what a pass knows.
--- Any crate above may cite it.
 use Rattle.std.specs.Prelude.{◌≡◌, ℕ, List, [], ◌∷◌, ◌++◌, length, Option, Some, None, slice_get}
 use Rattle.std.specs.Prelude.{slice_set, true, false}
 use mathlib.Core.Option.{some}

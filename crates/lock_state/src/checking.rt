@@ -1,5 +1,4 @@
 // What the queue compares with its history when a recorder closes.
-// Its clauses are written in specs/Comparison and specs/History; the search alone proves it.
 ghost use Rattle.std.specs.Prelude.{◌≡◌, ◌≢◌, ◌<◌, ◌≤◌, IfOk, MatchBool, Option, Some, length};
 ghost use Rattle.std.specs.Prelude.{slice_get, true};
 ghost use Rattle.log_format.specs.Entries.{is_sector_size};

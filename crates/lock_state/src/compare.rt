@@ -1,5 +1,4 @@
 // What is compared when a recorder closes, as functions of lists.
-// Its clauses are written in specs/Comparison and specs/History; its theorems in proofs/compare/.
 ghost use Rattle.std.specs.Prelude.{◌≡◌, ◌≢◌, ◌⊎◌, ◌&&◌, MatchBool, Option, Some, slice_get};
 ghost use Rattle.std.specs.Prelude.{length};
 ghost use Rattle.bio.specs.declared.request.Bio.TheVariants.{Discard, Flush, Read, Write};

@@ -1,5 +1,4 @@
 // The recorded device, and the requests that were handed to it.
-// Its clauses are written in specs/Calls; its theorems in proofs/data/.
 ghost use Rattle.std.specs.Prelude.{◌≡◌, ◌⊎◌, ℕ, ◌≤◌, ◌/◌, [], ◌∷◌, ◌++◌, length, Ok, Err};
 ghost use Rattle.std.specs.Prelude.{OnOk, IfErr, true, false};
 ghost use Rattle.bio.specs.Check.{check_answer};

@@ -5,7 +5,6 @@
 //! both at hand shows that the keeper's list has, at the holder's number, just what the holder
 //! holds: so a fact that the invariant states of the keeper's list is known of what the thread
 //! itself holds. No call waits, and only the first takes memory.
-//! Its clauses are written in specs/HolderRules; its theorems in proofs/holders/.
 ghost use Rattle.std.specs.Prelude.{◌≡◌, ℕ, List, [], ◌∷◌, ◌++◌, length, Option, None, Some};
 ghost use Rattle.std.specs.Prelude.{slice_get, slice_set};
 ghost use Rattle.atomic_table.specs.Seated.{TableId};

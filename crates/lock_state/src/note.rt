@@ -1,5 +1,4 @@
 // What seats note, and why a step wasn't taken.
-// The search alone proves it.
 use crate::run::{Ends, Run};
 use crate::stop::Shown;
 use bio::{Bio, CoreEvent, End, Id};

@@ -1,5 +1,4 @@
 // What a seat keeps of its own calls.
-// Its clauses are written in specs/History and specs/PlacedItems; the search alone proves it.
 ghost use Rattle.std.specs.Prelude.{◌≡◌, ◌==◌, None, is_none, length, true, false};
 ghost use Rattle.lock_state.specs.History.{new_part, told_also, with_calls};
 ghost use Rattle.lock_state.specs.PlacedItems.{awaited_in, settles_hand};

@@ -1,5 +1,4 @@
 // What names one shared recorder.
-// Its clauses are written in specs/HolderRules and specs/PlacedItems; the search alone proves it.
 use crate::holders::Whose;
 use std::marker::{Brand, PhantomData};
 use std::sync::ledger::Ledger;

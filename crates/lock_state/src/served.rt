@@ -1,6 +1,5 @@
 // Whether each request that ended Ok was done just once. One walk over the calls and one over the
 // events, with a note for each event.
-// Its clauses are written in specs/Comparison; its theorems in proofs/served/.
 ghost use Rattle.std.specs.Prelude.{◌≡◌, ◌≤◌, ℕ, [], MatchBool, Some, length, slice_get};
 ghost use Rattle.lock_state.specs.declared.served.Seen.{Seen as Noted};
 ghost use Rattle.lock_state.specs.Comparison.{AllTell, Each, Fails, IsDoneOnce, IsNoted, IsServed};

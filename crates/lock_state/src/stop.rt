@@ -1,5 +1,4 @@
 // The first stop, and the causes that the queue and the log show each other.
-// Its clauses are written in specs/FirstStop and specs/History; the search alone proves it.
 ghost use Rattle.std.specs.Prelude.{◌≡◌, ◌⊎◌, [], Option, false, true, None, Some, IfSome};
 ghost use Rattle.refusals.specs.declared.end.End.{End as Cause};
 ghost use Rattle.refusals.specs.declared.end.End.TheVariants.{Memory};

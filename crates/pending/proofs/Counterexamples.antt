@@ -1,7 +1,6 @@
 -- What a core never is, how many links a call may change, which
 -- numbers of entries belong to a moment, and which events are alike
 -- but for their results: examples that hold and examples that don't.
--- Nothing cites it: it is checked with its crate.
 use Rattle.std.proofs.Common.{◌≡◌, true, false, List, [], ◌∷◌, length, map, replicate, refl, arith}
 use Rattle.bio.specs.declared.event.CoreEvent.{CoreEvent}
 use Rattle.bio.specs.declared.event.CoreEvent.TheVariants.{Submit, Complete, Mark, Stop, Close}

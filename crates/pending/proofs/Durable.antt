@@ -1,6 +1,5 @@
 -- What was durable at a moment is queued by then, and what a request finds ended before it, where
 -- they overlap or it has a flush, is queued first.
--- Its own crate alone cites it, for the theorems of src/laws.rt and src/plain.rt.
 use Rattle.std.proofs.Common.{◌≡◌, ℕ, ◌<◌, ◌≤◌, Bool, true, false, not, ◌&&◌, ◌||◌, Option, Some}
 use Rattle.std.proofs.Common.{None, List, [], ◌∷◌, ◌++◌, length, take, drop, refl, ap, sym, ◌∙◌}
 use Rattle.std.proofs.Common.{subst, inl, inr, arith, append-nil, append_assoc, length-append}

@@ -1,5 +1,4 @@
 -- What replaying entries leaves in a sector: the value of the last entry that has one.
--- Its own crate alone cites it, for the theorems of src/laws.rt and src/plain.rt.
 use Rattle.std.proofs.Common.{◌≡◌, ℕ, zero, suc, ◌*◌, ◌<◌, Option, Some, None, List, [], ◌∷◌, true}
 use Rattle.std.proofs.Common.{length, take, refl, ap, sym, ◌∙◌, inl, inr, arith}
 use Rattle.std.specs.Prelude.{◌⊎◌, slice_get, option_map, unwrap_or}

@@ -1,5 +1,4 @@
 -- The words of the ordered list: examples that hold, and examples that don't.
--- Nothing cites it: it is checked with its crate.
 use Rattle.std.proofs.Common.{◌≡◌, ℕ, zero, suc, ◌<◌, true, false, Some, List, [], ◌∷◌, replicate}
 use Rattle.std.proofs.Common.{refl, sym, ◌∙◌, arith}
 use Rattle.std.specs.Prelude.{slice_get}

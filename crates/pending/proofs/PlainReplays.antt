@@ -1,5 +1,4 @@
 -- What replaying entries leaves, in plain words.
--- Its own crate alone cites it, for the theorems of src/plain.rt.
 use Rattle.std.proofs.Common.{◌≡◌, ℕ, zero, suc, ◌<◌, true, Some, None, List, [], ◌∷◌}
 use Rattle.std.proofs.Common.{subst, take, refl, ap, sym, ◌∙◌, inl, inr}
 use Rattle.std.proofs.Math.Nat.{eq-or-lt_of_le}

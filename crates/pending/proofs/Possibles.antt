@@ -1,5 +1,4 @@
 -- Replaying a beginning of the log gives what the device could hold.
--- Its own crate alone cites it, for the theorems of src/laws.rt and src/plain.rt.
 use Rattle.std.proofs.Common.{◌≡◌, ℕ, suc, ◌+◌, ◌-◌, ◌/◌, ◌<◌, ◌≤◌, true, false, ◌&&◌, ◌||◌, Option}
 use Rattle.std.proofs.Common.{Some, None, List, length, take, drop, replicate, refl, ap, sym, ◌∙◌}
 use Rattle.std.proofs.Common.{inl, inr, arith}

@@ -1,5 +1,4 @@
 -- The queue rule in the words of chains and needs.
--- Its own crate alone cites it, for the theorems of src/laws.rt and src/plain.rt.
 use Rattle.std.proofs.Common.{◌≡◌, ℕ, zero, suc, ◌<◌, true, false, ◌&&◌, ◌||◌, Some, None, List}
 use Rattle.std.proofs.Common.{length, ap, sym, ◌∙◌, inl, inr}
 use Rattle.std.proofs.lemmas.Bool.{and_parts, lt-ltb, ltb-true}

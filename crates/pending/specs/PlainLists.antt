@@ -1,5 +1,4 @@
 -- The lists that the plain words are held against.
--- Any crate above may cite it.
 use Rattle.std.specs.Prelude.{ℕ, List, map, slice_get}
 use Rattle.bio.specs.declared.event.CoreEvent.{CoreEvent}
 use Rattle.log_format.specs.declared.entry.Entry.{Entry}

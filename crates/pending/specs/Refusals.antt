@@ -1,6 +1,5 @@
 -- The refusals that a mark and a close of the core are shown by; the conversions
 -- in `recording` give these.
--- Any crate above may cite it.
 use Rattle.refusals.specs.declared.refusal.Refusal.{Refusal}
 use Rattle.refusals.specs.declared.refusal.Refusal.TheVariants as refusals
 use Rattle.pending.specs.declared.recording.CloseError.{CloseError}

@@ -1,6 +1,5 @@
 -- An event list's ends taken as successes, for `results_are_ignored`: results
 -- don't change the log.
--- Any crate above may cite it.
 use Rattle.std.specs.Prelude.{true}
 use Rattle.bio.specs.declared.event.CoreEvent.{CoreEvent}
 use Rattle.bio.specs.declared.event.CoreEvent.TheVariants.{Submit, Complete, Mark, Stop, Close}

@@ -1,5 +1,4 @@
 -- The definitions of `pending` that its proofs alone use: no other crate cites them.
--- Any crate above may cite it.
 pub mod Release
 pub mod SectorBits
 pub mod Covers

@@ -1,5 +1,4 @@
 -- The definitions on examples: one that holds, and one that doesn't.
--- Nothing cites it: it is checked with its crate.
 use Rattle.std.specs.Prelude.{◌≡◌, [], ◌∷◌, Some, None, codes, false, refl, true}
 use Rattle.refusals.specs.Words.{after_byte, before_byte, is_word, number_of, words_of}
 

@@ -1,5 +1,4 @@
 -- What is unwrapped of a reading of UTF-8.
--- Its own crate alone cites it, for the theorems of src/text.rt.
 use Rattle.std.proofs.Common.{◌≡◌, ◌∙◌, ℕ, List, Result, Ok, Err, MatchResult, Bor, ap}
 use Rattle.std.specs.Str.{IsUtf8}
 use Rattle.std.specs.Result.{ResultUnwrapsOrElse}

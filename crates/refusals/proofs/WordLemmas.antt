@@ -1,6 +1,5 @@
 -- How the loops over a text come to what `Words` says: cutting at a byte, and reading a number.
 -- The proofs of `cut` and `number_of` cite them.
--- Its own crate alone cites it, for the theorems of src/cutting.rt and src/numbers.rt.
 use Rattle.std.proofs.Common.{◌≡◌, ℕ, ◌+◌, ◌-◌, ◌*◌, ◌^◌, ◌<◌, ◌≤◌, suc, Bool, true, false, ◌&&◌}
 use Rattle.std.proofs.Common.{cond, List, [], ◌∷◌, length, take, drop, take_all, Option, Some, None}
 use Rattle.std.proofs.Common.{⊎_elim, lit<, refl, ap, ◌∙◌, sym, arith}

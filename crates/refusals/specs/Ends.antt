@@ -1,5 +1,4 @@
 -- The refusals that ends of logging are shown by.
--- Any crate above may cite it.
 use Rattle.refusals.specs.declared.end.End.{End}
 use Rattle.refusals.specs.declared.end.End.TheVariants as ends
 use Rattle.refusals.specs.declared.refusal.Refusal.{Refusal}

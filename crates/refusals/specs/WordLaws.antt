@@ -1,5 +1,4 @@
 -- Laws of words and numbers.
--- Any crate above may cite it.
 use Rattle.std.proofs.Common.{◌≡◌, ℕ, ◌^◌, ◌<◌, true, List, ◌∷◌, length, Some, ap, subst, sym, ◌∙◌}
 use Rattle.std.proofs.Common.{arith, rules, lit<}
 use Rattle.std.specs.Prelude.{decimal, nat_lt, nat_le}

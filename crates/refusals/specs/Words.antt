@@ -1,5 +1,4 @@
 -- Words: how a line is cut into them, and numbers.
--- Any crate above may cite it.
 use Rattle.std.specs.Prelude.{◌≡◌, ℕ, ◌+◌, ◌-◌, ◌*◌, ◌^◌, ◌==◌, Bool, true, not, ◌&&◌, List, []}
 use Rattle.std.specs.Prelude.{◌∷◌, Option, Some, None, length, nat_lt, nat_le, if◌then◌else◌}
 use Rattle.std.specs.Char.{is_ascii_digit}

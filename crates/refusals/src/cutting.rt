@@ -1,6 +1,5 @@
 //! Cuts a text at the first byte of a kind.
 //! The readers of script lines and of dm-dust's messages take their words so.
-//! Its clauses are written in specs/Words; its theorems in proofs/cutting/.
 ghost use Rattle.std.specs.Prelude.{◌≡◌, ◌==◌, option_copied, position};
 ghost use Rattle.refusals.specs.Words.{before_byte, after_byte};
 

@@ -1,5 +1,4 @@
 //! Why logging ended.
-//! Its clauses are written in specs/Ends; the search alone proves it.
 ghost use Rattle.std.specs.Prelude.{◌≡◌};
 ghost use Rattle.refusals.specs.Ends.{end_refusal};
 

@@ -1,5 +1,4 @@
 //! What a user reads of a refusal: its number and name, and for a script the line that is at fault.
-//! Its clauses are written in specs/Texts; the search alone proves it.
 ghost use Rattle.std.specs.Prelude.{◌≡◌, Some};
 ghost use Rattle.refusals.specs.Texts.{fault_text, without_line};
 

@@ -1,6 +1,5 @@
 //! Reads a word as a number below 2^64.
 //! Scripts, table lines, messages and command lines read their numbers by `number_of`.
-//! Its clauses are written in specs/Words; its theorems in proofs/numbers/.
 ghost use Rattle.std.specs.Prelude.{◌≡◌};
 ghost use Rattle.refusals.specs.Words.{number_of as the_number, with_digit};
 

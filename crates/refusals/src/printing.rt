@@ -1,6 +1,5 @@
 //! Prints a number in decimal digits.
 //! The printers of scripts and of table lines use `push_number`.
-//! Its theorems are in proofs/printing/.
 ghost use Rattle.std.specs.Prelude.{◌≡◌, ◌<◌, ◌+◌, ◌++◌, ◌∷◌, [], decimal, OnOk};
 
 use std::alloc::AllocError;

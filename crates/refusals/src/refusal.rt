@@ -1,5 +1,4 @@
 //! The list of all refusals, each with the number and the name that users read.
-//! Its clauses are written in specs/Table and specs/Texts; the search alone proves it.
 ghost use Rattle.std.specs.Prelude.{◌≡◌, ◌-◌, Some, slice_get};
 ghost use Rattle.refusals.specs.Table.{all_refusals, row_of};
 ghost use Rattle.refusals.specs.Texts.{refusal_text};

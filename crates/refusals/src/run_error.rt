@@ -1,5 +1,4 @@
 //! Why a command ended before its time, whichever error it came from; the commands answer it.
-//! Its clauses are written in specs/Errors; the search alone proves it.
 ghost use Rattle.std.specs.Prelude.{◌≡◌, Some};
 ghost use Rattle.std.specs.IoError.{error_kind};
 ghost use Rattle.refusals.specs.Errors.{error_text, fault_of, io_refusal, memory_error};

@@ -1,6 +1,5 @@
 //! The words of a line, split at spaces: how many there are, and which stands at a place.
 //! The reader of table lines uses them, and so does what explains a refused line.
-//! Its clauses are written in specs/Words; its theorems in proofs/splitting/.
 ghost use Rattle.std.specs.Prelude.{◌≡◌, length, option_copied, slice_get};
 ghost use Rattle.refusals.specs.Words.{words_of};
 

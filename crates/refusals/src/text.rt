@@ -1,6 +1,5 @@
 //! ASCII bytes as text; the caller shows that they are ASCII.
 //! `script_runner` hands the text of a message to a layer by it.
-//! Its theorems are in proofs/text/.
 ghost use Rattle.std.specs.Prelude.{◌≡◌};
 ghost use Rattle.std.specs.Str.{IsAscii};
 

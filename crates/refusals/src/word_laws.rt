@@ -1,5 +1,4 @@
 //! Laws of words, apart from the code: each function does nothing, and its clause is the law.
-//! Its clauses are written in specs/Words; its theorems in proofs/word_laws/.
 ghost use Rattle.std.specs.Prelude.{◌≡◌, ◌^◌, ◌<◌, ◌∷◌, ◌++◌, [], decimal, length, true, ℕ, List};
 ghost use Rattle.refusals.specs.Words.{is_word, words_of, IsNumber};
 

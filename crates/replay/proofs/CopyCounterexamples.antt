@@ -1,6 +1,5 @@
 -- For each clause of what a copy comes to, stores that
 -- break it and nothing else, and are refused by it.
--- Nothing cites it: it is checked with its crate.
 use Rattle.std.proofs.Common.{◌≡◌, ℕ, ◌+◌, true, false, List, [], ◌∷◌, ◌++◌, drop, length, None}
 use Rattle.std.proofs.Common.{Some, replicate, slice_index_or, take, refl, sym, ap, ◌∙◌, inl, inr}
 use Rattle.std.proofs.Common.{arith}

@@ -1,5 +1,4 @@
 -- What a replay reads of its log, and what it doesn't.
--- Nothing cites it: it is checked with its crate.
 use Rattle.std.proofs.Common.{◌≡◌, ℕ, ◌+◌, List, [], ◌∷◌, Result, Ok, Err, replicate, refl, inl}
 use Rattle.std.proofs.Common.{inr, arith}
 use Rattle.bio.specs.declared.outcome.DevError.{DevError}

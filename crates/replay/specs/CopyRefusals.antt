@@ -1,6 +1,5 @@
 -- The refusal that a copy's error is shown by.
 -- `CopyError` in `src/copy_fault` turns into it, and `dmlw copy` ends by it.
--- Any crate above may cite it.
 use Rattle.refusals.specs.declared.refusal.Refusal.{Refusal}
 use Rattle.refusals.specs.declared.refusal.Refusal.TheVariants as refusals
 use Rattle.refusals.specs.Ends.{end_refusal}

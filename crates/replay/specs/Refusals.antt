@@ -1,6 +1,5 @@
 -- The refusal that shows why a replay stopped.
 -- The conversion in `src/fault` cites it, and so does the command `replay`.
--- Any crate above may cite it.
 use Rattle.refusals.specs.declared.refusal.Refusal.{Refusal}
 use Rattle.refusals.specs.declared.refusal.Refusal.TheVariants as refusals
 use Rattle.bio.specs.Refusals.{device_refusal}

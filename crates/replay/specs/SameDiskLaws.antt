@@ -1,5 +1,4 @@
 -- A log is replayed alike on disks that have the same sectors.
--- Any crate above may cite it.
 use Rattle.std.proofs.Common.{ℕ, List, [], ◌∷◌, ap}
 use Rattle.std.specs.Prelude.{unwrap_or}
 use Rattle.bio.specs.Content.{AgreeBelow, Content, put}

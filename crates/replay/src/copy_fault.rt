@@ -1,5 +1,4 @@
 // Why a copy of a log stopped, and by which refusal that is shown.
-// Its clauses are written in specs/CopyRefusals; the search alone proves it.
 ghost use Rattle.std.specs.Prelude.{◌≡◌};
 ghost use Rattle.replay.specs.CopyRefusals.{copy_refusal};
 

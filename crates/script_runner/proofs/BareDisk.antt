@@ -1,5 +1,4 @@
 -- Why no log is made on a disk under no layers.
--- Its own crate alone cites it, for the theorems of src/laws.rt.
 use Rattle.std.proofs.Common.{◌≡◌, ◌∙◌, ℕ, true, List, [], Err, Result, ap, refl, subst}
 use Rattle.bio.specs.Causes.{end_cause}
 use Rattle.bio.specs.declared.outcome.DevError.{DevError}

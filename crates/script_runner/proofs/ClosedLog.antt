@@ -1,5 +1,4 @@
 -- Each line keeps the log written where recording is closed.
--- Its own crate alone cites it, for the theorems of src/laws.rt.
 use Rattle.std.proofs.Common.{◌≡◌, ◌∙◌, ℕ, Bool, true, false, not, ◌&&◌, Option, Some, None, List}
 use Rattle.std.proofs.Common.{[], ◌∷◌, ◌++◌, Result, Ok, Err, length, ap, refl, sym, inl, inr}
 use Rattle.std.proofs.Common.{arith}

@@ -1,5 +1,4 @@
 -- For each definition of a script's run, what breaks it, and is refused by it, and what holds.
--- Nothing cites it: it is checked with its crate.
 use Rattle.std.proofs.Common.{◌≡◌, ◌∙◌, ◌+◌, ◌*◌, ◌<◌, ◌++◌, ℕ, suc, Bool, true, false, List, []}
 use Rattle.std.proofs.Common.{◌∷◌, Option, Some, None, Result, Ok, Err, ap, arith, inl, inr, length}
 use Rattle.std.proofs.Common.{refl, replicate, slice_index_or, subst, sym}

@@ -1,5 +1,4 @@
 -- The events of a script's run are lawful for a device of the size of the data disk's top.
--- Its own crate alone cites it, for the theorems of src/rehearsing.rt.
 use Rattle.std.proofs.Common.{◌≡◌, ℕ, zero, suc, Bool, true, false, Option, Some, None, List, []}
 use Rattle.std.proofs.Common.{◌∷◌, ◌++◌, Result, Ok, Err, inl, inr, refl, subst, sym}
 use Rattle.std.specs.Prelude.{if◌then◌else◌, is_ok, slice_get}

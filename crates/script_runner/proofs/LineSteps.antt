@@ -1,5 +1,4 @@
 -- What one line does.
--- Its own crate alone cites it, for theorems of many of its files.
 use Rattle.std.proofs.Common.{◌≡◌, ◌∙◌, ◌<◌, ℕ, zero, suc, ◌&&◌, true, not, None, Option, Some}
 use Rattle.std.proofs.Common.{List, [], ◌∷◌, ap, arith, length, refl, subst, sym, inl, inr}
 use Rattle.std.proofs.lemmas.Option.{slice_get-get_or}

@@ -1,5 +1,4 @@
 -- What the lines of a script leave of the log.
--- Its own crate alone cites it, for the theorems of src/laws.rt.
 use Rattle.std.proofs.Common.{List, [], ◌∷◌, ◌≡◌, ◌∙◌, ap, length, ℕ, Bool, Option, Some, None, inl}
 use Rattle.std.proofs.Common.{inr, subst, sym}
 use Rattle.std.specs.Prelude.{is_ok, slice_get}

@@ -1,5 +1,4 @@
 -- What playing a script comes to, from the run of its lines up to two disks in memory.
--- Its own crate alone cites it, for the theorems of src/playing.rt.
 use Rattle.std.proofs.Common.{◌≡◌, ◌⊎◌, ℕ, List, Option, inl, inr, ap, subst, sym}
 use Rattle.std.specs.Prelude.{Bool, Err, IfOk, Ok, Result}
 use Rattle.bio.specs.Sizes.{bytes_of}

@@ -1,5 +1,4 @@
 -- What is printed.
--- Its own crate alone cites it, for the theorems of src/print.rt.
 use Rattle.std.proofs.Common.{◌≡◌, ◌∙◌, ℕ, zero, suc, ◌<◌, ◌==◌, Bool, true, false, Option, List}
 use Rattle.std.proofs.Common.{[], ◌∷◌, ◌++◌, encode_utf8_all, length, replicate, append_assoc, ap}
 use Rattle.std.proofs.Common.{arith, sym, subst, if◌then◌else◌}

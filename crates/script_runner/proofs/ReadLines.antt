@@ -1,5 +1,4 @@
 -- What is read, and how it is printed.
--- Its own crate alone cites it, for the theorems of src/handing.rt and src/print.rt.
 use Rattle.std.proofs.Common.{◌≡◌, ◌∙◌, ℕ, ◌+◌, ◌*◌, ◌<◌, ◌≤◌, List, ◌++◌, Option, Some, None, Ok}
 use Rattle.std.proofs.Common.{add-one, append_assoc, drop, length, take, ap, arith, subst, sym}
 use Rattle.std.specs.Prelude.{codes, decimal, option_map, slice_index_or}

@@ -1,5 +1,4 @@
 -- What becomes of the requests that the lines of a script submit.
--- Its own crate alone cites it, for the theorems of src/laws.rt.
 use Rattle.std.proofs.Common.{◌≡◌, ◌∙◌, ◌⊎◌, List, [], ◌∷◌, ◌++◌, ℕ, Option, Some, None}
 use Rattle.std.proofs.Common.{append_assoc, ap, inl, inr, length, subst, sym, arith}
 use Rattle.std.specs.List.{AllZip}

@@ -1,5 +1,4 @@
 -- Steps one after another.
--- Its own crate alone cites it, for the theorems of src/run_script.rt.
 use Rattle.std.proofs.Common.{◌≡◌, ◌∙◌, ℕ, List, [], ◌∷◌, ◌++◌, append_assoc, ap, refl, sym, subst}
 use Rattle.std.proofs.lemmas.List.{append-nil}
 use Rattle.script_runner.specs.Runs.{Chain}

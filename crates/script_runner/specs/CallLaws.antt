@@ -1,6 +1,5 @@
 -- Laws of what calls leave: what a writer holds after
 -- several of them, and the error of one that failed.
--- Any crate above may cite it.
 use Rattle.std.proofs.Common.{◌∙◌, ℕ, List, ◌++◌, Option, None, Some, Result, Ok, Err, IfErr}
 use Rattle.std.proofs.Common.{append_assoc, ap, refl}
 use Rattle.std.specs.Result.{IsErrAnd}

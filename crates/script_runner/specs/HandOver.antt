@@ -1,5 +1,4 @@
 -- What handing a request over to the data device comes to.
--- Any crate above may cite it.
 use Rattle.std.specs.Prelude.{List, Option, ◌≡◌, ◌⊎◌, ℕ, true, false, Result, Some, None, Ok, Err}
 use Rattle.std.specs.Prelude.{◌*◌, length}
 use Rattle.bio.specs.declared.outcome.DevError.{DevError}

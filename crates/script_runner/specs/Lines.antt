@@ -1,6 +1,5 @@
 -- What each line of a script does, from the run before it
 -- (old) to the run after it (new), and what it prints.
--- Any crate above may cite it.
 use Rattle.recorder.specs.declared.reply.Turn.{Turn}
 use Rattle.recorder.specs.declared.reply.Turn.TheVariants as turns
 use Rattle.std.specs.Prelude.{◌≡◌, ◌⊎◌, ℕ, ◌<◌, Bool, true, false, List, [], ◌∷◌, ◌++◌, Option}

@@ -1,5 +1,4 @@
 -- A recorder over a log that is made on a device, and why none can be made.
--- Any crate above may cite it.
 use Rattle.std.specs.Prelude.{◌≡◌, ℕ, true, Err, [], None}
 use Rattle.bio.specs.Causes.{end_cause}
 use Rattle.bio.specs.declared.outcome.DevError.{DevError}

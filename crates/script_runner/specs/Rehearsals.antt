@@ -1,6 +1,5 @@
 -- What rehearsing a script comes to: it runs on two disks in memory as a recording does, and only
 -- the recorder's events are kept.
--- Any crate above may cite it.
 use Rattle.std.specs.Prelude.{◌≡◌, ◌⊎◌, ℕ, Bool, true, false, List, None}
 use Rattle.std.specs.List.{list_all, list_any}
 use Rattle.bio.specs.declared.event.CoreEvent.{CoreEvent}

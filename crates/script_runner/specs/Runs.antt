@@ -1,5 +1,4 @@
 -- What the lines of a script come to, one after another.
--- Any crate above may cite it.
 use Rattle.std.specs.Prelude.{◌≡◌, ◌+◌, ℕ, List, [], ◌∷◌, ◌++◌, Option, length}
 use Rattle.std.specs.Io.KnownBytes.{Appends}
 use Rattle.blockdev.specs.declared.device.BlockDev.{Ghosts}

@@ -1,5 +1,4 @@
 -- What the lines of a script print.
--- Any crate above may cite it.
 use Rattle.bio.specs.Places.{collect}
 use Rattle.dmlw_script.specs.Words.{byte_text}
 use Rattle.std.specs.Prelude.{decimal, Option, ℕ, Bool, true, false, List, ◌++◌, codes, Some, None}

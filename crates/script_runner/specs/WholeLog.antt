@@ -1,5 +1,4 @@
 -- Where recording is closed, a script's run leaves its log whole.
--- Any crate above may cite it.
 use Rattle.std.specs.Prelude.{◌≡◌, false, None, length}
 use Rattle.blockdev.specs.declared.device.BlockDev.{Ghosts}
 use Rattle.bio.specs.Lawful.{has_no_close}

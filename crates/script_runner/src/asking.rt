@@ -1,5 +1,4 @@
 //! What a line asks of the recorder: that a request is submitted, or that one has ended.
-//! Its clauses are written in specs/Lines and specs/Submissions; its theorems in proofs/asking/.
 ghost use Rattle.std.specs.Prelude.{◌≡◌, Ok};
 ghost use Rattle.dmlw_script.specs.Plans.{submission_answer};
 ghost use Rattle.recorder.specs.Growth.{RecorderFrame};

@@ -1,5 +1,4 @@
 //! Hands a script's request over to the data device.
-//! Its clauses are written in specs/HandOver; its theorems in proofs/handing/.
 ghost use Rattle.std.specs.Prelude.{◌≡◌, ◌*◌, IfSome, Ok, option_map, IsTrue, is_ok, length};
 ghost use Rattle.bio.specs.Check.{check_answer, range_answer};
 ghost use Rattle.blockdev.specs.Calls.{Flushes, IsByteRange, Writes};

@@ -1,5 +1,4 @@
 //! The headline, of a recorder over a stack of layers.
-//! Its clauses are written in specs/; its theorems in proofs/laws/.
 ghost use Rattle.std.specs.Prelude.{◌++◌, ◌≡◌, ◌≤◌, [], List, None, Some, false, length, slice_get};
 ghost use Rattle.std.specs.Prelude.{take, ℕ};
 ghost use Rattle.bio.specs.declared.event.CoreEvent.TheVariants.{Mark};

@@ -1,5 +1,4 @@
 //! Runs a script on two disks in memory, each under its layers, over a new log.
-//! Its clauses are written in specs/; its theorems in proofs/playing/.
 ghost use Rattle.std.specs.Prelude.{◌≡◌, ◌≤◌, ◌/◌, ◌⊎◌, IfErr, IfOk};
 ghost use Rattle.bio.specs.Sizes.{bytes_of};
 ghost use Rattle.dmlw_script.specs.Plans.{IsDisk, top_of};

@@ -1,5 +1,4 @@
 //! What a line prints.
-//! Its clauses are written in specs/; its theorems in proofs/print/.
 ghost use Rattle.std.specs.Prelude.{◌≡◌, ◌*◌, ◌<◌, IfErr, IfSome, OnOk, length, option_map};
 ghost use Rattle.std.specs.List.{AllByRecursion};
 ghost use Rattle.std.specs.Io.KnownBytes.{Appends};

@@ -1,5 +1,4 @@
 //! Records a script: `record` runs it, and hands over the log's disk, the status and the lies.
-//! Its clauses are written in specs/DiskRun; its theorems in proofs/recording/.
 ghost use Rattle.std.specs.Prelude.{◌≡◌, IfErr, IfOk, List, option_copied, ℕ};
 ghost use Rattle.std.specs.Io.KnownBytes.{Appends};
 ghost use Rattle.bio.specs.Content.{AgreeBelow, gather};

@@ -1,5 +1,4 @@
 //! Runs a script for its events alone: `events_of_run` is what a judge asks for.
-//! Its clauses are written in specs/Rehearsals; its theorems in proofs/rehearsing/.
 ghost use Rattle.std.specs.Prelude.{◌≡◌, ◌&&◌, IfErr, IfOk, false, not, true};
 ghost use Rattle.std.specs.List.{list_any};
 ghost use Rattle.bio.specs.Lawful.{all_aligned, is_lawful};

@@ -1,5 +1,4 @@
 //! The request that a line submits, and what became of it.
-//! Its clauses are written in specs/Submissions; the search alone proves it.
 ghost use Rattle.std.specs.Prelude.{◌≡◌, IfOk, IsOk, Ok, false, ℕ};
 ghost use Rattle.std.specs.List.{list_all};
 ghost use Rattle.bio.specs.Check.{check_sized_answer};

@@ -1,5 +1,4 @@
 //! Runs all lines of a script, up to the first one that is refused.
-//! Its clauses are written in specs/Lines and specs/Runs; its theorems in proofs/run_script/.
 ghost use Rattle.bio.specs.Sizes.{bytes_of};
 ghost use Rattle.dmlw_script.specs.Plans.{top_of};
 ghost use Rattle.recorder.specs.Fields.{core_of};

@@ -1,6 +1,5 @@
 //! A script's run, line by line: `Running` has the
 //! recorder, the data device and the script's requests.
-//! Its clauses are written in specs/; its theorems in proofs/running/.
 ghost use Rattle.std.specs.Prelude.{IsTrue};
 ghost use Rattle.std.specs.List.{list_all};
 ghost use Rattle.script_runner.specs.Submissions.{fits_device};

@@ -1,5 +1,4 @@
 //! Whether memory ran out, by what a device or the recorder answered.
-//! Its clauses are written in specs/Lines; the search alone proves it.
 ghost use Rattle.std.specs.Prelude.{◌≡◌};
 ghost use Rattle.recorder.specs.Calls.{last_turn};
 ghost use Rattle.script_runner.specs.Lines.{is_memory_end, is_refusal, is_starved};

@@ -1,5 +1,4 @@
 //! Why a line stops the run of its script.
-//! Its clauses are in words of `refusals`; the search alone proves it.
 ghost use Rattle.std.specs.Prelude.{◌≡◌};
 ghost use Rattle.std.specs.IoError.{error_kind};
 ghost use Rattle.refusals.specs.Errors.{io_refusal, memory_error, refused_by};

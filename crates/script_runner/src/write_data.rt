@@ -1,5 +1,4 @@
 // The data of a script's writes: sectors of one byte. The writes of one byte share it.
-// Its clauses are written in specs/inside/WriteData; its theorems in proofs/write_data/.
 ghost use Rattle.std.specs.Prelude.{◌≡◌, ◌≤◌, IfOk, OnErr, OnOk, length, replicate};
 ghost use Rattle.script_runner.specs.inside.WriteData.{AreFilled, HasRow};
 

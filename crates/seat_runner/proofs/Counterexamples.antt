@@ -1,6 +1,5 @@
 -- For each clause of what a run of seats comes to, what
 -- breaks it, and is refused by it, or what it says.
--- Nothing cites it: it is checked with its crate.
 use Rattle.std.proofs.Common.{◌≡◌, ◌*◌, ◌<◌, ℕ, false, List, [], ◌∷◌, Option, Some, None, ap, arith}
 use Rattle.std.proofs.Common.{length, refl, subst}
 use Rattle.std.specs.Prelude.{slice_get}

@@ -1,5 +1,4 @@
 -- What a run's seats, its recorder and its disks come to together.
--- Its own crate alone cites it, for the theorems of src/seat_run.rt.
 use Rattle.std.proofs.Common.{◌≡◌, ◌∙◌, ◌⊎◌, ⊎_elim, ℕ, zero, suc, ◌+◌, ◌*◌, ◌/◌, ◌<◌, ◌≤◌, List}
 use Rattle.std.proofs.Common.{[], ◌∷◌, ◌++◌, length, map, take, slice_get, Option, Some, ap}
 use Rattle.std.proofs.Common.{append-nil, append_assoc, arith, inl, inr, refl, subst, sym}

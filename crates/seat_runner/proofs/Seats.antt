@@ -1,5 +1,4 @@
 -- What lines add to what a seat did.
--- Its own crate alone cites it, for the theorems of src/seat_run.rt and src/work.rt.
 use Rattle.std.proofs.Common.{◌≡◌, ◌∙◌, ℕ, zero, suc, ◌+◌, ◌-◌, ◌^◌, ◌<◌, ◌≤◌, Bool, true, false}
 use Rattle.std.proofs.Common.{List, [], ◌∷◌, ◌++◌, ◌==◌, if◌then◌else◌, length, take, slice_get}
 use Rattle.std.proofs.Common.{Option, None, Some, not, ap, append_assoc, arith, inl, inr, refl}

@@ -1,5 +1,4 @@
 -- What a run of several seats comes to.
--- Any crate above may cite it.
 use Rattle.std.specs.Prelude.{◌≡◌, ◌==◌, ◌⊎◌, ℕ, ◌*◌, false, List, [], ◌∷◌, length, slice_get, Some}
 use Rattle.std.specs.Prelude.{if◌then◌else◌}
 use Rattle.refusals.specs.declared.end.End.{End}

@@ -1,5 +1,4 @@
 -- What became of a seat's calls, and how many came to what.
--- Any crate above may cite it.
 use Rattle.std.specs.Prelude.{ℕ, ◌+◌, ◌<◌, ◌-◌, ◌^◌, Bool, true, false, List, [], ◌∷◌, ◌++◌, Option}
 use Rattle.std.specs.Prelude.{None, Some}
 use Rattle.lock_state.specs.Comparison.{Receipt}

@@ -1,5 +1,4 @@
 //! The threads of a run.
-//! Its clauses are written in specs/SeatRuns and specs/inside/SeatWork; the search alone proves it.
 ghost use Rattle.std.specs.Prelude.{◌≡◌, ◌⊎◌, IfErr, IfOk};
 ghost use Rattle.refusals.specs.declared.refusal.Refusal.TheVariants as refusals;
 ghost use Rattle.seat_runner.specs.inside.SeatWork.{AreNewPlayers, DoesLines, FitsRecorder};

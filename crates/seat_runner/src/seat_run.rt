@@ -1,5 +1,4 @@
 //! A script's run, from its disks to the log's disk.
-//! Its clauses are written in specs/; its theorems in proofs/seat_run/.
 ghost use Rattle.std.specs.Prelude.{◌≡◌, ◌<◌, IfErr, IfOk, length, map};
 ghost use Rattle.lock_state.specs.PlacedItems.{ground_of};
 ghost use Rattle.seat_runner.specs.Tallies.{joined};

@@ -1,5 +1,4 @@
 //! What became of a seat's calls, and how many of them came to what.
-//! Its clauses are written in specs/Tallies; the search alone proves it.
 ghost use Rattle.std.specs.Prelude.{◌≡◌, ◌+◌, ◌-◌, ◌^◌, ◌<◌, ◌≤◌};
 ghost use Rattle.seat_runner.specs.Tallies.{HasRoom, counted, mark_outcome, no_calls, outcome_of};
 

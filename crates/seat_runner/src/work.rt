@@ -1,5 +1,4 @@
 //! What one thread does at its seat.
-//! Its clauses are written in specs/; its theorems in proofs/work/.
 ghost use Rattle.std.specs.Prelude.{◌≡◌, ◌==◌, ◌<◌, Ok, true, vec_capacity, vec_len};
 ghost use Rattle.dmlw_script.specs.declared.seat_call.Call.TheVariants.{Mark, Submit};
 ghost use Rattle.dmlw_script.specs.Plans.{submission_answer};

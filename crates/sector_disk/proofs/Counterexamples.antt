@@ -1,6 +1,5 @@
 -- For each clause of what a past begins with, and of what a
 -- call does to a disk, what breaks it, and is refused by it.
--- Nothing cites it: it is checked with its crate.
 use Rattle.std.proofs.Common.{◌≡◌, ℕ, suc, Bool, List, [], ◌∷◌, length, Ok, Err, replicate}
 use Rattle.std.proofs.Common.{slice_index_or, refl, sym, ap, ◌∙◌, arith}
 use Rattle.std.specs.Prelude.{Result}

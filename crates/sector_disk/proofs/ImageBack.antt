@@ -1,5 +1,4 @@
 -- An image that is given back with what was put over it.
--- Its own crate alone cites it, for the theorems of src/call.rt.
 use Rattle.std.proofs.Common.{◌≡◌, ℕ, suc, zero, ◌+◌, ◌-◌, ◌*◌, ◌/◌, ◌<◌, ◌≤◌, ◌&&◌, Bool, false}
 use Rattle.std.proofs.Common.{true, get_or, List, [], ◌∷◌, ◌++◌, length, take, drop}
 use Rattle.std.proofs.Common.{replicate, ap, refl, sym, ◌∙◌, arith}

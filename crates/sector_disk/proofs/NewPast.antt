@@ -1,5 +1,4 @@
 -- How a disk's past begins: when it is made, and at a crash.
--- Its own crate alone cites it, for the theorems of src/disk.rt and src/disk/image.rt.
 use Rattle.std.proofs.Common.{◌≡◌, ℕ, ◌-◌, ◌/◌, ◌<◌, false, true, List, [], ◌∷◌, ◌++◌, length}
 use Rattle.std.proofs.Common.{replicate, refl, ap, subst, sym, ◌∙◌, inl, inr, arith}
 use Rattle.std.proofs.lemmas.Bool.{cases_lt}

@@ -1,5 +1,4 @@
 -- The next sector of a crash gets its place.
--- Its own crate alone cites it, for theorems of many of its files.
 use Rattle.std.proofs.Common.{◌≡◌, ℕ, suc, zero, ◌+◌, ◌-◌, ◌%◌, ◌<◌, ◌≤◌, ◌&&◌, Bool, true, false}
 use Rattle.std.proofs.Common.{List, length, ap, refl, sym, ◌∙◌, inl, inr, arith}
 use Rattle.std.proofs.Math.Nat.{mod-lt}

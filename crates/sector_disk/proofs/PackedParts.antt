@@ -1,5 +1,4 @@
 -- Sectors of which the first bytes are held, and all of them together.
--- Its own crate alone cites it, for the theorems of src/packed.rt.
 use Rattle.std.proofs.Common.{◌≡◌, ℕ, ◌+◌, ◌-◌, ◌*◌, ◌/◌, ◌%◌, ◌<◌, ◌≤◌, List, [], ◌∷◌, ◌++◌, ◌∙◌}
 use Rattle.std.proofs.Common.{ap, arith, drop, get_or, inl, inr, length, length-append, length-drop}
 use Rattle.std.proofs.Common.{replicate, sym, take}

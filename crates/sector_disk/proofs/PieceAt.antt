@@ -1,5 +1,4 @@
 -- The piece that a sector of the bytes is in.
--- Its own crate alone cites it, for the theorems of src/pieces.rt.
 use Rattle.std.proofs.Common.{◌≡◌, ℕ, suc, zero, ◌+◌, ◌-◌, ◌*◌, ◌%◌, ◌<◌, ◌≤◌, List, [], ◌∷◌, ◌++◌, ◌∙◌, ap}
 use Rattle.std.proofs.Common.{append_assoc, sym}
 use Rattle.std.proofs.lemmas.Grind.{common_steps}

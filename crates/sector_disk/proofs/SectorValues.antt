@@ -1,5 +1,4 @@
 -- Sectors as calls left them.
--- Its own crate alone cites it, for the theorems of src/call.rt, src/disk.rt and src/disk/image.rt.
 use Rattle.std.proofs.Common.{◌≡◌, ℕ, suc, ◌+◌, ◌-◌, ◌*◌, ◌/◌, ◌<◌, ◌≤◌, Some, None, List, ◌++◌}
 use Rattle.std.proofs.Common.{length, take, drop, replicate, refl, ap, ◌∙◌, inl, inr, arith}
 use Rattle.std.proofs.lemmas.Bool.{cases_lt}

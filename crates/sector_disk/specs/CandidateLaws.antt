@@ -1,5 +1,4 @@
 -- A disk that is its candidates keeps the law of a device.
--- Any crate above may cite it.
 use Rattle.std.proofs.Common.{◌≡◌, ℕ, suc, zero, ◌<◌, ◌≤◌, Bool, true, false, IsTrue, Option, None}
 use Rattle.std.proofs.Common.{Some, List, [], ◌∷◌, length, refl, ap, subst, sym, ◌∙◌, inl, inr}
 use Rattle.std.proofs.Common.{arith, lit<}

@@ -1,6 +1,5 @@
 -- Which values a crash may leave in each sector of a disk, after its calls or during one, and
 -- which of them the picks of `crash` leave.
--- Any crate above may cite it.
 use Rattle.std.specs.Prelude.{ℕ, suc, zero, ◌+◌, ◌%◌, ◌⊎◌, nat_lt, Bool, true, false, Option, None}
 use Rattle.std.specs.Prelude.{Some, unwrap_or, List, [], ◌∷◌, ◌++◌, length, slice_get, Contains}
 use Rattle.std.specs.Prelude.{MatchBool, if◌then◌else◌}

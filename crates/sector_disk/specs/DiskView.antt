@@ -1,6 +1,5 @@
 -- What contracts see of a `SectorDisk`: its start, its past, and exactly what each
 -- call does to it.
--- Any crate above may cite it.
 use Rattle.std.specs.Prelude.{◌≡◌, ℕ, ◌/◌, false, Result, Ok, Err, List, [], ◌∷◌, length}
 use Rattle.bio.specs.declared.outcome.DevError.{DevError}
 use Rattle.bio.specs.declared.outcome.DevError.TheVariants.{Io, Memory}

@@ -1,5 +1,4 @@
 -- A disk keeps the law of a device.
--- Any crate above may cite it.
 use Rattle.std.proofs.Common.{arith, ◌≡◌, ℕ, suc, zero, ◌+◌, ◌-◌, Bool, true, false, Some, None}
 use Rattle.std.proofs.Common.{List, length, replicate, refl}
 use Rattle.std.specs.Prelude.{Option, slice_get, unwrap_or}

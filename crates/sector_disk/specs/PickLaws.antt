@@ -1,6 +1,5 @@
 -- The picks of a crash: each leave something that a crash
 -- may leave, and each of that is left by some.
--- Any crate above may cite it.
 use Rattle.std.proofs.Common.{◌≡◌, ℕ, suc, zero, ◌+◌, ◌%◌, ◌<◌, true, false, Some, List, [], ◌∷◌}
 use Rattle.std.proofs.Common.{◌++◌, length, refl, ap, sym, ◌∙◌, inl, inr, arith, length-append}
 use Rattle.std.proofs.Math.Nat.{mod-eq_of_lt, mod-lt}

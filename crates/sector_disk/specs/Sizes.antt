@@ -1,6 +1,5 @@
 -- How large a disk and its image may be, and with what a disk's past begins: when
 -- made, and at a crash.
--- Any crate above may cite it.
 use Rattle.std.specs.Prelude.{◌≡◌, ℕ, ◌/◌, ◌%◌, ◌<◌, ◌≤◌}
 use Rattle.bio.specs.Content.{Content}
 use Rattle.blockdev.specs.Law.{FlushDone}

@@ -1,5 +1,4 @@
 -- The definitions of `sector_disk` that its proofs alone use: no other crate cites them.
--- Any crate above may cite it.
 pub mod Storage
 pub mod Choice
 pub mod CallTable

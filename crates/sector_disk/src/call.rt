@@ -1,5 +1,4 @@
 //! The writes and discards that a disk keeps, and how its sectors are read back from them.
-//! Its clauses are written in specs/; its theorems in proofs/call/.
 ghost use Rattle.std.specs.Prelude.{true, ◌∷◌, ◌++◌, ◌≡◌, ◌%◌, ◌*◌, ◌+◌, ◌/◌, ◌≤◌, IfOk};
 ghost use Rattle.std.specs.Prelude.{None, OnErr, OnOk, Some, [], drop, length};
 ghost use Rattle.std.specs.Prelude.{replicate, slice_get, take, unwrap_or};

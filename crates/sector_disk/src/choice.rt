@@ -1,5 +1,4 @@
 //! Finds for each sector the candidate that the picks of a crash give it: `choose` is for `crash`.
-//! Its clauses are written in specs/; its theorems in proofs/choice/.
 ghost use Rattle.std.specs.Prelude.{◌≡◌, ◌-◌, ◌%◌, ◌<◌, ◌≤◌, length, slice_get, true, unwrap_or, ℕ};
 ghost use Rattle.sector_disk.specs.Candidates.{Cache};
 ghost use Rattle.sector_disk.specs.inside.Choice.{AreChosen};

@@ -1,5 +1,4 @@
 //! A disk in memory that keeps its past, so that what a crash may leave is known exactly.
-//! Its clauses are written in specs/inside/Storage; its theorems in proofs/disk/.
 ghost use Rattle.std.proofs.Props.{props};
 ghost use Rattle.std.specs.Prelude.{◌≤◌, length, vec_capacity};
 ghost use Rattle.sector_disk.specs.inside.Storage.{IsKept};

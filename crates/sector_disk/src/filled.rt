@@ -1,6 +1,5 @@
 //! Bytes of which the last are often all the same, as those of a sector: the others are held, and
 //! that one byte once.
-//! Its theorems are in proofs/filled/.
 ghost use Rattle.std.specs.Prelude.{◌≡◌, ◌+◌, ◌++◌, ◌-◌, ◌<◌, ◌≤◌, IfOk, OnOk, drop, length, replicate, take};
 
 use std::alloc::{AllocError, Global};

@@ -1,5 +1,4 @@
 //! Whole sectors, each held without the bytes at its end that repeat the one before them.
-//! Its clauses are written in specs/inside/Packed; its theorems in proofs/packed/.
 ghost use Rattle.std.specs.Prelude.{◌≡◌, ◌+◌, ◌++◌, ◌<◌, ◌≤◌, ◌%◌, IfOk, IsSome, OnOk, drop, length, take};
 ghost use Rattle.sector_disk.specs.inside.Packed.{ArePacked, part_at, refilled};
 

@@ -1,5 +1,4 @@
 //! A piece of an image, held in the way that takes less memory.
-//! Its clauses are written in specs/inside/Held; the search alone proves it.
 ghost use Rattle.std.specs.Prelude.{◌≡◌, ◌+◌, ◌++◌, ◌<◌, ◌≤◌, ◌%◌, IfOk, OnOk, drop, length, take};
 
 use crate::filled::{FilledBytes, count_before};

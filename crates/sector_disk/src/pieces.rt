@@ -1,5 +1,4 @@
 //! A long list of bytes, in pieces whose repeated ends take no memory.
-//! Its clauses are written in specs/inside/Pieces; its theorems in proofs/pieces/.
 ghost use Rattle.std.specs.Prelude.{◌≡◌, ◌<◌, ◌≤◌, ◌+◌, ◌++◌, ◌%◌, IfOk, OnErr, OnOk, [], drop, length};
 ghost use Rattle.std.specs.Prelude.{take};
 ghost use Rattle.sector_disk.specs.inside.Pieces.{AreWhole, joined};

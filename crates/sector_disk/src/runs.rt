@@ -1,5 +1,4 @@
 //! A list of numbers, held by its runs of one number.
-//! Its clauses are written in specs/inside/Runs; its theorems in proofs/runs/.
 ghost use Rattle.std.specs.Prelude.{◌≡◌, ◌≤◌, ◌<◌, ◌++◌, [], IfOk, drop, length, replicate};
 ghost use Rattle.std.specs.Prelude.{slice_get};
 ghost use Rattle.sector_disk.specs.inside.Runs.{unrolled};

@@ -1,6 +1,5 @@
 -- For each clause of what a call is answered, and of what a close compares and hands back, what
 -- breaks it, and is refused by it.
--- Nothing cites it: it is checked with its crate.
 use Rattle.std.proofs.Common.{◌≡◌, ◌==◌, ◌<◌, ℕ, Bool, true, false, true≢false, List, [], ◌∷◌}
 use Rattle.std.proofs.Common.{Global, Option, Some, None, Vec, ap, arith, inl, inr, length, refl}
 use Rattle.std.proofs.Common.{sym, take, ◌∙◌}

@@ -1,5 +1,4 @@
 -- Worked answers: some that hold, and some that don't.
--- Nothing cites it: it is checked with its crate.
 use Rattle.std.proofs.Common.{◌≡◌, ◌==◌, ◌<◌, ℕ, zero, suc, Bool, true, false, List, [], ◌∷◌}
 use Rattle.std.proofs.Common.{Option, length}
 use Rattle.std.specs.Prelude.{map}

@@ -1,5 +1,4 @@
 -- What becomes of a seat's call at the queue, and of the queue.
--- Any crate above may cite it.
 use Rattle.std.specs.Prelude.{◌≡◌, List, Some, false, length, true, ℕ}
 use Rattle.bio.specs.declared.event.CoreEvent.TheVariants.{Mark, Submit}
 use Rattle.bio.specs.declared.request.Bio.{Bio}

@@ -1,5 +1,4 @@
 -- What the writer finds at the queue, and has in hand.
--- Any crate above may cite it.
 use Rattle.std.specs.Prelude.{◌≡◌, ◌≤◌, IsSome, None, Option, Some, false, is_some, length, true}
 use Rattle.bio.specs.Lawful.{has_no_close}
 use Rattle.pending.specs.CoreState.{items_of, next_item}

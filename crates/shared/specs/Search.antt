@@ -1,5 +1,4 @@
 -- What one who waits for an entry finds in the log.
--- Any crate above may cite it.
 use Rattle.std.specs.Prelude.{◌≡◌, ◌≤◌, Err, None, Ok, Option, Result, Some, ℕ}
 use Rattle.refusals.specs.declared.end.End.{End}
 use Rattle.lock_state.specs.History.{first_cause}

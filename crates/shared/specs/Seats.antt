@@ -1,5 +1,4 @@
 -- The seats that a recorder begins with.
--- Any crate above may cite it.
 use Rattle.std.specs.Prelude.{◌≡◌, ℕ, List, [], ◌∷◌, length, slice_get, Some}
 use Rattle.std.specs.List.{AllByRecursion}
 use Rattle.bio.specs.declared.outcome.Status.{Status}

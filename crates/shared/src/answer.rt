@@ -1,5 +1,4 @@
 // What the calls of a seat answer.
-// Its clauses are written in specs/Answers; the search alone proves it.
 use bio::{BadBio, DevError, End};
 use refusals::Refusal;
 use thiserror::Error;

@@ -1,5 +1,4 @@
 // The close of a recorder: what it compares, and what it hands back.
-// Its clauses are written in specs/Close and specs/Posts; its theorems in proofs/closing/.
 ghost use Rattle.std.specs.Prelude.{◌≡◌, ◌<◌, ◌≤◌, List, [], length, IfErr, IfOk};
 ghost use Rattle.std.specs.Prelude.{MatchBool, None, Some, is_some, true, false};
 ghost use Rattle.bio.specs.Lawful.{has_no_close};

@@ -1,5 +1,4 @@
 // What a close hands back of the board.
-// Its clauses are written in specs/Posts; its theorems in proofs/posts/.
 ghost use Rattle.std.specs.Prelude.{◌≡◌, ℕ, List};
 ghost use Rattle.board.specs.Posts.{Begins, last_of};
 ghost use Rattle.lock_state.specs.declared.note.Item.{Item as Placing};

@@ -1,5 +1,4 @@
 // What a recorder is begun with, before it has a name.
-// The search alone proves it.
 ghost use Rattle.std.specs.Prelude.{◌≡◌, ◌<◌, ◌≤◌, IfOk};
 
 use lock_state::Fresh;

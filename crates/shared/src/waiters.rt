@@ -1,5 +1,4 @@
 // Those who wait until their entry is durable. Nothing is claimed of waking.
-// The search alone proves it.
 ghost use Rattle.std.specs.Prelude.{◌<◌};
 
 use bio::Id;

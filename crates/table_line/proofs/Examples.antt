@@ -1,5 +1,4 @@
 -- The definitions on lines: those that ask for a layer, and each first test that fails.
--- Nothing cites it: it is checked with its crate.
 use Rattle.std.proofs.Common.{◌≡◌, ◌||◌, List, ℕ, true, false, [], ◌∷◌, ◌++◌, Some, None, Option}
 use Rattle.std.proofs.Common.{refl, sym, true≢false, arith}
 use Rattle.std.specs.Prelude.{codes, decimal}

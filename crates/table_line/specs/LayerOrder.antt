@@ -1,5 +1,4 @@
 -- Layers one over another, from the lowest up, over a device.
--- Any crate above may cite it.
 use Rattle.std.specs.Prelude.{ℕ, ◌+◌, ◌≤◌, Bool, true, false, List, [], ◌∷◌}
 use Rattle.std.specs.List.{list_any}
 use Rattle.table_line.specs.declared.layer_spec.LayerSpec.{LayerSpec}

@@ -1,5 +1,4 @@
 -- The ranges of a layer's values.
--- Any crate above may cite it.
 use Rattle.std.specs.Prelude.{ℕ, ◌+◌, ◌<◌, ◌≤◌, ◌^◌, ◌≡◌, Bool, true, ◌&&◌, nat_le}
 use Rattle.std.specs.Int.{is_power_of_two}
 use Rattle.table_line.specs.declared.layer_spec.LayerSpec.{LayerSpec}

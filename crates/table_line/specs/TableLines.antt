@@ -1,5 +1,4 @@
 -- Which words ask for which layer.
--- Any crate above may cite it.
 use Rattle.std.specs.Prelude.{◌≡◌, ◌⊎◌, ℕ, List, [], ◌∷◌, codes}
 use Rattle.refusals.specs.Words.{IsNumber}
 use Rattle.table_line.specs.declared.feature.Feature.{Feature}

@@ -1,5 +1,4 @@
 // The features of a flakey device.
-// The search alone proves it.
 
 /// What a flakey device does while it is down.
 #[derive(Clone, Copy, Debug, PartialEq, Eq)]

@@ -1,6 +1,5 @@
 //! Laws of the lines of a table, apart from the code: each
 //! function does nothing, and its clause is the law.
-//! Its clauses are written in specs/; its theorems in proofs/laws/.
 ghost use Rattle.std.specs.Prelude.{◌≡◌, ◌⊎◌, Some, None, ℕ, List};
 ghost use Rattle.refusals.specs.Words.{words_of};
 ghost use Rattle.table_line.specs.declared.layer_spec.LayerSpec.{LayerSpec};

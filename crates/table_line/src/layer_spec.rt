@@ -1,6 +1,5 @@
 //! The layer that a line of a table asks for: its length, its offset and its target.
 //! `parse_line` reads one, `push_line` prints one, and scripts keep them for their disks.
-//! Its clauses are written in specs/Ranges; the search alone proves it.
 ghost use Rattle.std.specs.Prelude.{◌≡◌};
 ghost use Rattle.table_line.specs.Ranges.{are_delays, is_block_size, is_cycle};
 ghost use Rattle.table_line.specs.Ranges.{is_in_range as is_within};

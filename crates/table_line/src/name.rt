@@ -1,6 +1,5 @@
 //! The names of the targets, and how many words a line of each may have.
 //! `parse_line` tests them before it reads a value.
-//! Its clauses are written in specs/Refusals; the search alone proves it.
 ghost use Rattle.std.specs.Prelude.{◌≡◌, Some};
 ghost use Rattle.table_line.specs.Refusals.{named, may_have};
 

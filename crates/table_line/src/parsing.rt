@@ -1,6 +1,5 @@
 //! Reads a line of a table: `parse_line` gives its layer, or the first thing wrong with it.
 //! The reader of scripts calls it for the lines of layers.
-//! Its clauses are written in specs/; its theorems in proofs/parsing/.
 ghost use Rattle.std.specs.Prelude.{◌≡◌, ◌↔◌, ◌<◌, ◌^◌, Err, IfOk, Ok, Some};
 ghost use Rattle.refusals.specs.Words.{number_of, words_of};
 ghost use Rattle.table_line.specs.declared.layer_spec.LayerSpec.{LayerSpec};

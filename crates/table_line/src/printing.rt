@@ -1,6 +1,5 @@
 //! Prints a layer as the one line that asks for it: `push_line`.
 //! The printer of scripts calls it.
-//! Its clauses are written in specs/Texts; its theorems in proofs/printing/.
 ghost use Rattle.std.specs.Prelude.{◌≡◌, ◌++◌, ◌∷◌, [], decimal, OnOk};
 ghost use Rattle.table_line.specs.Texts.{behind_spaces, feature_words, later_sets, line_text};
 ghost use Rattle.table_line.specs.Texts.{set_words, target_words};

@@ -1,6 +1,5 @@
 //! Why a line of a table asks for no layer, and the refusal that this is shown by.
 //! `parse_line` answers it, and the reader of scripts passes it on.
-//! Its clauses are written in specs/Refusals; the search alone proves it.
 ghost use Rattle.std.specs.Prelude.{◌≡◌};
 ghost use Rattle.table_line.specs.Refusals.{table_refusal};
 

@@ -1,5 +1,4 @@
 -- Submissions and ends in the list of calls, and the events that they are.
--- Its own crate alone cites it, for the theorems of src/cache.rt, src/laws.rt and src/reaching.rt.
 use Rattle.std.proofs.Common.{◌≡◌, ℕ, zero, suc, ◌<◌, ◌==◌, Bool, true, false, ◌&&◌, ◌||◌, Option}
 use Rattle.std.proofs.Common.{Some, None, List, [], ◌∷◌, ◌++◌, refl, ap, sym, ◌∙◌, inl, inr, arith}
 use Rattle.std.proofs.lemmas.Bool.{and_parts, eq-eqb, eqb-true}

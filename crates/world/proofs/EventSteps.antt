@@ -1,6 +1,5 @@
 -- The plan's steps for the events, one event after another:
 -- the machine has them, and they leave what is wanted.
--- Its own crate alone cites it, for the theorems of src/cache.rt, src/laws.rt and src/reaching.rt.
 use Rattle.std.proofs.Common.{◌≡◌, ℕ, zero, suc, ◌+◌, ◌<◌, ◌≤◌, ◌==◌, Bool, true, false, not, ◌&&◌}
 use Rattle.std.proofs.Common.{◌||◌, Option, Some, None, List, [], ◌∷◌, ◌++◌, length, take, refl, ap}
 use Rattle.std.proofs.Common.{sym, ◌∙◌, subst, inl, inr, arith}

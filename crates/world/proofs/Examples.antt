@@ -1,6 +1,5 @@
 -- Runs and refused steps by computation: two writes of
 -- sector 3, both ended, and a flush after them.
--- Nothing cites it: it is checked with its crate.
 use Rattle.std.proofs.Common.{◌≡◌, ℕ, ◌==◌, Bool, true, false, Some, List, [], ◌∷◌, length, get_or}
 use Rattle.std.proofs.Common.{take, replicate, refl, ap, sym, ◌∙◌, subst, inl, inr, arith}
 use Rattle.std.proofs.lemmas.Bool.Decides.{eqb_tells}

@@ -1,5 +1,4 @@
 -- One sector of an image gets other bytes.
--- Its own crate alone cites it, for the theorems of src/putting.rt.
 use Rattle.std.proofs.Common.{◌≡◌, ℕ, ◌+◌, ◌-◌, ◌*◌, ◌/◌, ◌<◌, ◌≤◌, Bool, Option, Some, None, List}
 use Rattle.std.proofs.Common.{◌++◌, length, take, drop, refl, ap, sym, ◌∙◌, inl, inr, arith}
 use Rattle.std.proofs.Common.{length-append, length-drop}

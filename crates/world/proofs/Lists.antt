@@ -1,5 +1,4 @@
 -- Lists that are kept oldest first, seen newest first.
--- Its own crate alone cites it, for the theorems of src/allowed.rt and src/cell.rt.
 use Rattle.std.proofs.Common.{◌≡◌, ℕ, zero, suc, Bool, true, false, ◌&&◌, ◌||◌, Some, List, [], ◌∷◌}
 use Rattle.std.proofs.Common.{◌++◌, take, refl, ap, sym, ◌∙◌, arith}
 use Rattle.std.proofs.lemmas.List.{reverse-append}

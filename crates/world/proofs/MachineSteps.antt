@@ -1,5 +1,4 @@
 -- What each kind of step does to a world is the machine's step.
--- Its own crate alone cites it, for the theorems of src/cache.rt.
 use Rattle.std.proofs.Common.{◌≡◌, ℕ, zero, suc, ◌*◌, ◌/◌, ◌<◌, Bool, true, not, ◌&&◌, Option, Some}
 use Rattle.std.proofs.Common.{List, [], ◌∷◌, length, get_or, set, refl, ap, sym, ◌∙◌, subst, inl}
 use Rattle.std.proofs.Common.{inr, arith}

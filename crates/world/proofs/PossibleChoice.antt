@@ -1,5 +1,4 @@
 -- The judge's account of a possible image is a choice that a run can follow.
--- Its own crate alone cites it, for the theorems of src/cache.rt and src/reaching.rt.
 use Rattle.std.proofs.Common.{◌≡◌, ℕ, zero, suc, ◌^◌, ◌<◌, ◌≤◌, Bool, true, false, Option, Some}
 use Rattle.std.proofs.Common.{None, List, [], ◌∷◌, length, refl, ap, sym, ◌∙◌, subst, inl, inr}
 use Rattle.std.proofs.Common.{arith}

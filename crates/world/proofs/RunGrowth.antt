@@ -1,5 +1,4 @@
 -- A run that grows by the steps of one place after another.
--- Its own crate alone cites it, for the theorems of src/plan.rt and src/reaching.rt.
 use Rattle.std.proofs.Common.{◌≡◌, ℕ, suc, List, ◌++◌, ap, sym, ◌∙◌, append_assoc}
 use Rattle.bio.specs.Places.{collect}
 

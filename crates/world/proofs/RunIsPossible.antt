@@ -1,5 +1,4 @@
 -- A run leaves only what the device could hold.
--- Its own crate alone cites it, for the theorems of src/cache.rt, src/laws.rt and src/reaching.rt.
 use Rattle.std.proofs.Common.{◌≡◌, ℕ, ◌<◌, Bool, true, false, not, ◌&&◌, ◌||◌, Option, Some, None}
 use Rattle.std.proofs.Common.{List, [], ◌∷◌, length, refl, ap, sym, ◌∙◌, inl, inr, arith}
 use Rattle.std.proofs.lemmas.Bool.{and_parts, eq-eqb, eqb-true, ltb-true}

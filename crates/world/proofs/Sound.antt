@@ -1,5 +1,4 @@
 -- What holds of each machine that took steps, whatever they were.
--- Its own crate alone cites it, for the theorems of src/cache.rt, src/laws.rt and src/reaching.rt.
 use Rattle.std.proofs.Common.{◌≡◌, ℕ, ◌==◌, Bool, true, false, not, ◌&&◌, ◌||◌, List, [], ◌∷◌, refl}
 use Rattle.std.proofs.Common.{ap, sym, ◌∙◌, inl, inr}
 use Rattle.std.proofs.lemmas.Bool.{and_parts, eqb-true}

@@ -1,5 +1,4 @@
 -- The tests over cells and calls are the machine's.
--- Its own crate alone cites it, for the theorems of src/cache.rt.
 use Rattle.std.proofs.Common.{◌≡◌, ℕ, Bool, not, ◌&&◌, ◌||◌, List, [], ◌∷◌, refl, ap, ◌∙◌}
 use Rattle.std.specs.List.{list_all}
 use Rattle.std.specs.Prelude.{slice_get}

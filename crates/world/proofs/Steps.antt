@@ -1,5 +1,4 @@
 -- What steps leave as it was, and what the tests of a step come to.
--- Its own crate alone cites it, for the theorems of src/cache.rt, src/laws.rt and src/reaching.rt.
 use Rattle.std.proofs.Common.{◌≡◌, ℕ, ◌+◌, ◌-◌, ◌==◌, Bool, true, false, not, ◌||◌, Option, Some}
 use Rattle.std.proofs.Common.{None, List, ◌∷◌, refl, ap, sym, ◌∙◌, subst, inl, inr, arith}
 use Rattle.std.proofs.lemmas.Bool.{eq-eqb, eqb-true}

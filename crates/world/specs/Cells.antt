@@ -1,5 +1,4 @@
 -- What a world keeps, the machine that it is, and what a step does to it.
--- Any crate above may cite it.
 use Rattle.std.specs.Prelude.{◌≡◌, ℕ, ◌<◌, ◌/◌, ◌==◌, Bool, true, false, Option, Some, None, List}
 use Rattle.std.specs.Prelude.{[], ◌∷◌, length, replicate, slice_get, if◌then◌else◌}
 use Rattle.bio.specs.Content.{Content, Patch, put, sector_of}

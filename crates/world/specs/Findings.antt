@@ -1,5 +1,4 @@
 -- What is found of an image: a run that leaves it, or what rules it out.
--- Any crate above may cite it.
 use Rattle.std.specs.Prelude.{ℕ, List}
 use Rattle.bio.specs.Content.{Content}
 use Rattle.bio.specs.declared.event.CoreEvent.{CoreEvent}

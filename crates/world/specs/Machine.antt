@@ -1,6 +1,5 @@
 -- A device with a cache, as a machine that takes steps: requests land in sectors, sectors are
 -- destaged, requests end, power goes.
--- Any crate above may cite it.
 use Rattle.std.specs.Prelude.{ℕ, ◌+◌, ◌==◌, Bool, true, false, not, ◌&&◌, ◌||◌, Option, Some, None}
 use Rattle.std.specs.Prelude.{is_some, List, [], ◌∷◌, slice_get, if◌then◌else◌}
 use Rattle.std.specs.List.{list_all, list_any}

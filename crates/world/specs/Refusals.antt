@@ -1,5 +1,4 @@
 -- The refusals that a step's errors are shown by.
--- Any crate above may cite it.
 use Rattle.refusals.specs.declared.refusal.Refusal.{Refusal}
 use Rattle.refusals.specs.declared.refusal.Refusal.TheVariants as refusals
 use Rattle.world.specs.declared.step_error.StepError.{StepError}

@@ -1,5 +1,4 @@
 -- Runs of the machine, the events that they fit, and what they leave.
--- Any crate above may cite it.
 use Rattle.std.specs.Prelude.{◌≡◌, ℕ, zero, suc, Bool, true, ◌&&◌, Option, Some, None, List, []}
 use Rattle.std.specs.Prelude.{◌∷◌, ◌++◌, length, slice_get}
 use Rattle.bio.specs.Content.{Content, Patch, nothing, put}

@@ -1,5 +1,4 @@
 -- What a user reads of a step.
--- Any crate above may cite it.
 use Rattle.std.specs.Prelude.{ℕ, Bool, true, false, List, ◌++◌, codes}
 use Rattle.std.specs.Fmt.{decimal}
 use Rattle.world.specs.declared.step.Step.{Step}

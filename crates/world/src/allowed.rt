@@ -2,7 +2,6 @@
 //!
 //! Each test is the machine's, over the cells and over the
 //! calls so far, which are kept oldest first.
-//! Its clauses are written in specs/; its theorems in proofs/allowed/.
 ghost use Rattle.std.specs.Prelude.{◌≡◌, ◌+◌, ◌^◌, ◌<◌, Some, reverse, slice_get};
 ghost use Rattle.std.specs.List.{list_all, list_any};
 ghost use Rattle.bio.specs.declared.event.CoreEvent.TheVariants as core_events;

@@ -2,7 +2,6 @@
 //!
 //! A world keeps a cell for each sector, the calls so far,
 //! oldest first, and the image of what is durable.
-//! Its clauses are written in specs/; its theorems in proofs/cache/.
 ghost use Rattle.std.specs.Prelude.{◌≡◌, ◌∷◌, ◌*◌, ◌/◌, ◌%◌, ◌<◌, Err, IfOk, OnErr, OnOk};
 ghost use Rattle.std.specs.Prelude.{false, true, length, replicate, get_or, reverse, slice_get};
 ghost use Rattle.std.specs.Prelude.{slice_set};

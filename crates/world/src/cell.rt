@@ -1,6 +1,5 @@
 //! What landed in one sector: the requests, oldest first, and
 //! how many of them had landed when it was destaged last.
-//! Its clauses are written in specs/Cells and specs/Machine; its theorems in proofs/cell/.
 ghost use Rattle.std.specs.Prelude.{◌≡◌, ◌∷◌, ◌≤◌, ◌<◌, OnErr, OnOk, get_or, length, reverse};
 ghost use Rattle.std.specs.Prelude.{slice_set, take};
 ghost use Rattle.world.specs.Cells.{CellState, empty_cell, landing, settling};

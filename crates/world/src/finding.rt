@@ -1,6 +1,5 @@
 //! What is found of an image: a run of the cache machine that leaves it, or what rules it out.
 //! `find` answers it, and `dmlw_commands` prints it.
-//! The search alone proves it.
 use crate::step::Step;
 use bio::Id;
 

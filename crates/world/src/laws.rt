@@ -1,6 +1,5 @@
 //! Laws of the cache machine, apart from the code: its runs leave just what a device could hold.
 //! The judge's laws call `possible_is_exact`.
-//! Its clauses are written in specs/Cells and specs/Runs; its theorems in proofs/laws/.
 ghost use Rattle.std.specs.Prelude.{◌≡◌, List, take, true, ℕ};
 ghost use Rattle.bio.specs.declared.event.CoreEvent.{CoreEvent};
 ghost use Rattle.bio.specs.Lawful.{is_well_formed};

@@ -1,7 +1,6 @@
 //! The steps of one request for its sectors, as the plan of a run has them.
 //!
 //! A request lands at its submission where another one's value is wanted, and else at its end.
-//! Its clauses are written in specs/inside/Plan; its theorems in proofs/plan/.
 ghost use Rattle.std.specs.Prelude.{◌≡◌, ◌+◌, ◌^◌, ◌<◌, ◌++◌, OnOk, Some};
 ghost use Rattle.bio.specs.declared.event.CoreEvent.TheVariants as core_events;
 ghost use Rattle.bio.specs.Requests.{first_sector, sector_count};

@@ -1,5 +1,4 @@
 //! The value of a request, put in one sector of an image.
-//! Its clauses are written in specs/Cells and specs/Runs; its theorems in proofs/putting/.
 ghost use Rattle.std.specs.Prelude.{◌≡◌, ◌/◌, ◌<◌, Some, length, slice_get};
 ghost use Rattle.bio.specs.Possible.{values_at, values_of};
 ghost use Rattle.bio.specs.Content.{Patch, discards, writes};

@@ -2,7 +2,6 @@
 //!
 //! The plan takes the events one after another, then the
 //! requests that haven't ended, then power goes.
-//! Its clauses are written in specs/; its theorems in proofs/reaching/.
 ghost use Rattle.std.specs.Prelude.{◌≡◌, ℕ, ◌/◌, ◌%◌, ◌++◌, IfOk, MatchOption, OnOk, Some, length};
 ghost use Rattle.std.specs.Prelude.{slice_get, take, true};
 ghost use Rattle.bio.specs.Events.{end_of, is_open_at};

@@ -1,5 +1,4 @@
 //! A step of a device with a cache, and how it is shown.
-//! Its clauses are written in specs/Texts; the search alone proves it.
 ghost use Rattle.std.specs.Prelude.{Some};
 ghost use Rattle.world.specs.Texts.{end_text, step_text};
 

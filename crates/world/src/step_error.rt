@@ -1,5 +1,4 @@
 //! Why a step isn't taken.
-//! Its clauses are written in specs/Refusals; the search alone proves it.
 ghost use Rattle.std.specs.Prelude.{◌≡◌};
 ghost use Rattle.world.specs.declared.step_error.StepError.TheVariants as errors;
 ghost use Rattle.world.specs.Refusals.{step_refusal};

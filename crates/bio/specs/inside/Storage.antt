@@ -1,5 +1,4 @@
 -- The list of bytes that contracts see of a `Bytes`, whether it is held alone or shared.
--- Its own crate alone cites it.
 use Rattle.std.specs.Prelude.{ℕ, List, take}
 use Rattle.std.specs.Arc.{arc_value}
 use Rattle.bio.specs.declared.bytes.Storage.{Storage}

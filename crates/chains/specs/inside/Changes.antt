@@ -1,5 +1,4 @@
 -- What a change of a link makes of the links.
--- Its own crate alone cites it.
 use Rattle.std.specs.Prelude.{ℕ, ◌<◌, IfSome, List, Option, length, slice_set}
 use Rattle.chains.specs.declared.links.Change.{Change}
 use Rattle.chains.specs.declared.links.Change.TheVariants.{Last, Next}

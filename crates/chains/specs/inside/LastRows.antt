@@ -1,5 +1,4 @@
 -- How one word holds a chain's last row.
--- Its own crate alone cites it.
 use Rattle.std.specs.Prelude.{ℕ, ◌==◌, Option, Some, None, if◌then◌else◌}
 
 -- the row of this number; the greatest number that a word holds means none

@@ -1,5 +1,4 @@
 -- What is left of a chain that is looked through.
--- Its own crate alone cites it.
 use Rattle.std.specs.Prelude.{◌≡◌, ℕ, ◌<◌, ◌≤◌, List, [], length, Option, Some, None}
 use Rattle.chains.specs.inside.Rings.{times, Leads}
 use Rattle.chains.specs.inside.Tables.{filled, rows_from, value_at, values_of}

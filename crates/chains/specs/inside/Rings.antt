@@ -1,5 +1,4 @@
 -- How links hold chains of rows: each chain is a ring.
--- Its own crate alone cites it.
 use Rattle.std.specs.Prelude.{◌≡◌, ℕ, ◌+◌, ◌<◌, ◌≤◌, ◌==◌, List, [], ◌∷◌, length, Option, Some}
 use Rattle.std.specs.Prelude.{None, slice_index_or, if◌then◌else◌}
 use Rattle.std.specs.List.{sum_by}

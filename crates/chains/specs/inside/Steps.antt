@@ -1,5 +1,4 @@
 -- What the ways to write links ask for, and what they count.
--- Its own crate alone cites it.
 use Rattle.std.specs.Prelude.{◌≡◌, ℕ, ◌+◌, ◌<◌, ◌≤◌, List, ◌∷◌, ◌++◌, length, Option, Some}
 use Rattle.std.specs.Prelude.{vec_capacity}
 use Rattle.chains.specs.declared.links.Links.{Links}

@@ -1,6 +1,5 @@
 -- How a table holds the values of chains: in each row, for
 -- which there is a link, a value or nothing.
--- Its own crate alone cites it.
 use Rattle.std.specs.Prelude.{◌≡◌, ℕ, suc, zero, ◌+◌, ◌-◌, ◌<◌, ◌==◌, min, List, [], ◌∷◌, length}
 use Rattle.std.specs.Prelude.{map, Option, Some, None, slice_index_or, slice_set, vec_capacity}
 use Rattle.std.specs.Prelude.{if◌then◌else◌}

@@ -1,5 +1,4 @@
 // How the log in a file is copied, and the image of the new one written.
-// Its clauses are written in specs/; its theorems in proofs/copy_log/copying/.
 ghost use Rattle.std.specs.Prelude.{◌≡◌, Err, ◌≤◌, ◌⊎◌, IfErr, IfOk, OnErr, OnOk};
 ghost use Rattle.std.specs.Io.KnownBytes.{Appends};
 ghost use Rattle.refusals.specs.Errors.{IsFileError, refused_by};

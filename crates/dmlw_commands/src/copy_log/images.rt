@@ -1,5 +1,4 @@
 // How the log that an image has is copied to a new log, on disks in memory.
-// Its clauses are written in specs/; its theorems in proofs/copy_log/images/.
 ghost use Rattle.std.specs.Prelude.{◌≡◌, ◌≤◌, IfErr, IfOk};
 ghost use Rattle.sector_disk.specs.DiskView.{shown_of};
 ghost use Rattle.log_reader.specs.ReaderView.{reader_of};

@@ -1,6 +1,5 @@
 // What the image of a copy replays to: the law is a
 // function whose contract it is, and which runs to nothing.
-// Its clauses are written in specs/LogCopies; its theorems in proofs/copy_log/laws/.
 ghost use Rattle.std.specs.Prelude.{◌≡◌, List, None, Option, length, take, ℕ};
 ghost use Rattle.bio.specs.Content.{Content};
 ghost use Rattle.log_format.specs.declared.decode.Super.{Super};

@@ -1,5 +1,4 @@
 //! What helps against a refusal, in general.
-//! The search alone proves it.
 use log_format::MAGIC;
 use refusals::Refusal;
 use std::fmt;

@@ -1,6 +1,5 @@
 //! A count with its word, as `1 entry` and `3 entries`.
 //! For the explanations of refusals and logs; the judge's explanation counts sectors with it too.
-//! The search alone proves it.
 use std::fmt;
 
 /// A number of things, with the word for one or for more of them: `1 entry`, `3 entries`.

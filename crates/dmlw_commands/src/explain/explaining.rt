@@ -1,5 +1,4 @@
 //! What `--explain` adds to how a command ended, from the result and the names of its files.
-//! Its clauses are in words of `dmlw_files`; the search alone proves it.
 ghost use Rattle.std.specs.Prelude.{◌≡◌, [], false};
 ghost use Rattle.std.specs.String.{string_bytes};
 ghost use Rattle.dmlw_files.specs.Files.{KeepsFiles};

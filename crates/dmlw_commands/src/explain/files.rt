@@ -1,6 +1,5 @@
 //! Which file of a command can't be used, and why. What was read is read again for it; if it can't
 //! be, nothing is printed.
-//! Its clauses are in words of `dmlw_files`; the search alone proves it.
 ghost use Rattle.std.specs.Prelude.{◌≡◌};
 ghost use Rattle.dmlw_files.specs.Files.{KeepsFiles};
 

@@ -1,6 +1,5 @@
 //! What is printed of a wrong line of a layer: which of its words is at fault, and the form that
 //! the line should have.
-//! The search alone proves it.
 use crate::explain::line::Shown;
 use crate::explain::script_text::{is_space, number_at, word_at};
 use refusals::number_of;

@@ -1,6 +1,5 @@
 //! What is told of a line that isn't one of a script's, or isn't in its place: the usual cause, the
 //! first word that doesn't fit, or what its place asks for.
-//! The search alone proves it.
 use crate::explain::places::write_place;
 use crate::explain::script_text::{Grammar, Numbered, is_space};
 use refusals::number_of;

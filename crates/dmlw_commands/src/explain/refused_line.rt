@@ -1,5 +1,4 @@
 //! What is printed of a line of a script at which a command was refused, from the lines before it.
-//! The search alone proves it.
 use crate::explain::advice::advice;
 use crate::explain::counted::{Counted, counted_sectors};
 use crate::explain::layers::{

@@ -1,6 +1,5 @@
 //! A script as a text: its lines by number and first word, which is all that an explanation of one
 //! line asks of the others.
-//! The search alone proves it.
 use refusals::number_of;
 
 /// Which of the two kinds of scripts a text is to be.

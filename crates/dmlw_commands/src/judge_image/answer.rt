@@ -1,5 +1,4 @@
 //! A kind of answer to a question on an image: how it is found, printed, and ends the command.
-//! Its clauses are written in specs/Judgements; the search alone proves it.
 ghost use Rattle.std.specs.Prelude.{◌≡◌, ◌/◌, ◌%◌, IfOk, OnOk, [], false, length, take, true};
 ghost use Rattle.std.specs.String.{string_bytes};
 ghost use Rattle.dmlw_files.specs.Files.{KeepsFiles};

@@ -1,6 +1,5 @@
 //! The form that `judge` and `path` share: a question on an
 //! image is answered by the script in a file.
-//! Its clauses are written in specs/; its theorems in proofs/judge_image/answering/.
 ghost use Rattle.std.specs.Prelude.{◌≡◌, ◌⊎◌, ◌++◌, IfErr, IfOk, IsOk, [], false, length, take};
 ghost use Rattle.std.specs.Prelude.{true};
 ghost use Rattle.std.specs.String.{string_bytes};

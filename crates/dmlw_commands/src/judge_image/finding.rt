@@ -1,5 +1,4 @@
 //! What `path` finds: a run of the cache machine that leaves an image, or what rules the image out.
-//! Its clauses are written in specs/Paths; its theorems in proofs/judge_image/finding/.
 ghost use Rattle.std.specs.Prelude.{OnOk};
 ghost use Rattle.std.specs.Io.KnownBytes.{Appends};
 ghost use Rattle.std.specs.List.{flat_map};

@@ -1,5 +1,4 @@
 //! `judge SCRIPT M IMAGE`: whether an image could have been on a script's data disk.
-//! Its clauses are written in specs/Ends and specs/Judgements; the search alone proves it.
 ghost use Rattle.dmlw_commands.specs.Ends.{err_stream};
 ghost use Rattle.dmlw_files.specs.Files.{KeepsFiles};
 ghost use Rattle.dmlw_commands.specs.Judgements.{EndsJudging, verdict_meaning};

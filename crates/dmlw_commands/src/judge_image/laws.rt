@@ -1,5 +1,4 @@
 //! Laws of verdicts: each is a function whose contract it is, and which runs to nothing.
-//! Its clauses are written in specs/; its theorems in proofs/judge_image/laws/.
 ghost use Rattle.std.specs.Prelude.{◌≡◌, ◌/◌, IsTrue, List, take, true, ℕ};
 ghost use Rattle.bio.specs.declared.event.CoreEvent.{CoreEvent};
 ghost use Rattle.bio.specs.Lawful.{all_aligned, is_well_formed};

@@ -1,6 +1,5 @@
 //! The moments of a run that a question may name, and what
 //! `--explain` tells of one that it may not.
-//! Its clauses are in words of lower crates; its theorems in proofs/judge_image/moments/.
 ghost use Rattle.std.specs.Prelude.{◌≡◌, ◌≤◌, [], Some, false, length};
 ghost use Rattle.std.specs.String.{string_bytes};
 ghost use Rattle.bio.specs.Events.{is_stop};

@@ -1,5 +1,4 @@
 //! `path SCRIPT M IMAGE`: how an image could have come to a script's data disk.
-//! Its clauses are written in specs/Ends and specs/Paths; the search alone proves it.
 ghost use Rattle.dmlw_commands.specs.Ends.{err_stream};
 ghost use Rattle.dmlw_files.specs.Files.{KeepsFiles};
 ghost use Rattle.dmlw_commands.specs.Paths.{EndsFinding};

@@ -3,7 +3,6 @@
 //!
 //! A request's submission and its landings belong to the line that submits it, its end to the line
 //! that ends it, a destage to what landed last, and power goes after the line of the last call.
-//! Its clauses are in words of `dmlw_files`; the search alone proves it.
 ghost use Rattle.std.specs.Prelude.{◌≡◌, [], false};
 ghost use Rattle.std.specs.String.{string_bytes};
 ghost use Rattle.dmlw_files.specs.Files.{KeepsFiles};

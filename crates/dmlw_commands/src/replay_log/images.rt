@@ -1,5 +1,4 @@
 //! Replays the log that an image has on the disk that another image is.
-//! Its clauses are written in specs/; its theorems in proofs/replay_log/images/.
 ghost use Rattle.std.specs.Prelude.{◌≡◌, ◌/◌, IfErr, IfOk, length};
 ghost use Rattle.sector_disk.specs.DiskView.{shown_of};
 ghost use Rattle.sector_disk.specs.Sizes.{Begins};

@@ -1,5 +1,4 @@
 //! `replay LOG FIRST OUT WHAT`: applies a log, up to the entry that is named, to an image.
-//! Its clauses are written in specs/; its theorems in proofs/replay_log/replaying/.
 ghost use Rattle.std.specs.Prelude.{◌≡◌, Err, ◌⊎◌, IfErr, IfOk, OnErr, OnOk};
 ghost use Rattle.std.specs.Io.KnownBytes.{Appends};
 ghost use Rattle.refusals.specs.Errors.{IsFileError, refused_by};

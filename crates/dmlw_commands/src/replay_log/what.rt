@@ -1,5 +1,4 @@
 //! The word of `replay` that names where a replay ends.
-//! Its clauses are written in specs/Whats; the search alone proves it.
 ghost use Rattle.std.specs.Prelude.{◌≡◌, IfSome, None};
 ghost use Rattle.dmlw_commands.specs.Whats.{IsNoWhat, IsWhat};
 

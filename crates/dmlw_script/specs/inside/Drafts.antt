@@ -1,6 +1,5 @@
 -- The steps of the reader over a body. `Grammar` and
 -- `FirstFault` say in the grammar's words what they come to.
--- Its own crate alone cites it.
 use Rattle.std.specs.Prelude.{◌≡◌, ℕ, Bool, false, List, [], ◌∷◌, ◌++◌, Option, Some, None, Result}
 use Rattle.std.specs.Prelude.{Ok, Err, length, nat_lt, slice_index_or, if◌then◌else◌}
 use Rattle.refusals.specs.declared.refusal.Refusal.{Refusal}

@@ -1,5 +1,4 @@
 -- The head of a script, as far as it was read.
--- Its own crate alone cites it.
 use Rattle.std.specs.Prelude.{ℕ, Bool, true, false, ◌∷◌, [], List, Result, Ok, Err, length, nat_le}
 use Rattle.std.specs.Prelude.{nat_lt, if◌then◌else◌}
 use Rattle.bio.specs.Sizes.{bytes_of}

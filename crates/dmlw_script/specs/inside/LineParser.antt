@@ -1,6 +1,5 @@
 -- What a line says, as the reader finds it. `Grammar` says
 -- it in the grammar's words; the two agree by proof.
--- Its own crate alone cites it.
 use Rattle.std.specs.Prelude.{◌≡◌, ◌⊎◌, ℕ, ◌==◌, Bool, true, false, List, [], ◌∷◌, Option, Some}
 use Rattle.std.specs.Prelude.{None, Result, Ok, Err, codes, if◌then◌else◌}
 use Rattle.std.proofs.Common.{inl, inr}

@@ -1,6 +1,5 @@
 -- The steps of the reader over lines. `Grammar` and
 -- `FirstFault` say in the grammar's words what they come to.
--- Its own crate alone cites it.
 use Rattle.std.specs.Prelude.{◌≡◌, ℕ, ◌+◌, Bool, true, false, not, List, [], ◌∷◌, Option, Some}
 use Rattle.std.specs.Prelude.{None, Result, Ok, Err, if◌then◌else◌}
 use Rattle.bio.specs.Sizes.{bytes_of}

@@ -1,6 +1,5 @@
 -- What a line of a run's script says, as the reader finds it. `RunGrammar` says it in the grammar's
 -- words; the two agree by proof.
--- Its own crate alone cites it.
 use Rattle.std.specs.Prelude.{◌≡◌, ℕ, ◌==◌, List, [], ◌∷◌, Option, Some, None, codes, if◌then◌else◌}
 use Rattle.std.specs.Option.{option_map, option_or}
 use Rattle.std.specs.Str.{bytes_eq}

@@ -1,6 +1,5 @@
 -- The steps of the reader of a run's script over lines. `RunGrammar` and `RunFirstFault` say in the
 -- grammar's words what they come to.
--- Its own crate alone cites it.
 use Rattle.std.specs.Prelude.{ℕ, ◌&&◌, Bool, true, false, List, [], ◌∷◌, ◌++◌, Option, Some, None}
 use Rattle.std.specs.Prelude.{Result, Ok, Err, nat_le, nat_lt, if◌then◌else◌}
 use Rattle.bio.specs.Sizes.{bytes_of}

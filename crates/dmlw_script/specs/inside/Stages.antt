@@ -1,5 +1,4 @@
 -- How much of a script was read, apart from its commands.
--- Its own crate alone cites it.
 use Rattle.std.specs.Prelude.{ℕ, List}
 use Rattle.bio.specs.declared.sector_size.SectorSize.{SectorSize}
 use Rattle.dmlw_script.specs.Plans.{Disk}

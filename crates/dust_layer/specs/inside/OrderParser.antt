@@ -1,6 +1,5 @@
 -- Which order a text asks for, as the reader finds it. `Orders`
 -- says it in the words' terms; the two agree by proof.
--- Its own crate alone cites it.
 use Rattle.std.specs.Prelude.{ℕ, List, Option, Some, None, codes, nat_lt, if◌then◌else◌}
 use Rattle.std.specs.Option.{option_map, option_and_then}
 use Rattle.std.specs.Str.{bytes_eq}

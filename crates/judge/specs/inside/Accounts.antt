@@ -1,5 +1,4 @@
 -- Which sectors of an image hold a value that the device could hold.
--- Its own crate alone cites it.
 use Rattle.std.specs.Prelude.{◌≡◌, ◌⊎◌, ℕ, ◌<◌, ◌≤◌, Bool, false, not, ◌&&◌, ◌||◌, Option, Some}
 use Rattle.std.specs.Prelude.{List, length, is_none, is_some, true, if◌then◌else◌}
 use Rattle.std.specs.Str.{bytes_eq}

@@ -1,5 +1,4 @@
 -- What the lists that keep a place for each index say, as far as events have been read.
--- Its own crate alone cites it.
 use Rattle.std.specs.Prelude.{◌≡◌, ℕ, ◌<◌, ◌≤◌, ◌⊎◌, Bool, false, ◌&&◌, Option, Some, None, List}
 use Rattle.std.specs.Prelude.{length, slice_get, nat_lt, nat_le}
 use Rattle.bio.specs.Places.{first_below}

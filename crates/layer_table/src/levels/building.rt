@@ -1,6 +1,5 @@
 //! Puts a layer into the lowest free slot of one, two or three, and takes the disk from beneath.
 //! A `Stack` is built with it (stack/building).
-//! Its clauses are written in specs/; the search alone proves it.
 ghost use Rattle.std.specs.Prelude.{◌≡◌, ◌∷◌, List, false, true};
 ghost use Rattle.blockdev.specs.Calls.{IsRange};
 ghost use Rattle.table_line.specs.Ranges.{IsLayerSpec};

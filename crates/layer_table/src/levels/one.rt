@@ -1,6 +1,5 @@
 //! The lowest slot of a stack as a device: each call and message goes to the slot.
 //! What it shows and does is said in specs/OneLevel.
-//! Its clauses are written in specs/OneLevel; its theorems in proofs/levels/one/.
 use crate::slot::Slot;
 use bio::{DevError, Ms};
 use blockdev::{BlockDev, Message, MessageError};

@@ -1,6 +1,5 @@
 //! The third slot of a stack, over the second, as a device: calls and messages go to the slot.
 //! What it shows and does is said in specs/ThreeLevel.
-//! Its clauses are written in specs/ThreeLevel; the search alone proves it.
 use crate::levels::Two;
 use crate::slot::Slot;
 use bio::{DevError, Ms};

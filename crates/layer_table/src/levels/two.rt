@@ -1,6 +1,5 @@
 //! The second slot of a stack, over the lowest, as a device: calls and messages go to the slot.
 //! What it shows and does is said in specs/TwoLevel.
-//! Its clauses are written in specs/TwoLevel; the search alone proves it.
 use crate::levels::One;
 use crate::slot::Slot;
 use bio::{DevError, Ms};

@@ -1,6 +1,5 @@
 //! A stack is a block device: each call goes to its top slot.
 //! Its `lawful` is the law of devices for every stack, by specs/StackLaws.
-//! Its clauses are written in specs/; its theorems in proofs/stack/device/.
 ghost use Rattle.layer_table.specs.Layers.{stack_does, stack_shown};
 ghost use Rattle.layer_table.specs.StackLaws.{stack_lawful};
 

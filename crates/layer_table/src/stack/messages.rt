@@ -1,6 +1,5 @@
 //! Hands a message to the layer of a stack that its number names, the lowest being 1.
 //! Scripts reach the bad blocks of a layer by it.
-//! Its clauses are written in specs/StackMessages; its theorems in proofs/stack/messages/.
 ghost use Rattle.layer_table.specs.StackMessages.{StackAnswers};
 
 use crate::stack::Stack;

@@ -1,5 +1,4 @@
 // The rule over the passes of a keeper and its holders, and the steps that they take under it.
-// Its clauses are written in specs/HolderRules; the search alone proves it.
 
 use atomic_table::{Join, Play, Split, Table, TableRule};
 use std::alloc::Global;

@@ -1,5 +1,4 @@
 -- What the bounds of the requests that wait say of each of them.
--- Its own crate alone cites it.
 use Rattle.std.specs.Prelude.{Bool, ◌&&◌, nat_le}
 use Rattle.pending.specs.declared.cover.Cover.{Cover}
 use Rattle.pending.specs.declared.row.PendingEntry.{PendingEntry}

@@ -1,5 +1,4 @@
 -- What playing a script comes to, on any data device and a new log on any other device.
--- Its own crate alone cites it.
 use Rattle.std.specs.Prelude.{◌≡◌, ℕ, Bool, false, List, [], Option}
 use Rattle.std.specs.Io.KnownBytes.{Appends, Keeps}
 use Rattle.blockdev.specs.declared.device.BlockDev.{Ghosts}

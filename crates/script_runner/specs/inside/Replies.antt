@@ -1,5 +1,4 @@
 -- What is printed of a reply. `Lines` says which replies can come.
--- Its own crate alone cites it.
 use Rattle.std.specs.Prelude.{ℕ, List, []}
 use Rattle.recorder.specs.declared.reply.Reply.{Reply}
 use Rattle.recorder.specs.declared.reply.Reply.TheVariants as replies

@@ -1,5 +1,4 @@
 -- What a step of a script leaves as it was, whether it ends well or not.
--- Its own crate alone cites it.
 use Rattle.std.specs.Prelude.{◌≡◌, length}
 use Rattle.blockdev.specs.declared.device.BlockDev.{Ghosts}
 use Rattle.script_runner.specs.declared.running.Running.{Running}

@@ -1,5 +1,4 @@
 -- The data that the writes of a script share.
--- Its own crate alone cites it.
 use Rattle.std.specs.Prelude.{◌≡◌, ◌<◌, ◌≤◌, ℕ, [], Some, List, get_or, length, replicate, slice_get}
 
 -- the data in each row is of the row's byte

@@ -1,5 +1,4 @@
 -- What a seat at work is, and what its lines do to it.
--- Its own crate alone cites it.
 use Rattle.std.specs.Prelude.{◌≡◌, ◌<◌, ◌-◌, ◌^◌, ℕ, List, [], ◌∷◌, ◌++◌, length, slice_get, Ok}
 use Rattle.std.specs.Prelude.{Some}
 use Rattle.bio.specs.Sizes.{bytes_of}

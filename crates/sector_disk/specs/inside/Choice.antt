@@ -1,6 +1,5 @@
 -- Tables that give each sector the call whose value the picks of a crash leave:
 -- what `choose` makes.
--- Its own crate alone cites it.
 use Rattle.std.specs.Prelude.{◌≡◌, ℕ, ◌<◌, List, length}
 use Rattle.sector_disk.specs.declared.call.Call.{Call}
 use Rattle.sector_disk.specs.Candidates.{Cache, left_by}

@@ -1,5 +1,4 @@
 -- The bytes of a piece, in whichever way it is held.
--- Its own crate alone cites it.
 use Rattle.std.specs.Prelude.{ℕ, List}
 use Rattle.sector_disk.specs.declared.piece.Held.{Held}
 use Rattle.sector_disk.specs.declared.piece.Held.TheVariants.{Filled, Packed}

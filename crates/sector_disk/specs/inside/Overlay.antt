@@ -1,5 +1,4 @@
 -- An image over which the calls after the first one have put their sectors.
--- Its own crate alone cites it.
 use Rattle.std.specs.Prelude.{ℕ, suc, zero, ◌*◌, ◌&&◌, ◌==◌, Bool, false, List, Option, None, Some}
 use Rattle.std.specs.Prelude.{length}
 use Rattle.bio.specs.Content.{Content, sector_of}

@@ -1,5 +1,4 @@
 -- Whole sectors of bytes, each held without the bytes at its end that repeat the one before them.
--- Its own crate alone cites it.
 use Rattle.std.specs.Prelude.{◌≡◌, ℕ, ◌+◌, ◌-◌, ◌*◌, ◌<◌, ◌≤◌, List, ◌++◌, length, replicate}
 use Rattle.std.specs.Prelude.{slice_index, slice_range}
 use Rattle.bio.specs.Content.{AgreeBelow, Content, gather, sector_of}

@@ -1,5 +1,4 @@
 -- A list of bytes in pieces of 65,536, of which the last may have fewer.
--- Its own crate alone cites it.
 use Rattle.std.specs.Prelude.{◌≡◌, ℕ, ◌<◌, ◌≤◌, List, [], ◌∷◌, ◌++◌, length}
 
 -- the bytes of the pieces, one after another

@@ -1,5 +1,4 @@
 -- The list that runs of one value each make.
--- Its own crate alone cites it.
 use Rattle.std.specs.Prelude.{ℕ, List, [], ◌∷◌, ◌++◌, replicate}
 use Rattle.sector_disk.specs.declared.runs.Held.{Held}
 use Rattle.sector_disk.specs.declared.runs.Held.TheVariants.{More, One}

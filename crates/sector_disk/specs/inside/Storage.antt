@@ -1,6 +1,5 @@
 -- How a disk stores its past: its calls in order, and for each
 -- sector the place of the newest call that put a value there.
--- Its own crate alone cites it.
 use Rattle.std.specs.Prelude.{◌≡◌, ℕ, suc, zero, ◌+◌, ◌-◌, ◌<◌, ◌≤◌, ◌==◌, ◌&&◌, not, nat_le}
 use Rattle.std.specs.Prelude.{nat_lt, Bool, true, false, Option, None, Some, unwrap_or, List, []}
 use Rattle.std.specs.Prelude.{◌∷◌, ◌++◌, length, replicate, slice_get}

@@ -1,5 +1,4 @@
 //! The disk as a block device: it reads, writes, discards and flushes, and never lies.
-//! Its clauses are written in specs/; its theorems in proofs/disk/device/.
 ghost use Rattle.std.specs.Prelude.{◌≡◌, ◌∷◌, ◌+◌, ◌≤◌, OnErr, OnOk, length};
 ghost use Rattle.sector_disk.specs.Candidates.{Puts};
 ghost use Rattle.sector_disk.specs.DiskView.{Does, HasPast, shown_of, steps_of};

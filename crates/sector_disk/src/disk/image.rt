@@ -1,5 +1,4 @@
 //! Makes a disk, of zeroes or of an image, and gives its image back.
-//! Its clauses are written in specs/; its theorems in proofs/disk/image/.
 ghost use Rattle.std.specs.Prelude.{◌≡◌, ◌*◌, ◌/◌, ◌%◌, ◌≤◌, IfOk, length, replicate};
 ghost use Rattle.sector_disk.specs.DiskView.{shown_of};
 ghost use Rattle.sector_disk.specs.Sizes.{Begins, IsDiskSize, IsImageSize};

@@ -1,5 +1,4 @@
 //! The disk under layers that take messages: it takes none, and answers that each is a bad message.
-//! Its clauses are in words of `blockdev`; the search alone proves it.
 ghost use Rattle.std.specs.Prelude.{◌≡◌, Err};
 ghost use Rattle.blockdev.specs.declared.message.MessageError.TheVariants.{BadMessage};
 

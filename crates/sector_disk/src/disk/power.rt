@@ -1,5 +1,4 @@
 //! The disk loses power: `crash` leaves in each unsynced sector the candidate that its pick names.
-//! Its clauses are written in specs/; its theorems in proofs/disk/power/.
 ghost use Rattle.std.specs.Prelude.{◌≡◌, ◌≤◌, length, vec_capacity};
 ghost use Rattle.sector_disk.specs.Candidates.{left_by};
 ghost use Rattle.sector_disk.specs.DiskView.{cache_of, shown_of};

@@ -1,5 +1,4 @@
 -- What the reader finds of a delay line and of a dust line.
--- Its own crate alone cites it.
 use Rattle.std.proofs.Common.{◌≡◌, ℕ, ◌+◌, Bool, true, false, ◌&&◌, ◌||◌, not, cond, List, [], ◌∷◌}
 use Rattle.std.proofs.Common.{length, Option, Some, None, Result, Ok, Err, inl, inr, refl, ap}
 use Rattle.std.proofs.Common.{subst, sym, ◌∙◌, arith}

@@ -1,6 +1,5 @@
 -- What a line asks for, as the reader finds it, step by step. `TableLines` and `Refusals` say it in
 -- the words of the table; they agree by proof.
--- Its own crate alone cites it.
 use Rattle.std.specs.Prelude.{ℕ, ◌+◌, ◌&&◌, Bool, List, Option, Some, None, Result, Ok, Err, codes}
 use Rattle.std.specs.Prelude.{is_none, length, nat_eq, slice_get, if◌then◌else◌}
 use Rattle.std.specs.Str.{bytes_eq}

@@ -1,5 +1,4 @@
 -- What the reader finds is what the table's words say, and its errors are the tests that fail.
--- Its own crate alone cites it.
 use Rattle.std.proofs.Common.{◌≡◌, ℕ, ◌+◌, ◌≤◌, Bool, true, false, ◌&&◌, ◌||◌, not, cond, List, []}
 use Rattle.std.proofs.Common.{◌∷◌, length, length-drop, drop, Option, Some, None, Result, Ok, Err}
 use Rattle.std.proofs.Common.{inl, inr, refl, ap, subst, sym, ◌∙◌, arith}

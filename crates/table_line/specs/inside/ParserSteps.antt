@@ -1,6 +1,5 @@
 -- What the reader finds of a line, step by step: its tests,
 -- its words and its values, whatever its target.
--- Its own crate alone cites it.
 use Rattle.std.proofs.Common.{◌≡◌, ℕ, zero, suc, ◌+◌, ◌<◌, Bool, true, false, ◌&&◌, not, cond, List}
 use Rattle.std.proofs.Common.{[], ◌∷◌, length, drop, Option, Some, None, Result, Ok, Err, refl, ap}
 use Rattle.std.proofs.Common.{sym, ◌∙◌, arith}

@@ -1,5 +1,4 @@
 -- A run that leaves a content that the device could hold, made outright.
--- Its own crate alone cites it.
 use Rattle.std.specs.Prelude.{◌≡◌, ℕ, ◌+◌, ◌^◌, ◌==◌, ◌<◌, ◌≤◌, Bool, true, false, not, ◌&&◌}
 use Rattle.std.specs.Prelude.{Option, Some, None, List, [], ◌∷◌, ◌++◌, length, nat_le, slice_get}
 use Rattle.std.specs.Prelude.{if◌then◌else◌}

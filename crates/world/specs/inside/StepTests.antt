@@ -1,5 +1,4 @@
 -- The machine's tests of a step, over the cells and the calls that a world keeps.
--- Its own crate alone cites it.
 use Rattle.std.specs.Prelude.{◌≡◌, ℕ, ◌+◌, ◌≤◌, Bool, true, not, ◌&&◌, ◌||◌, Option, is_some, List}
 use Rattle.std.specs.Prelude.{nat_le, nat_lt, reverse, slice_get, take}
 use Rattle.std.specs.List.{list_all, list_any}

@@ -1,4 +1,3 @@
--- Answers to the goals of `discards_put_zeroes` (src/content.rt) that the search leaves.
 use Rattle.std.proofs.Common.{replicate}
 use Rattle.bio.specs.ContentLaws.{put-discards, put-outside}
 use Rattle.bio.proofs.content.discards_put_zeroes.Goals as goal

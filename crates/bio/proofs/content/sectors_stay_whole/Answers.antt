@@ -1,4 +1,3 @@
--- Answers to the goals of `sectors_stay_whole` (src/content.rt) that the search leaves.
 use Rattle.bio.specs.ContentLaws.{discards-whole, whole-patched, writes-whole}
 use Rattle.bio.proofs.content.sectors_stay_whole.Goals as goal
 

@@ -1,4 +1,3 @@
--- Answers to the goals of `values_are_put` (src/content.rt) that the search leaves.
 use Rattle.bio.specs.ContentLaws.{put-none, put-some}
 use Rattle.bio.proofs.content.values_are_put.Goals as goal
 

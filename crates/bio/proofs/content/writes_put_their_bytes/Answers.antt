@@ -1,4 +1,3 @@
--- Answers to the goals of `writes_put_their_bytes` (src/content.rt) that the search leaves.
 use Rattle.std.proofs.Common.{◌/◌, length}
 use Rattle.bio.specs.Content.{sector_of}
 use Rattle.bio.specs.ContentLaws.{HasBytes-put, put-outside, put-writes}

@@ -1,4 +1,3 @@
--- Answers to the goals of `ends_come_before` (src/laws.rt) that the search leaves.
 use Rattle.bio.specs.RequestLaws.{is_before-end}
 use Rattle.bio.proofs.laws.ends_come_before.Goals as goal
 

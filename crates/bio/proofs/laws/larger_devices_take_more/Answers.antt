@@ -1,4 +1,3 @@
--- Answers to the goals of `larger_devices_take_more` (src/laws.rt) that the search leaves.
 use Rattle.bio.specs.RequestLaws.{check_answer-larger}
 use Rattle.bio.proofs.laws.larger_devices_take_more.Goals as goal
 

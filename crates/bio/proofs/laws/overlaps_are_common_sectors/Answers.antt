@@ -1,4 +1,3 @@
--- Answers to the goals of `overlaps_are_common_sectors` (src/laws.rt) that the search leaves.
 use Rattle.bio.specs.RequestLaws.{overlaps-common}
 use Rattle.bio.proofs.laws.overlaps_are_common_sectors.Goals as goal
 

@@ -1,4 +1,3 @@
--- Answers to the goals of `sectors_are_covered` (src/laws.rt) that the search leaves.
 use Rattle.std.proofs.Common.{refl}
 use Rattle.bio.specs.declared.request.Bio.TheVariants.{Write, Discard}
 use Rattle.bio.specs.RequestLaws.{covers-range}

@@ -1,4 +1,3 @@
--- Answers to the goals of `sized_requests_pass_both` (src/laws.rt) that the search leaves.
 use Rattle.bio.specs.SizeLaws.{sized_passed, sized_passes}
 use Rattle.bio.proofs.laws.sized_requests_pass_both.Goals as goal
 

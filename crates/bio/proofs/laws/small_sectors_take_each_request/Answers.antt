@@ -1,4 +1,3 @@
--- Answers to the goals of `small_sectors_take_each_request` (src/laws.rt) that the search leaves.
 use Rattle.bio.specs.SizeLaws.{lawful_small, small_answer}
 use Rattle.bio.proofs.laws.small_sectors_take_each_request.Goals as goal
 

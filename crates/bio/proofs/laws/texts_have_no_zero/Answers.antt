@@ -1,4 +1,3 @@
--- Answers to the goals of `texts_have_no_zero` (src/laws.rt) that the search leaves.
 use Rattle.bio.specs.RequestLaws.{is_text-nonzero}
 use Rattle.bio.proofs.laws.texts_have_no_zero.Goals as goal
 

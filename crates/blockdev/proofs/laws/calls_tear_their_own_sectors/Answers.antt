@@ -1,4 +1,3 @@
--- Answers to the goals of `calls_tear_their_own_sectors` (src/laws.rt) that the search leaves.
 use Rattle.blockdev.specs.DurableLaws.{after-torn}
 use Rattle.blockdev.proofs.laws.calls_tear_their_own_sectors.Goals as goal
 

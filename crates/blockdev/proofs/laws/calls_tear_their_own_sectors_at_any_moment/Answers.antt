@@ -1,5 +1,3 @@
--- Answers to goals of `calls_tear_their_own_sectors_at_any_moment`.
--- Its own crate alone cites it, for the theorems of src/laws.rt.
 use Rattle.blockdev.specs.DurableLaws.{gained-torn}
 use Rattle.blockdev.proofs.laws.calls_tear_their_own_sectors_at_any_moment.Goals as goal
 

@@ -1,4 +1,3 @@
--- Answers to the goals of `flushed_writes_outlive_crashes` (src/laws.rt) that the search leaves.
 use Rattle.blockdev.specs.DurableLaws.{landed-flushed}
 use Rattle.blockdev.proofs.laws.flushed_writes_outlive_crashes.Goals as goal
 

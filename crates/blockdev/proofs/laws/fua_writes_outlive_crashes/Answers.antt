@@ -1,4 +1,3 @@
--- Answers to the goals of `fua_writes_outlive_crashes` (src/laws.rt) that the search leaves.
 use Rattle.blockdev.specs.DurableLaws.{landed-durable}
 use Rattle.blockdev.proofs.laws.fua_writes_outlive_crashes.Goals as goal
 

@@ -1,4 +1,3 @@
--- Answers to the goals of `Blank::new` (src/lib.rt) that the search leaves.
 use Rattle.std.proofs.Common.{refl}
 use Rattle.board.proofs.Moves.{begins}
 use Rattle.board.proofs.Blank.new.Goals as goal

@@ -1,4 +1,3 @@
--- Answers to the goals of `Board::agree` (src/lib.rt) that the search leaves.
 use Rattle.std.proofs.Common.{sym, ap, ◌∙◌, arith}
 use Rattle.atomic_table.specs.Table.{Me}
 use Rattle.board.specs.declared.rule.Knows.{Knows}

@@ -1,4 +1,3 @@
--- Answers to the goals of `Board::publish` (src/lib.rt) that the search leaves.
 use Rattle.std.proofs.Common.{List, [], sym, ap, ◌∙◌, arith}
 use Rattle.bio.specs.declared.outcome.Status.{Status}
 use Rattle.atomic_table.specs.Table.{Me}

@@ -1,4 +1,3 @@
--- Answers to the goals of `Board::read` (src/lib.rt) that the search leaves.
 use Rattle.std.proofs.Common.{List, sym, ◌∙◌, subst, arith}
 use Rattle.bio.specs.declared.outcome.Status.{Status}
 use Rattle.board.specs.Posts.{last_of, MayFollow}

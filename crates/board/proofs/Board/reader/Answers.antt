@@ -1,4 +1,3 @@
--- Answers to the goals of `Board::reader` (src/lib.rt) that the search leaves.
 use Rattle.std.proofs.Common.{sym, ◌∙◌, arith}
 use Rattle.board.proofs.Moves.{splits}
 use Rattle.board.proofs.Board.reader.Goals as goal

@@ -1,4 +1,3 @@
--- Answers to the goals of `cut` (src/rings.rt) that the search leaves.
 use Rattle.std.proofs.Common.{set, Some, refl, ap, sym, ◌∙◌, arith}
 use Rattle.chains.specs.inside.Rings.{after}
 use Rattle.chains.proofs.HoldsLaws.{holds-cut, holds-emptied, first-is-row, last-is-row, holds-same}

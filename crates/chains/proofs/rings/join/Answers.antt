@@ -1,4 +1,3 @@
--- Answers to the goals of `join` (src/rings.rt) that the search leaves.
 use Rattle.std.proofs.Common.{sym, ◌∙◌, arith}
 use Rattle.chains.proofs.HoldsLaws.{holds-joined, holds-same, last-is-row}
 use Rattle.chains.proofs.rings.join.Goals as goal

@@ -1,4 +1,3 @@
--- Answers to the goals of `put_before` (src/rings.rt) that the search leaves.
 use Rattle.std.proofs.Common.{[], length, set, None, ap, sym, ◌∙◌, arith, length-set}
 use Rattle.chains.specs.Edits.{chain_in}
 use Rattle.chains.proofs.HoldsLaws.{holds-fronted, ring-at, holds-same, ring-same, holds-loosened}

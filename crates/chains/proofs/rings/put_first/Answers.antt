@@ -1,4 +1,3 @@
--- Answers to the goals of `put_first` (src/rings.rt) that the search leaves.
 use Rattle.std.proofs.Common.{length, set, Some, None, ap, sym, ◌∙◌, arith, length-set}
 use Rattle.std.proofs.lemmas.List.{get_or-set_same}
 use Rattle.chains.specs.inside.Rings.{after, last_in}

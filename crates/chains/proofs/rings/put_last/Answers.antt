@@ -1,4 +1,3 @@
--- Answers to the goals of `put_last` (src/rings.rt) that the search leaves.
 use Rattle.std.proofs.Common.{refl, arith}
 use Rattle.chains.proofs.HoldsLaws.{holds-lengthened, holds-same, loose-is-row}
 use Rattle.chains.proofs.rings.put_last.Goals as goal

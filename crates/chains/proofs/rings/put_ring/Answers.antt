@@ -1,4 +1,3 @@
--- Answers to the goals of `put_ring` (src/rings.rt) that the search leaves.
 use Rattle.std.proofs.Common.{length, set, Some, ap, sym, ◌∙◌, arith, length-set}
 use Rattle.chains.specs.inside.Rings.{after}
 use Rattle.chains.proofs.HoldsLaws.{holds-embraced, holds-named, holds-same, last-again}

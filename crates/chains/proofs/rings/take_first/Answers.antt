@@ -1,4 +1,3 @@
--- Answers to the goals of `take_first` (src/rings.rt) that the search leaves.
 use Rattle.std.proofs.Common.{ℕ, List, ◌∷◌, length, set, Some, None, refl, ap, sym, ◌∙◌, subst}
 use Rattle.std.proofs.Common.{arith, length-set}
 use Rattle.chains.specs.declared.links.Links.{Links}

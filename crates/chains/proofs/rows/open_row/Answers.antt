@@ -1,4 +1,3 @@
--- Answers to the goals of `open_row` (src/rows.rt) that the search leaves.
 use Rattle.std.proofs.Common.{◌≡◌, [], ◌∷◌, ◌++◌, length, refl, ap, sym, ◌∙◌, arith}
 use Rattle.chains.specs.declared.links.Links.{Links}
 use Rattle.chains.proofs.HoldsLaws.{none-at}

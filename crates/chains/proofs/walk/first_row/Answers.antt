@@ -1,4 +1,3 @@
--- Answers to the goals of `first_row` (src/walk.rt) that the search leaves.
 use Rattle.std.proofs.Common.{sym, ◌∙◌}
 use Rattle.chains.proofs.HoldsLaws.{last-is-row}
 use Rattle.chains.proofs.walk.first_row.Goals as goal

@@ -1,4 +1,3 @@
--- Answers to the goals of `word_of` (src/asking.rt) that the search leaves.
 use Rattle.std.proofs.Common.{◌∙◌}
 use Rattle.clap.proofs.WalkLemmas.{first_value-rows}
 use Rattle.clap.specs.Words.{found_of}

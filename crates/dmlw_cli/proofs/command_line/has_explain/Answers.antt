@@ -1,4 +1,3 @@
--- Answers to the goals of `has_explain` (src/command_line.rt) that the search leaves.
 use Rattle.std.proofs.Common.{◌∙◌, ◌≤◌, ◌-◌, arith, drop, length, length-drop}
 use Rattle.std.proofs.lemmas.List.{take_all}
 use Rattle.dmlw_cli.proofs.TaskOfWords.{explains_of}

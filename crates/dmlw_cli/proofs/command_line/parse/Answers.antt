@@ -1,4 +1,3 @@
--- Answers to the goals of `parse` (src/command_line.rt) that the search leaves.
 use Rattle.std.proofs.Common.{◌∙◌, List, map, ap, subst}
 use Rattle.std.proofs.lemmas.Result.{IfOk-weaker}
 use Rattle.clap.specs.Words.{App, FailsBy, Kinds, Text, fault_of, is_simple, is_simple_and_free}

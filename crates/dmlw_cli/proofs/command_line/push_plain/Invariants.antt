@@ -1,4 +1,3 @@
--- What holds at the calls and the turns of the loops of `push_plain` (src/command_line.rt).
 use Rattle.std.proofs.Common.{◌≡◌, ◌++◌, map, not, take}
 use Rattle.std.specs.List.{filter}
 use Rattle.dmlw_cli.specs.CommandLine.{is_explain}

@@ -1,4 +1,3 @@
--- Answers to the goals of `unread` (src/command_line.rt) that the search leaves.
 use Rattle.dmlw_cli.proofs.Ends.{memory_read}
 use Rattle.dmlw_cli.proofs.command_line.unread.Goals as goal
 

@@ -1,4 +1,3 @@
--- Answers to the goals of `execute` (src/executing.rt) that the search leaves.
 use Rattle.std.proofs.Common.{◌∙◌}
 use Rattle.dmlw_cli.proofs.Ends.{ends_task, task_tells}
 use Rattle.dmlw_cli.proofs.executing.execute.Goals as goal

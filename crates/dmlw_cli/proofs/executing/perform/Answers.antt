@@ -1,4 +1,3 @@
--- Answers to the goals of `perform` (src/executing.rt) that the search leaves.
 use Rattle.dmlw_cli.proofs.Ends.{asks_for_one}
 use Rattle.dmlw_cli.proofs.executing.perform.Goals as goal
 

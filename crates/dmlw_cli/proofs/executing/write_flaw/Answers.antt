@@ -1,4 +1,3 @@
--- Answers to the goals of `write_flaw` (src/executing.rt) that the search leaves.
 use Rattle.std.proofs.Common.{List, ℕ, ◌++◌, subst}
 use Rattle.std.specs.Prelude.{codes}
 use Rattle.std.specs.Io.KnownBytes.{Appends}

@@ -1,4 +1,3 @@
--- Answers to the goals of `plain_words_copy` (src/laws.rt) that the search leaves.
 use Rattle.dmlw_cli.proofs.PlainCommands.{copy_done, copy_leaves}
 use Rattle.dmlw_cli.proofs.laws.plain_words_copy.Goals as goal
 

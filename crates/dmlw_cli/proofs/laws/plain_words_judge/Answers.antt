@@ -1,4 +1,3 @@
--- Answers to the goals of `plain_words_judge` (src/laws.rt) that the search leaves.
 use Rattle.dmlw_cli.proofs.PlainCommands.{judge_done}
 use Rattle.dmlw_cli.proofs.laws.plain_words_judge.Goals as goal
 

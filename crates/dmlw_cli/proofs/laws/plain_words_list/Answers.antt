@@ -1,4 +1,3 @@
--- Answers to the goals of `plain_words_list` (src/laws.rt) that the search leaves.
 use Rattle.dmlw_cli.proofs.PlainCommands.{list_done}
 use Rattle.dmlw_cli.proofs.laws.plain_words_list.Goals as goal
 

@@ -1,4 +1,3 @@
--- Answers to the goals of `plain_words_path` (src/laws.rt) that the search leaves.
 use Rattle.dmlw_cli.proofs.PlainCommands.{path_done}
 use Rattle.dmlw_cli.proofs.laws.plain_words_path.Goals as goal
 

@@ -1,4 +1,3 @@
--- Answers to the goals of `plain_words_record` (src/laws.rt) that the search leaves.
 use Rattle.dmlw_cli.proofs.PlainCommands.{record_done, record_leaves}
 use Rattle.dmlw_cli.proofs.laws.plain_words_record.Goals as goal
 

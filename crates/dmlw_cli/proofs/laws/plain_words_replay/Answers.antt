@@ -1,4 +1,3 @@
--- Answers to the goals of `plain_words_replay` (src/laws.rt) that the search leaves.
 use Rattle.dmlw_cli.proofs.PlainCommands.{replay_done, replay_leaves}
 use Rattle.dmlw_cli.proofs.laws.plain_words_replay.Goals as goal
 

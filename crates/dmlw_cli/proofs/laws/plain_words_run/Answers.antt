@@ -1,4 +1,3 @@
--- Answers to the goals of `plain_words_run` (src/laws.rt) that the search leaves.
 use Rattle.dmlw_cli.proofs.PlainCommands.{run_done, run_leaves}
 use Rattle.dmlw_cli.proofs.laws.plain_words_run.Goals as goal
 

@@ -1,4 +1,3 @@
--- Answers to the goals of `copy_command` (src/program.rt) that the search leaves.
 use Rattle.std.proofs.Common.{◌∙◌, ap}
 use Rattle.clap.specs.Simple.{app_of_fields}
 use Rattle.dmlw_cli.proofs.Apps.{arg_added, arg_chained}

@@ -1,4 +1,3 @@
--- Answers to the goals of `program_command` (src/program.rt) that the search leaves.
 use Rattle.dmlw_cli.specs.CommandLine.{command_app}
 use Rattle.dmlw_cli.specs.declared.name.Name.TheVariants as names
 use Rattle.dmlw_cli.proofs.Apps.{chained, chained_is}

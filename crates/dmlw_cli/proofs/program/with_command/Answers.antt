@@ -1,4 +1,3 @@
--- Answers to the goals of `with_command` (src/program.rt) that the search leaves.
 use Rattle.std.proofs.Common.{IfOk, subst}
 use Rattle.dmlw_cli.specs.CommandLine.{IsCommandOf}
 use Rattle.dmlw_cli.proofs.Apps.{command_added}

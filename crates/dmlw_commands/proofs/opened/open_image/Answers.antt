@@ -1,4 +1,3 @@
--- Answers to the goals of `open_image` (src/opened.rt) that the search leaves.
 use Rattle.std.proofs.Common.{◌∙◌, ap, refl}
 use Rattle.log_reader.specs.ReaderView.{reader_of}
 use Rattle.refusals.specs.Errors.{refused_by}

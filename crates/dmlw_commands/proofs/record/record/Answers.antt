@@ -1,4 +1,3 @@
--- Answers to the goals of `record` (src/record.rt) that the search leaves.
 use Rattle.std.proofs.Common.{◌∙◌}
 use Rattle.dmlw_commands.specs.EndLaws.{ends_told}
 use Rattle.dmlw_commands.proofs.CommandEnds.{done_holds, ended_holds, keeps_or_asks, recording_ends}

@@ -1,4 +1,3 @@
--- Answers to the goals of `run_file` (src/record.rt) that the search leaves.
 use Rattle.script_runner.specs.CallLaws.{on_error}
 use Rattle.dmlw_commands.proofs.RecordEnds.{fails_for_file, fails_of_text, not_too_long}
 use Rattle.dmlw_commands.proofs.RecordEnds.{printed_of_text}

@@ -1,4 +1,3 @@
--- Answers to the goals of `run_script` (src/record.rt) that the search leaves.
 use Rattle.script_runner.specs.CallLaws.{on_error}
 use Rattle.dmlw_commands.proofs.RecordEnds.{fails_run, fails_to_tell, printed}
 use Rattle.dmlw_files.specs.Images.{image_of}

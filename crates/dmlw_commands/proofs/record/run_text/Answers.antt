@@ -1,4 +1,3 @@
--- Answers to the goals of `run_text` (src/record.rt) that the search leaves.
 use Rattle.std.proofs.Common.{refl}
 use Rattle.script_runner.specs.CallLaws.{on_error}
 use Rattle.dmlw_commands.proofs.RecordEnds.{fails_unread}

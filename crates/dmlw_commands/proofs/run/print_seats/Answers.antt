@@ -1,4 +1,3 @@
--- Answers to the goals of `print_seats` (src/run.rt) that the search leaves.
 use Rattle.std.proofs.Common.{◌+◌, ◌<◌, arith, length}
 use Rattle.std.proofs.lemmas.Option.{slice_get-get_or}
 use Rattle.dmlw_commands.proofs.SeatLines.{prints_next}

@@ -1,4 +1,3 @@
--- What holds at the calls and the turns of the loops of `print_seats` (src/run.rt).
 use Rattle.std.proofs.Common.{take}
 use Rattle.std.specs.Io.KnownBytes.{Appends}
 use Rattle.dmlw_commands.specs.LogRuns.{seat_lines}

@@ -1,4 +1,3 @@
--- Answers to the goals of `run` (src/run.rt) that the search leaves.
 use Rattle.std.proofs.Common.{◌≡◌, ◌∙◌, Err, Result, subst}
 use Rattle.bio.specs.declared.outcome.Status.{Status}
 use Rattle.refusals.specs.declared.refusal.Refusal.TheVariants as refusals

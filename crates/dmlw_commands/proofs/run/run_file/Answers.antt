@@ -1,4 +1,3 @@
--- Answers to the goals of `run_file` (src/run.rt) that the search leaves.
 use Rattle.script_runner.specs.CallLaws.{on_error}
 use Rattle.dmlw_commands.proofs.RunOutcome.{fails_for_file, fails_of_text, not_too_long, printed_of_text}
 use Rattle.dmlw_commands.proofs.run.run_file.Goals as goal

@@ -1,4 +1,3 @@
--- Answers to the goals of `run_named` (src/run.rt) that the search leaves.
 use Rattle.std.proofs.Common.{inl, refl}
 use Rattle.dmlw_files.specs.Images.{image_of}
 use Rattle.script_runner.specs.CallLaws.{on_error}

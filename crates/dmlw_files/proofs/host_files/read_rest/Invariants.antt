@@ -1,4 +1,3 @@
--- What holds at the turns of the loop of `read_rest` (src/host_files.rt).
 use Rattle.std.proofs.Common.{◌≡◌, ◌*◌, length}
 use Rattle.std.specs.Io.KnownBytes.{Consumes}
 use Rattle.dmlw_files.proofs.host_files.read_rest.Given as goal

@@ -1,4 +1,3 @@
--- Answers to the goals of `write_sectors` (src/pieces.rt) that the search leaves.
 use Rattle.std.proofs.Common.{◌∙◌, ◌+◌, ◌*◌, ◌/◌, arith, length, take, ◌≡◌}
 use Rattle.std.proofs.lemmas.List.{length-take}
 use Rattle.std.specs.Prelude.{min}

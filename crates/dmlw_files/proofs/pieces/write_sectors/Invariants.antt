@@ -1,4 +1,3 @@
--- What holds at the calls and the turns of the loops of `write_sectors` (src/pieces.rt).
 use Rattle.std.proofs.Common.{◌≡◌, ◌*◌}
 use Rattle.std.specs.Prelude.{min}
 use Rattle.std.specs.Io.KnownBytes.{Appends}

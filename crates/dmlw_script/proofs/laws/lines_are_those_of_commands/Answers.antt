@@ -1,4 +1,3 @@
--- Answers to the goals of `lines_are_those_of_commands` (src/laws.rt) that the search leaves.
 use Rattle.dmlw_script.proofs.ScriptLaws.{line_found, line_says, lined, one_line}
 use Rattle.dmlw_script.proofs.laws.lines_are_those_of_commands.Goals as goal
 

@@ -1,4 +1,3 @@
--- Answers to the goals of `lines_make_a_text` (src/laws.rt) that the search leaves.
 use Rattle.dmlw_script.proofs.CanonicalTextLaws.{ended_lines, ended_but_last}
 use Rattle.dmlw_script.proofs.laws.lines_make_a_text.Goals as goal
 

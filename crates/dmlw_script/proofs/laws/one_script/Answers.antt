@@ -1,4 +1,3 @@
--- Answers to the goals of `one_script` (src/laws.rt) that the search leaves.
 use Rattle.dmlw_script.specs.Lines.{lines_of}
 use Rattle.dmlw_script.proofs.ReaderLaws.{one_script}
 use Rattle.dmlw_script.proofs.RecorderLaws.{recorder}

@@ -1,4 +1,3 @@
--- Answers to the goals of `skipped_lines_say_nothing` (src/laws.rt) that the search leaves.
 use Rattle.dmlw_script.proofs.ScriptLaws.{spells_with, spells_without}
 use Rattle.dmlw_script.proofs.laws.skipped_lines_say_nothing.Goals as goal
 

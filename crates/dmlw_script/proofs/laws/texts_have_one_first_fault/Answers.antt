@@ -1,4 +1,3 @@
--- Answers to the goals of `texts_have_one_first_fault` (src/laws.rt) that the search leaves.
 use Rattle.dmlw_script.proofs.FaultLaws.{no_fault, one_first_fault, script_or_fault}
 use Rattle.dmlw_script.proofs.RecorderFaults.{recorder_faults}
 use Rattle.dmlw_script.proofs.RecorderLaws.{recorder}

@@ -1,4 +1,3 @@
--- Answers to the goals of `layer_of` (src/line.rt) that the search leaves.
 use Rattle.std.proofs.Common.{ap}
 use Rattle.refusals.specs.Words.{words_of}
 use Rattle.dmlw_script.specs.declared.line.HeadLine.TheVariants as head_lines

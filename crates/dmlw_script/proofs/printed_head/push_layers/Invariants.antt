@@ -1,4 +1,3 @@
--- What holds at the calls and the turns of the loops of `push_layers` (src/printed_head.rt).
 use Rattle.std.proofs.Common.{◌≡◌, ◌++◌, drop}
 use Rattle.std.specs.Prelude.{flat_map, map}
 use Rattle.dmlw_script.specs.CanonicalText.{ended_line}

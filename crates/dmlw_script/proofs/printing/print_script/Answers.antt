@@ -1,4 +1,3 @@
--- Answers to the goals of `print_script` (src/printing.rt) that the search leaves.
 use Rattle.std.proofs.Common.{◌≡◌, List, sym, subst, ℕ}
 use Rattle.dmlw_script.specs.Grammar.{IsTextOf}
 use Rattle.dmlw_script.specs.CanonicalText.{canonical_text}

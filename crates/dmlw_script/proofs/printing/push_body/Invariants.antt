@@ -1,4 +1,3 @@
--- What holds at the calls and the turns of the loops of `push_body` (src/printing.rt).
 use Rattle.std.proofs.Common.{◌≡◌, ◌+◌, ◌++◌, length, take, drop}
 use Rattle.std.specs.Prelude.{flat_map}
 use Rattle.dmlw_script.specs.Plans.{lines_of_body, submissions, top_of, IsWellFormed}

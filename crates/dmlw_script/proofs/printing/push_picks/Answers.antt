@@ -1,4 +1,3 @@
--- Answers to the goals of `push_picks` (src/printing.rt) that the search leaves.
 use Rattle.std.proofs.Common.{◌≡◌, ◌++◌, ◌∷◌, ◌∙◌, List, ap, sym, arith, ℕ}
 use Rattle.std.proofs.lemmas.List.{append-nil, drop_all}
 use Rattle.std.specs.Prelude.{codes, decimal, flat_map}

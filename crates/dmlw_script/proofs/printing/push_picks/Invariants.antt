@@ -1,4 +1,3 @@
--- What holds at the calls and the turns of the loops of `push_picks` (src/printing.rt).
 use Rattle.std.proofs.Common.{◌≡◌, ◌++◌, ◌∷◌, drop}
 use Rattle.std.specs.Prelude.{codes, decimal, flat_map}
 use Rattle.dmlw_script.proofs.printing.push_picks.Given as goal

@@ -1,4 +1,3 @@
--- What holds at the calls and the turns of the loops of `line_of` (src/reader.rt).
 use Rattle.std.proofs.Common.{◌≡◌, ◌≤◌, ◌+◌, length}
 use Rattle.std.specs.Prelude.{slice_get}
 use Rattle.dmlw_script.specs.Lines.{command_line, unskipped_numbers, lines_of}

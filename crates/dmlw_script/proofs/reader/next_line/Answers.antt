@@ -1,4 +1,3 @@
--- Answers to the goals of `next_line` (src/reader.rt) that the search leaves.
 use Rattle.std.proofs.Common.{◌≡◌, ◌<◌, [], length, arith, sym, ap, ◌∙◌}
 use Rattle.std.specs.Prelude.{unwrap_or, option_copied}
 use Rattle.std.proofs.lemmas.Bool.{eqb-false}

@@ -1,4 +1,3 @@
--- Answers to the goals of `read` (src/reader.rt) that the search leaves.
 use Rattle.std.proofs.Common.{◌≡◌, ap, sym, ◌∙◌, []}
 use Rattle.dmlw_script.specs.Lines.{lines_of}
 use Rattle.dmlw_script.specs.inside.Readers.{progress_of, read_lines, read_text}

@@ -1,4 +1,3 @@
--- What holds at the calls and the turns of the loops of `read` (src/reader.rt).
 use Rattle.std.proofs.Common.{◌≡◌, ◌≤◌, ◌+◌, length}
 use Rattle.dmlw_script.specs.Lines.{lines_of}
 use Rattle.dmlw_script.specs.inside.Readers.{progress_of, read_lines, read_text, IsReader}

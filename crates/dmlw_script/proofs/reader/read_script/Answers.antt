@@ -1,4 +1,3 @@
--- Answers to the goals of `read_script` (src/reader.rt) that the search leaves.
 use Rattle.dmlw_script.specs.Lines.{lines_of}
 use Rattle.dmlw_script.specs.FirstFault.{IsFaultOf, IsReadAs}
 use Rattle.dmlw_script.proofs.FaultLaws.{fault_found}

@@ -1,4 +1,3 @@
--- Answers to the goals of `push_run_head` (src/run_printing.rt) that the search leaves.
 use Rattle.std.proofs.Common.{◌≡◌, List, subst, ℕ}
 use Rattle.std.specs.Prelude.{OnOk}
 use Rattle.dmlw_script.proofs.RunSpelling.{run_head_written}

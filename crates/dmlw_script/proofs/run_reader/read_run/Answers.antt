@@ -1,4 +1,3 @@
--- Answers to the goals of `read_run` (src/run_reader.rt) that the search leaves.
 use Rattle.std.proofs.Common.{◌≡◌, ap, sym, ◌∙◌, []}
 use Rattle.dmlw_script.specs.Lines.{lines_of}
 use Rattle.dmlw_script.specs.inside.RunReaders.{read_run_lines, read_run_text, run_progress}

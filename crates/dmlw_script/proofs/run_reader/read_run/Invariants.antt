@@ -1,4 +1,3 @@
--- What holds at the calls and the turns of the loops of `read_run` (src/run_reader.rt).
 use Rattle.std.proofs.Common.{◌≡◌, ◌≤◌, ◌+◌, length}
 use Rattle.dmlw_script.specs.Lines.{lines_of}
 use Rattle.dmlw_script.specs.inside.RunReaders.{read_run_lines, read_run_text, run_progress}

@@ -1,4 +1,3 @@
--- Answers to the goals of `read_run_script` (src/run_reader.rt) that the search leaves.
 use Rattle.dmlw_script.specs.Lines.{lines_of}
 use Rattle.dmlw_script.specs.RunFirstFault.{IsRunFaultAt, IsReadAsRun}
 use Rattle.dmlw_script.proofs.FaultLaws.{fault_found}

@@ -1,4 +1,3 @@
--- Answers to the goals of `picks_of` (src/values.rt) that the search leaves.
 use Rattle.std.proofs.Common.{◌≡◌, ◌+◌, List, ℕ, refl, ap, sym, ◌∙◌, arith, length}
 use Rattle.std.specs.Prelude.{option_copied}
 use Rattle.dmlw_script.specs.inside.LineParser.{picks_of as the_picks}

@@ -1,4 +1,3 @@
--- What holds at the calls and the turns of the loops of `picks_of` (src/values.rt).
 use Rattle.std.proofs.Common.{◌≡◌}
 use Rattle.std.specs.Prelude.{option_copied}
 use Rattle.dmlw_script.specs.inside.LineParser.{picks_of}

@@ -1,4 +1,3 @@
--- Answers to the goals of `change_blocks` (src/blocks.rt) that the search leaves.
 use Rattle.std.proofs.Common.{refl, sym, ◌∙◌, arith}
 use Rattle.dust_layer.specs.BadBlocks.{listed}
 use Rattle.dust_layer.proofs.BlockWalk.{changes_failed, changes_fails, changes_first, changes_goes}

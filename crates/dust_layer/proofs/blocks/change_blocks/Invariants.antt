@@ -1,4 +1,3 @@
--- What holds at the calls and the turns of the loops of `change_blocks` (src/blocks.rt).
 use Rattle.dust_layer.specs.BadBlocks.{listed}
 use Rattle.dust_layer.specs.Change.{call_of, fua_of}
 use Rattle.dust_layer.proofs.BlockWalk.{Changes}

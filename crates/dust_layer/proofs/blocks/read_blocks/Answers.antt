@@ -1,4 +1,3 @@
--- Answers to the goals of `read_blocks` (src/blocks.rt) that the search leaves.
 use Rattle.std.proofs.Common.{refl, sym, ◌∙◌, arith}
 use Rattle.blockdev.specs.JoinLaws.{goes_both}
 use Rattle.bio.specs.Content.{nothing}

@@ -1,4 +1,3 @@
--- What holds at the calls and the turns of the loops of `read_blocks` (src/blocks.rt).
 use Rattle.std.proofs.Common.{◌≡◌, length}
 use Rattle.dust_layer.specs.BadBlocks.{listed}
 use Rattle.dust_layer.proofs.ReadParts.{Reading}

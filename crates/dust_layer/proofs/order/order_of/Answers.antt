@@ -1,4 +1,3 @@
--- Answers to the goals of `order_of` (src/order.rt) that the search leaves.
 use Rattle.std.proofs.Common.{sym, ◌∙◌}
 use Rattle.dust_layer.proofs.OrderLaws.{order_again, order_read}
 use Rattle.dust_layer.proofs.order.order_of.Goals as goal

@@ -1,4 +1,3 @@
--- Answers to the goals of `read_part` (src/parts.rt) that the search leaves.
 use Rattle.std.proofs.Common.{◌+◌, ◌-◌, ◌*◌, arith}
 use Rattle.std.proofs.lemmas.Slice.{drop-put_mid}
 use Rattle.dust_layer.proofs.parts.read_part.Goals as goal

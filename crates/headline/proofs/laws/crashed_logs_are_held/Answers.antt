@@ -1,4 +1,3 @@
--- Answers to the goals of `crashed_logs_are_held` (src/laws.rt) that the search leaves.
 use Rattle.std.proofs.Common.{◌∙◌, ◌/◌, ℕ, ◌+◌, IsTrue, List, ap, arith, length, subst}
 use Rattle.std.proofs.Common.{sym, take}
 use Rattle.std.proofs.Math.Nat.{div-mul-le_self}

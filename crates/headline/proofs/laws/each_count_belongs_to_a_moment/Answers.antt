@@ -1,4 +1,3 @@
--- Answers to the goals of `each_count_belongs_to_a_moment` (src/laws.rt) that the search leaves.
 use Rattle.std.proofs.Common.{ℕ, ◌≤◌, List, length, ap, arith}
 use Rattle.bio.specs.declared.event.CoreEvent.{CoreEvent}
 use Rattle.pending.specs.CompletionList.{completion_list, dm_log_writes}

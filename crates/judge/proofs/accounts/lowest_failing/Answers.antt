@@ -1,4 +1,3 @@
--- Answers to the goals of `lowest_failing` (src/accounts.rt) that the search leaves.
 use Rattle.std.proofs.Common.{length, ap, sym, ◌∙◌, inl, inr, arith}
 use Rattle.bio.specs.Content.{sector_of}
 use Rattle.bio.specs.PlaceLaws.{last_or_below}

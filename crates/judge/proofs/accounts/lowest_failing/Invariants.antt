@@ -1,4 +1,3 @@
--- What holds at the calls and the turns of the loops of `lowest_failing` (src/accounts.rt).
 use Rattle.std.proofs.Common.{◌≡◌, ℕ, ◌<◌, length, true}
 use Rattle.bio.specs.Content.{sector_of}
 use Rattle.judge.specs.Firsts.{first_on}

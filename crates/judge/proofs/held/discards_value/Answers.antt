@@ -1,4 +1,3 @@
--- Answers to the goals of `discards_value` (src/held.rt) that the search leaves.
 use Rattle.std.proofs.Common.{replicate, ◌∙◌}
 use Rattle.judge.proofs.Values.{some_value}
 use Rattle.judge.proofs.held.discards_value.Goals as goal

@@ -1,4 +1,3 @@
--- Answers to the goals of `held_values` (src/held.rt) that the search leaves.
 use Rattle.std.proofs.Common.{◌≡◌, ℕ, suc, ◌+◌, ◌/◌, length, ◌∙◌, subst, arith}
 use Rattle.bio.specs.Content.{sector_of}
 use Rattle.bio.specs.PlaceLaws.{stands_there}

@@ -1,4 +1,3 @@
--- What holds at the calls and the turns of the loops of `held_values` (src/held.rt).
 use Rattle.std.proofs.Common.{◌/◌, length}
 use Rattle.bio.specs.Content.{sector_of}
 use Rattle.judge.specs.inside.Accounts.{AreHeld}

@@ -1,4 +1,3 @@
--- Answers to the goals of `hold_range` (src/held.rt) that the search leaves.
 use Rattle.std.proofs.Common.{◌≡◌, ℕ, suc, ◌+◌, Some, sym, ◌∙◌, subst, arith}
 use Rattle.bio.specs.Content.{sector_of}
 use Rattle.judge.specs.inside.Accounts.{AreFit}

@@ -1,4 +1,3 @@
--- Answers to the goals of `hold_values` (src/held.rt) that the search leaves.
 use Rattle.std.proofs.Common.{◌≡◌, ℕ, Some, length, subst, arith}
 use Rattle.bio.specs.Content.{sector_of}
 use Rattle.judge.specs.inside.Last.{AreCovered}

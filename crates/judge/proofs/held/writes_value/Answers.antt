@@ -1,4 +1,3 @@
--- Answers to the goals of `writes_value` (src/held.rt) that the search leaves.
 use Rattle.std.proofs.Common.{◌/◌, length, ◌∙◌}
 use Rattle.bio.specs.Content.{sector_of}
 use Rattle.judge.proofs.Values.{some_value}

@@ -1,4 +1,3 @@
--- Answers to the goals of `could_hold` (src/images.rt) that the search leaves.
 use Rattle.std.proofs.Common.{List, length, ◌/◌, take, subst}
 use Rattle.bio.specs.Content.{sector_of}
 use Rattle.bio.specs.declared.event.CoreEvent.{CoreEvent}

@@ -1,4 +1,3 @@
--- What holds at the calls and the turns of the loops of `last_flush` (src/kept.rt).
 use Rattle.std.proofs.Common.{◌≡◌}
 use Rattle.judge.specs.Accounts.{last_below}
 use Rattle.judge.specs.inside.Last.{is_sure_flush}

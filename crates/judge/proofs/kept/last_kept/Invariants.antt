@@ -1,4 +1,3 @@
--- What holds at the calls and the turns of the loops of `last_kept` (src/kept.rt).
 use Rattle.judge.specs.inside.Last.{AreLastKept}
 use Rattle.judge.proofs.kept.last_kept.Given as goal
 

@@ -1,4 +1,3 @@
--- What holds at the calls and the turns of the loops of `put_place` (src/kept.rt).
 use Rattle.judge.specs.inside.Last.{ArePut}
 use Rattle.judge.proofs.kept.put_place.Given as goal
 

@@ -1,4 +1,3 @@
--- Answers to the goals of `are_within` (src/lawful.rt) that the search leaves.
 use Rattle.std.proofs.Common.{ℕ, ◌+◌, length, ap, sym, ◌∙◌, arith}
 use Rattle.std.specs.Prelude.{slice_get}
 use Rattle.bio.specs.Lawful.{is_within}

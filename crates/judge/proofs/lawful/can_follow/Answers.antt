@@ -1,4 +1,3 @@
--- Answers to the goals of `can_follow` (src/lawful.rt) that the search leaves.
 use Rattle.std.proofs.Common.{◌&&◌, Some, ap, sym, ◌∙◌}
 use Rattle.bio.specs.Events.{is_open_at}
 use Rattle.bio.specs.Lawful.{can_follow}

@@ -1,4 +1,3 @@
--- Answers to the goals of `has_no_end` (src/lawful.rt) that the search leaves.
 use Rattle.std.proofs.Common.{ℕ, ◌+◌, ◌&&◌, length, ap, sym, ◌∙◌, arith}
 use Rattle.std.proofs.lemmas.Bool.{lt-ltb, le-ltb}
 use Rattle.std.specs.Prelude.{nat_lt, slice_get}

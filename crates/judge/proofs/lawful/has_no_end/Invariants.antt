@@ -1,4 +1,3 @@
--- What holds at the calls and the turns of the loops of `has_no_end` (src/lawful.rt).
 use Rattle.std.proofs.Common.{◌≡◌, None}
 use Rattle.judge.specs.inside.Last.{end_below}
 use Rattle.judge.proofs.lawful.has_no_end.Given as goal

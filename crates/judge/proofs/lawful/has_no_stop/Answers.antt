@@ -1,4 +1,3 @@
--- Answers to the goals of `has_no_stop` (src/lawful.rt) that the search leaves.
 use Rattle.std.proofs.Common.{ℕ, ◌+◌, length, ap, sym, ◌∙◌, arith}
 use Rattle.std.specs.Prelude.{slice_get}
 use Rattle.bio.specs.Events.{is_stop}

@@ -1,4 +1,3 @@
--- What holds at the calls and the turns of the loops of `has_no_stop` (src/lawful.rt).
 use Rattle.std.proofs.Common.{◌≡◌, None}
 use Rattle.std.specs.Prelude.{slice_get}
 use Rattle.bio.specs.Places.{first_below}

@@ -1,4 +1,3 @@
--- Answers to the goals of `is_well_formed` (src/lawful.rt) that the search leaves.
 use Rattle.std.proofs.Common.{ℕ, ◌+◌, length, take, ap, sym, ◌∙◌, arith}
 use Rattle.std.specs.Prelude.{slice_get}
 use Rattle.bio.specs.Lawful.{can_follow}

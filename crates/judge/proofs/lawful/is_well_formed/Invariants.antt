@@ -1,4 +1,3 @@
--- What holds at the calls and the turns of the loops of `is_well_formed` (src/lawful.rt).
 use Rattle.std.proofs.Common.{◌≡◌, true, take}
 use Rattle.std.specs.Prelude.{slice_get}
 use Rattle.bio.specs.Places.{all_below}

@@ -1,4 +1,3 @@
--- Answers to the goals of `none_open` (src/lawful.rt) that the search leaves.
 use Rattle.std.proofs.Common.{ℕ, not, length, ap, sym, ◌∙◌}
 use Rattle.bio.specs.Events.{is_open_at}
 use Rattle.bio.specs.PlaceLaws.{not_all}

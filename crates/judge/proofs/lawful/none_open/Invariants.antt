@@ -1,4 +1,3 @@
--- What holds at the calls and the turns of the loops of `none_open` (src/lawful.rt).
 use Rattle.std.proofs.Common.{◌≡◌, true, not}
 use Rattle.bio.specs.Places.{all_below}
 use Rattle.bio.specs.Events.{is_open_at}

@@ -1,4 +1,3 @@
--- Answers to the goals of `the_last_flush_decides` (src/laws.rt) that the search leaves.
 use Rattle.judge.proofs.Verdicts.{durable_by_last}
 use Rattle.judge.proofs.laws.the_last_flush_decides.Goals as goal
 

@@ -1,4 +1,3 @@
--- Answers to the goals of `verdicts_differ` (src/laws.rt) that the search leaves.
 use Rattle.judge.proofs.Verdicts.{one_verdict}
 use Rattle.judge.proofs.laws.verdicts_differ.Goals as goal
 

@@ -1,4 +1,3 @@
--- Answers to the goals of `error_layers_fail` (src/laws.rt) that the search leaves.
 use Rattle.std.proofs.Common.{refl}
 use Rattle.layer_table.specs.declared.any_gate.AnyGate.TheVariants.{Error}
 use Rattle.layer_table.specs.TopLaws.{gate_stays}

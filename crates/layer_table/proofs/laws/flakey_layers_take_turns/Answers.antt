@@ -1,4 +1,3 @@
--- Answers to the goals of `flakey_layers_take_turns` (src/laws.rt) that the search leaves.
 use Rattle.std.proofs.Common.{refl}
 use Rattle.layer_table.specs.declared.any_gate.AnyGate.TheVariants.{Flakey}
 use Rattle.layer_table.specs.TopLaws.{gate_stays}

@@ -1,4 +1,3 @@
--- Answers to the goals of `fuse_layers_count` (src/laws.rt) that the search leaves.
 use Rattle.layer_table.specs.declared.any_gate.AnyGate.TheVariants.{Fuse}
 use Rattle.layer_table.specs.TopLaws.{gate_top}
 use Rattle.layer_table.proofs.laws.fuse_layers_count.Goals as goal

@@ -1,4 +1,3 @@
--- Answers to the goals of `stacks_are_parts_of_their_disks` (src/laws.rt) that the search leaves.
 use Rattle.layer_table.specs.StackLaws.{part_of_disk}
 use Rattle.layer_table.proofs.laws.stacks_are_parts_of_their_disks.Goals as goal
 

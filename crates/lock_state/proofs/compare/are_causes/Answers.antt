@@ -1,4 +1,3 @@
--- Answers to the goals of `are_causes` (src/compare.rt) that the search leaves.
 use Rattle.std.proofs.Common.{Bool, sym, subst}
 use Rattle.std.specs.Prelude.{MatchBool}
 use Rattle.lock_state.specs.Comparison.{AreCauses}

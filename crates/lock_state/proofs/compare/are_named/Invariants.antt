@@ -1,4 +1,3 @@
--- What holds at the calls and the turns of the loops of `are_named` (src/compare.rt).
 use Rattle.lock_state.specs.Comparison.{EachTo, Names}
 use Rattle.lock_state.proofs.compare.are_named.Given as goal
 

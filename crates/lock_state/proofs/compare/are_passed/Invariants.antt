@@ -1,4 +1,3 @@
--- What holds at the calls and the turns of the loops of `are_passed` (src/compare.rt).
 use Rattle.lock_state.specs.Comparison.{EachTo}
 use Rattle.lock_state.specs.History.{Found}
 use Rattle.lock_state.proofs.compare.are_passed.Given as goal

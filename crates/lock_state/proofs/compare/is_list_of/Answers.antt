@@ -1,4 +1,3 @@
--- Answers to the goals of `is_list_of` (src/compare.rt) that the search leaves.
 use Rattle.std.proofs.Common.{◌≡◌, ◌+◌, ◌<◌, length, suc, sym, subst, arith, None}
 use Rattle.std.proofs.lemmas.Option.{slice_get-get_or}
 use Rattle.bio.specs.PlaceLaws.{stands_there}

@@ -1,4 +1,3 @@
--- What holds at the calls and the turns of the loops of `is_list_of` (src/compare.rt).
 use Rattle.lock_state.proofs.SeatList.{Matched}
 use Rattle.lock_state.proofs.compare.is_list_of.Given as goal
 

@@ -1,4 +1,3 @@
--- What holds at the calls and the turns of the loops of `clear` (src/served.rt).
 use Rattle.std.proofs.Common.{◌≡◌, ◌<◌, ℕ, List, Some, slice_get, length}
 use Rattle.lock_state.specs.declared.served.Seen.{Seen}
 use Rattle.lock_state.specs.declared.served.Seen.TheVariants.{Never}

@@ -1,4 +1,3 @@
--- Answers to the goals of `is_done_as` (src/served.rt) that the search leaves.
 use Rattle.std.proofs.Common.{get_or, subst}
 use Rattle.std.proofs.lemmas.Option.{slice_get-get_or}
 use Rattle.bio.specs.PlaceLaws.{slice_get-within}

@@ -1,4 +1,3 @@
--- What holds at the calls and the turns of the loops of `is_served` (src/served.rt).
 use Rattle.lock_state.specs.Comparison.{EachTo, IsServed}
 use Rattle.lock_state.proofs.served.is_served.Given as goal
 

@@ -1,4 +1,3 @@
--- Answers to the goals of `note` (src/served.rt) that the search leaves.
 use Rattle.std.proofs.Common.{◌≡◌, ℕ, get_or, Some, slice_get, slice_set, sym, ap, ◌∙◌, subst}
 use Rattle.std.proofs.lemmas.Option.{slice_get-get_or}
 use Rattle.lock_state.specs.declared.served.Seen.{Seen}

@@ -1,4 +1,3 @@
--- Answers to the goals of `note_all` (src/served.rt) that the search leaves.
 use Rattle.std.proofs.Common.{◌≡◌, ◌+◌, ◌<◌, suc, List, length, take, sym, ◌∙◌, subst, arith}
 use Rattle.bio.specs.PlaceLaws.{stands_there}
 use Rattle.lock_state.specs.declared.note.Done.{Done}

@@ -1,4 +1,3 @@
--- What holds at the calls and the turns of the loops of `note_all` (src/served.rt).
 use Rattle.std.proofs.Common.{◌≡◌, length, take}
 use Rattle.lock_state.specs.Comparison.{AllTell}
 use Rattle.lock_state.proofs.served.note_all.Given as goal

@@ -1,4 +1,3 @@
--- Answers to the goals of `cut` (src/cutting.rt) that the search leaves.
 use Rattle.std.proofs.Common.{◌≡◌, ◌+◌, ◌-◌, length, take, drop, Some, take_all, length-drop, arith}
 use Rattle.std.proofs.Common.{sym, ap, ◌∙◌}
 use Rattle.refusals.proofs.WordLemmas.{cut_some, cut_none}

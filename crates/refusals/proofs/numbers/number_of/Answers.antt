@@ -1,4 +1,3 @@
--- Answers to the goals of `number_of` (src/numbers.rt) that the search leaves.
 use Rattle.std.proofs.Common.{◌<◌, length, arith, sym}
 use Rattle.std.proofs.lemmas.Bool.{eqb-false}
 use Rattle.refusals.proofs.WordLemmas.{number_start}

@@ -1,4 +1,3 @@
--- What holds at the calls and the turns of the loops of `number_of` (src/numbers.rt).
 use Rattle.std.proofs.Common.{◌≡◌, drop}
 use Rattle.refusals.specs.Words.{number_of}
 use Rattle.refusals.proofs.WordLemmas.{number_behind}

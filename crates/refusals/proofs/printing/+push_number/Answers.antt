@@ -1,4 +1,3 @@
--- Answers to the goals of `+push_number` (src/printing.rt) that the search leaves.
 use Rattle.std.proofs.Common.{◌+◌, ◌%◌, ◌/◌, ◌++◌, ◌∷◌, [], decimal, ap, sym, ◌∙◌, append_assoc}
 use Rattle.std.proofs.Common.{arith}
 use Rattle.std.proofs.lemmas.Fmt.{decimal_step}

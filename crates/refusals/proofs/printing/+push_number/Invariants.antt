@@ -1,4 +1,3 @@
--- What holds at the calls and the turns of the loops of `+push_number` (src/printing.rt).
 use Rattle.refusals.proofs.printing.+push_number.Given as goal
 
 abbrev pub decreases-push_number : goal.decreases-push_number

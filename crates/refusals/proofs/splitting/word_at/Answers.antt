@@ -1,4 +1,3 @@
--- Answers to the goals of `word_at` (src/splitting.rt) that the search leaves.
 use Rattle.std.proofs.Common.{rules, tests}
 use Rattle.std.specs.Prelude.{◌==◌}
 use Rattle.std.proofs.lemmas.Iterator.Consumers.{nth_from_yields_List, YieldsList-at}

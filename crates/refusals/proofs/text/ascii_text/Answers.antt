@@ -1,4 +1,3 @@
--- Answers to the goals of `ascii_text` (src/text.rt) that the search leaves.
 use Rattle.std.proofs.lemmas.Str.{IsUtf8-from_ascii}
 use Rattle.refusals.proofs.Utf8.{unwrapped}
 use Rattle.refusals.proofs.text.ascii_text.Goals as goal

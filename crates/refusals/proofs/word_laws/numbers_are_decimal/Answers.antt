@@ -1,4 +1,3 @@
--- Answers to the goals of `numbers_are_decimal` (src/word_laws.rt) that the search leaves.
 use Rattle.refusals.specs.WordLaws.{decimal_number, zero_in_front}
 use Rattle.refusals.proofs.word_laws.numbers_are_decimal.Goals as goal
 

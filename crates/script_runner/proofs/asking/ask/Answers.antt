@@ -1,4 +1,3 @@
--- Answers to the goals of `ask` (src/asking.rt) that the search leaves.
 use Rattle.std.proofs.Common.{◌≡◌, ◌∙◌, Ok, ap, inl, inr, refl, subst, sym}
 use Rattle.bio.specs.declared.request.Bio.{Bio}
 use Rattle.bio.specs.Check.{check_sized_answer}

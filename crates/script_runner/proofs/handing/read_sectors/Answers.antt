@@ -1,4 +1,3 @@
--- Answers to the goals of `read_sectors` (src/handing.rt) that the search leaves.
 use Rattle.std.proofs.Common.{◌≡◌, ◌∙◌, ℕ, ◌*◌, ◌≤◌, ◌++◌, Global, Option, Result, Vec, ap, arith}
 use Rattle.std.proofs.Common.{drop, inl, inr, length, refl, rules, subst, sym, take}
 use Rattle.std.specs.Prelude.{IfSome, option_map}

@@ -1,4 +1,3 @@
--- Answers to the goals of `bare_logs_fail_by_memory_alone` (src/laws.rt) that the search leaves.
 use Rattle.script_runner.proofs.BareDisk.{bare_log_fails}
 use Rattle.script_runner.proofs.laws.bare_logs_fail_by_memory_alone.Goals as goal
 

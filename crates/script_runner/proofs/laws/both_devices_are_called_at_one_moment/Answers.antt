@@ -1,5 +1,3 @@
--- Answers to goals of `both_devices_are_called_at_one_moment`.
--- Its own crate alone cites it, for the theorems of src/laws.rt.
 use Rattle.script_runner.specs.Lines.{answering}
 use Rattle.script_runner.proofs.Moments.{lines_together, started_together}
 use Rattle.script_runner.proofs.laws.both_devices_are_called_at_one_moment.Goals as goal

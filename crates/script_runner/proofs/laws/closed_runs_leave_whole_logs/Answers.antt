@@ -1,4 +1,3 @@
--- Answers to the goals of `closed_runs_leave_whole_logs` (src/laws.rt) that the search leaves.
 use Rattle.script_runner.specs.Lines.{answering}
 use Rattle.script_runner.proofs.Logs.{lines_written}
 use Rattle.script_runner.proofs.laws.closed_runs_leave_whole_logs.Goals as goal

@@ -1,4 +1,3 @@
--- Answers to the goals of `crashes_of_a_run_leave_beginnings` (src/laws.rt) that the search leaves.
 use Rattle.script_runner.proofs.laws.crashes_of_a_run_leave_beginnings.Goals as goal
 
 pub returns : goal.returns

@@ -1,4 +1,3 @@
--- Answers to the goals of `lines_go_as_one_call` (src/laws.rt) that the search leaves.
 use Rattle.script_runner.specs.Lines.{answering}
 use Rattle.script_runner.proofs.Logs.{lines_go}
 use Rattle.script_runner.proofs.laws.lines_go_as_one_call.Goals as goal

@@ -1,4 +1,3 @@
--- Answers to the goals of `marks_stand_in_the_events` (src/laws.rt) that the search leaves.
 use Rattle.script_runner.proofs.RequestFates.{queued_stands, stays}
 use Rattle.script_runner.proofs.laws.marks_stand_in_the_events.Goals as goal
 use Rattle.recorder.specs.Fields.{core_of}

@@ -1,4 +1,3 @@
--- Answers to the goals of `requests_stand_in_the_events` (src/laws.rt) that the search leaves.
 use Rattle.script_runner.specs.Lines.{answering}
 use Rattle.script_runner.proofs.RequestFates.{lines_ask, lines_followed}
 use Rattle.script_runner.proofs.laws.requests_stand_in_the_events.Goals as goal

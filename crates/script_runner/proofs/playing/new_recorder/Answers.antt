@@ -1,4 +1,3 @@
--- Answers to the goals of `new_recorder` (src/playing.rt) that the search leaves.
 use Rattle.std.proofs.Common.{◌∙◌, ap, inr}
 use Rattle.bio.specs.Causes.{end_cause}
 use Rattle.refusals.specs.declared.run_error.RunError.TheVariants.{LoggingEnded}

@@ -1,4 +1,3 @@
--- Answers to the goals of `new_stack` (src/playing.rt) that the search leaves.
 use Rattle.std.proofs.Common.{◌≡◌, ℕ, subst}
 use Rattle.layer_table.specs.Layers.{layers_of, layers_under}
 use Rattle.script_runner.proofs.DiskRun.{asked, stacked, stands}

@@ -1,4 +1,3 @@
--- Answers to the goals of `play` (src/playing.rt) that the search leaves.
 use Rattle.std.proofs.Common.{◌∙◌, ◌≤◌, ap, subst, sym}
 use Rattle.std.specs.Prelude.{◌/◌}
 use Rattle.bio.specs.Sizes.{bytes_of}

@@ -1,4 +1,3 @@
--- Answers to the goals of `play_beside` (src/playing.rt) that the search leaves.
 use Rattle.std.proofs.Common.{inl, subst, sym}
 use Rattle.bio.specs.Sizes.{bytes_of}
 use Rattle.dmlw_script.specs.Plans.{Disk}

@@ -1,4 +1,3 @@
--- Answers to the goals of `play_on_disks` (src/playing.rt) that the search leaves.
 use Rattle.std.proofs.Common.{◌≡◌, arith, inr, subst, sym}
 use Rattle.dmlw_script.specs.Plans.{top_of, Disk}
 use Rattle.script_runner.specs.CallLaws.{on_error}

@@ -1,4 +1,3 @@
--- Answers to the goals of `name_of` (src/print.rt) that the search leaves.
 use Rattle.script_runner.proofs.PrintedLines.{name_is}
 use Rattle.script_runner.proofs.print.name_of.Goals as goal
 

@@ -1,4 +1,3 @@
--- Answers to the goals of `print_first_bytes` (src/print.rt) that the search leaves.
 use Rattle.std.proofs.Common.{◌*◌, rules}
 use Rattle.std.specs.Prelude.{slice_index_or}
 use Rattle.script_runner.proofs.ReadLines.{byte_printed}

@@ -1,4 +1,3 @@
--- What holds at the calls and the turns of the loops of `print_first_bytes` (src/print.rt).
 use Rattle.std.specs.Io.KnownBytes.{Appends}
 use Rattle.script_runner.specs.Texts.{first_bytes}
 use Rattle.script_runner.proofs.print.print_first_bytes.Given as goal

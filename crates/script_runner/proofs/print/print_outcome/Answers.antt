@@ -1,4 +1,3 @@
--- Answers to the goals of `print_outcome` (src/print.rt) that the search leaves.
 use Rattle.script_runner.proofs.PrintedLines.{outcome_printed}
 use Rattle.script_runner.proofs.print.print_outcome.Goals as goal
 

@@ -1,4 +1,3 @@
--- Answers to the goals of `print_read` (src/print.rt) that the search leaves.
 use Rattle.std.proofs.Common.{◌≡◌, ◌∙◌, ℕ, ◌*◌, Global, Option, Vec, ap, length, subst, sym}
 use Rattle.std.specs.Prelude.{IfSome}
 use Rattle.script_runner.specs.CallLaws.{on_error}

@@ -1,4 +1,3 @@
--- Answers to the goals of `record` (src/recording.rt) that the search leaves.
 use Rattle.std.proofs.Common.{◌≡◌, ◌∙◌, ap, subst, sym}
 use Rattle.script_runner.specs.CallLaws.{on_error}
 use Rattle.script_runner.specs.DiskRun.{DiskRecorder, FailsOnDisks, IsCounted}

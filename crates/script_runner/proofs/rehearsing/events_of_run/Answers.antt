@@ -1,4 +1,3 @@
--- Answers to the goals of `events_of_run` (src/rehearsing.rt) that the search leaves.
 use Rattle.std.proofs.Common.{◌≡◌, ◌⊎◌, ◌&&◌, ℕ, ◌∙◌, Bool, Err, IfErr, IfOk, List, Ok, Result}
 use Rattle.std.proofs.Common.{true, false, ap, inl, inr, not, refl, subst, sym}
 use Rattle.std.proofs.lemmas.Bool.{and_parts}

@@ -1,4 +1,3 @@
--- Answers to the goals of `run` (src/run_script.rt) that the search leaves.
 use Rattle.std.proofs.Common.{◌≡◌, ◌+◌, ℕ, ap, arith, length, subst, sym, ◌∙◌}
 use Rattle.dmlw_script.specs.declared.command.Command.{Command}
 use Rattle.dmlw_script.specs.Lines.{command_line}

@@ -1,4 +1,3 @@
--- What holds at the calls and the turns of the loops of `run` (src/run_script.rt).
 use Rattle.std.proofs.Common.{◌≡◌, length, take}
 use Rattle.bio.specs.Sizes.{bytes_of}
 use Rattle.dmlw_script.specs.Plans.{submissions, top_of}

@@ -1,4 +1,3 @@
--- Answers to the goals of `first_of` (src/write_data.rt) that the search leaves.
 use Rattle.std.proofs.Common.{◌≡◌, ◌∙◌, ℕ, ◌≤◌, List, [], Some, ap, arith, length, replicate, sym, take}
 use Rattle.std.specs.Prelude.{slice_get}
 use Rattle.std.proofs.lemmas.List.{take-replicate}

@@ -1,4 +1,3 @@
--- What holds at the turns of the loop of `make_rows` (src/write_data.rt).
 use Rattle.std.proofs.Common.{◌-◌, length}
 use Rattle.script_runner.specs.inside.WriteData.{AreFilled}
 use Rattle.script_runner.proofs.write_data.make_rows.Given as goal

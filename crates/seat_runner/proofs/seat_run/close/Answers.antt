@@ -1,4 +1,3 @@
--- Answers to the goals of `close` (src/seat_run.rt) that the search leaves.
 use Rattle.std.proofs.Common.{◌≡◌, inr, refl, subst}
 use Rattle.shared.specs.Close.{IfForeign}
 use Rattle.shared.specs.declared.closing.Unclosed.{Unclosed}

@@ -1,4 +1,3 @@
--- Answers to the goals of `parts_of` (src/seat_run.rt) that the search leaves.
 use Rattle.std.proofs.Common.{List, ◌++◌, ap, ◌∙◌}
 use Rattle.lock_state.specs.Comparison.{Receipt}
 use Rattle.seat_runner.specs.inside.SeatWork.{Player}

@@ -1,4 +1,3 @@
--- What holds at the calls and the turns of the loops of `parts_of` (src/seat_run.rt).
 use Rattle.std.proofs.Common.{◌≡◌, map}
 use Rattle.seat_runner.specs.inside.SeatWork.{Player}
 use Rattle.seat_runner.specs.Tallies.{joined}

@@ -1,4 +1,3 @@
--- Answers to the goals of `run_on` (src/seat_run.rt) that the search leaves.
 use Rattle.std.proofs.Common.{◌∙◌, ap}
 use Rattle.script_runner.specs.CallLaws.{on_error}
 use Rattle.sector_disk.specs.declared.disk.SectorDisk.{SectorDisk}

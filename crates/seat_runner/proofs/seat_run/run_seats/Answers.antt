@@ -1,4 +1,3 @@
--- Answers to the goals of `run_seats` (src/seat_run.rt) that the search leaves.
 use Rattle.std.proofs.Common.{◌∙◌}
 use Rattle.script_runner.specs.CallLaws.{on_error}
 use Rattle.seat_runner.proofs.Runs.{fails_memory}

@@ -1,4 +1,3 @@
--- What holds at the calls and the turns of the loops of `run_seats` (src/seat_run.rt).
 use Rattle.bio.specs.Sizes.{bytes_of}
 use Rattle.dmlw_script.specs.Plans.{top_of}
 use Rattle.layer_table.specs.Layers.{stack_shown}

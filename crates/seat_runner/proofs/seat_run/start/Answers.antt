@@ -1,4 +1,3 @@
--- Answers to the goals of `start` (src/seat_run.rt) that the search leaves.
 use Rattle.std.proofs.Common.{subst, sym}
 use Rattle.refusals.specs.declared.end.End.{End}
 use Rattle.refusals.specs.declared.run_error.RunError.TheVariants.{LoggingEnded}

@@ -1,4 +1,3 @@
--- Answers to the goals of `works_of` (src/seat_run.rt) that the search leaves.
 use Rattle.std.proofs.Common.{◌≡◌, ◌∙◌, arith, length, ap, subst, sym}
 use Rattle.seat_runner.specs.inside.SeatWork.{AreNewPlayers, new_player}
 use Rattle.seat_runner.proofs.Runs.{long_push, players_push}

@@ -1,4 +1,3 @@
--- What holds at the calls and the turns of the loops of `works_of` (src/seat_run.rt).
 use Rattle.std.proofs.Common.{length}
 use Rattle.seat_runner.specs.inside.SeatWork.{AreNewPlayers}
 use Rattle.seat_runner.proofs.seat_run.works_of.Given as goal

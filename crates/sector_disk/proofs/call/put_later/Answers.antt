@@ -1,4 +1,3 @@
--- Answers to the goals of `put_later` (src/call.rt) that the search leaves.
 use Rattle.std.proofs.Common.{◌≡◌, ◌+◌, ◌*◌, ◌∙◌, ◌-◌, ap, arith, drop, length, sym, take}
 use Rattle.sector_disk.specs.inside.Overlay.{put_over}
 use Rattle.sector_disk.specs.inside.Storage.{place_of, value_at}

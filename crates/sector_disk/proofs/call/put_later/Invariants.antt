@@ -1,4 +1,3 @@
--- What holds at the calls and the turns of the loops of `put_later` (src/call.rt).
 use Rattle.std.proofs.Common.{◌≡◌, ◌*◌, drop, take}
 use Rattle.bio.specs.Content.{gather}
 use Rattle.sector_disk.specs.inside.Overlay.{put_over}

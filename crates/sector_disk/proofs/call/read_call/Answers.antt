@@ -1,4 +1,3 @@
--- Answers to the goals of `read_call` (src/call.rt) that the search leaves.
 use Rattle.std.proofs.Common.{ap, replicate, sym, ◌∙◌}
 use Rattle.std.specs.Prelude.{unwrap_or}
 use Rattle.sector_disk.specs.inside.Storage.{change_values}

@@ -1,4 +1,3 @@
--- Answers to the goals of `read_image` (src/call.rt) that the search leaves.
 use Rattle.std.proofs.Common.{List, ℕ, ap, arith, inl, inr, replicate, sym, ◌∙◌}
 use Rattle.std.specs.Prelude.{Option, unwrap_or}
 use Rattle.sector_disk.proofs.SectorValues.{written-none, written-some}

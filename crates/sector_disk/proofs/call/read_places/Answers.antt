@@ -1,4 +1,3 @@
--- Answers to the goals of `read_places` (src/call.rt) that the search leaves.
 use Rattle.std.proofs.Common.{◌+◌, length, ap, refl, ◌∙◌, arith}
 use Rattle.sector_disk.specs.inside.Storage.{content_at, place_of, value_at}
 use Rattle.sector_disk.proofs.SectorValues.{gather-next, length-value_at}

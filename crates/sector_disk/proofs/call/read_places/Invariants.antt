@@ -1,4 +1,3 @@
--- What holds at the calls and the turns of the loops of `read_places` (src/call.rt).
 use Rattle.std.proofs.Common.{◌≡◌, ◌*◌, take}
 use Rattle.bio.specs.Content.{gather}
 use Rattle.sector_disk.specs.inside.Storage.{content_at}

@@ -1,4 +1,3 @@
--- Answers to the goals of `take_image` (src/call.rt) that the search leaves.
 use Rattle.std.proofs.Common.{◌∙◌}
 use Rattle.sector_disk.proofs.ImageBack.{given}
 use Rattle.sector_disk.proofs.call.take_image.Goals as goal

@@ -1,4 +1,3 @@
--- Answers to the goals of `choose` (src/choice.rt) that the search leaves.
 use Rattle.std.proofs.Common.{◌≡◌, ℕ, length, refl, subst, ◌∙◌, arith}
 use Rattle.std.proofs.lemmas.List.{length-set}
 use Rattle.sector_disk.specs.inside.Choice.{AreChosen}

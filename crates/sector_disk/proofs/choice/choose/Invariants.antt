@@ -1,4 +1,3 @@
--- What holds at the calls and the turns of the loops of `choose` (src/choice.rt).
 use Rattle.std.proofs.Common.{◌≡◌, ◌≤◌, length}
 use Rattle.sector_disk.specs.Candidates.{Cache, unsynced_below}
 use Rattle.sector_disk.specs.inside.Choice.{AreChosen}

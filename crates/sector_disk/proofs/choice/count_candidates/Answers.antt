@@ -1,4 +1,3 @@
--- Answers to the goals of `count_candidates` (src/choice.rt) that the search leaves.
 use Rattle.std.proofs.Common.{◌-◌, ap, sym, ◌∙◌, arith}
 use Rattle.sector_disk.specs.inside.Storage.{is_chain}
 use Rattle.sector_disk.proofs.Chains.{chain-closed, chain-open}

@@ -1,4 +1,3 @@
--- What holds at the calls and the turns of the loops of `count_candidates` (src/choice.rt).
 use Rattle.std.proofs.Common.{◌≡◌, ℕ, ◌-◌, ◌<◌, true}
 use Rattle.sector_disk.specs.inside.Storage.{is_chain}
 use Rattle.sector_disk.proofs.choice.count_candidates.Given as goal

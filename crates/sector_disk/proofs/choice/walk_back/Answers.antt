@@ -1,4 +1,3 @@
--- Answers to the goals of `walk_back` (src/choice.rt) that the search leaves.
 use Rattle.std.proofs.Common.{◌≡◌, suc, ◌+◌, ◌-◌, ap, sym, ◌∙◌, arith}
 use Rattle.sector_disk.specs.inside.Storage.{walk}
 use Rattle.sector_disk.proofs.choice.walk_back.Goals as goal

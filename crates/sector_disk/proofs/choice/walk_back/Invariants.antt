@@ -1,4 +1,3 @@
--- What holds at the calls and the turns of the loops of `walk_back` (src/choice.rt).
 use Rattle.std.proofs.Common.{◌≡◌, ◌-◌}
 use Rattle.sector_disk.specs.inside.Storage.{walk}
 use Rattle.sector_disk.proofs.choice.walk_back.Given as goal

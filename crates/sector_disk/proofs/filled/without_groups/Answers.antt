@@ -1,4 +1,3 @@
--- Answers to the goals of `without_groups` (src/filled.rt) that the search leaves.
 use Rattle.std.proofs.Common.{◌≡◌, ◌∙◌, ℕ, ◌+◌, ◌-◌, ◌≤◌, List, arith, drop, length, replicate, sym}
 use Rattle.std.specs.Prelude.{slice_range}
 use Rattle.std.proofs.lemmas.List.{replicate-append-replicate}

@@ -1,4 +1,3 @@
--- What holds at the turns of the loop of `without_groups` (src/filled.rt).
 use Rattle.std.proofs.Common.{◌≡◌, ◌-◌, ◌≤◌, drop, length, replicate}
 use Rattle.sector_disk.proofs.filled.without_groups.Given as goal
 

@@ -1,4 +1,3 @@
--- Answers to the goals of `calls_make_candidates` (src/laws.rt) that the search leaves.
 use Rattle.std.proofs.Common.{◌-◌, ◌/◌, false, length, replicate, true}
 use Rattle.bio.specs.Content.{discards, sector_of, writes}
 use Rattle.sector_disk.proofs.Lawful.{may-flushed, may-put, over-there}

@@ -1,4 +1,3 @@
--- Answers to the goals of `each_crash_is_picked` (src/laws.rt) that the search leaves.
 use Rattle.sector_disk.specs.PickLaws.{each_is_picked}
 use Rattle.sector_disk.specs.DiskView.{cache_of}
 use Rattle.sector_disk.proofs.laws.each_crash_is_picked.Goals as goal

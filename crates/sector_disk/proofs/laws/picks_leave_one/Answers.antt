@@ -1,4 +1,3 @@
--- Answers to the goals of `picks_leave_one` (src/laws.rt) that the search leaves.
 use Rattle.sector_disk.proofs.Lawful.{picks_leave}
 use Rattle.sector_disk.proofs.laws.picks_leave_one.Goals as goal
 

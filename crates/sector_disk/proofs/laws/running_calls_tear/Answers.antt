@@ -1,4 +1,3 @@
--- Answers to the goals of `running_calls_tear` (src/laws.rt) that the search leaves.
 use Rattle.std.proofs.Common.{false}
 use Rattle.bio.specs.Content.{discards, writes}
 use Rattle.sector_disk.proofs.Lawful.{torn-left}

@@ -1,4 +1,3 @@
--- Answers to the goals of `unsynced_sectors_may_be_old` (src/laws.rt) that the search leaves.
 use Rattle.bio.specs.Content.{discards, writes}
 use Rattle.sector_disk.proofs.Lawful.{old-left}
 use Rattle.sector_disk.proofs.laws.unsynced_sectors_may_be_old.Goals as goal

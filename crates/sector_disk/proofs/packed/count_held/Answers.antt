@@ -1,4 +1,3 @@
--- Answers to the goals of `count_held` (src/packed.rt) that the search leaves.
 use Rattle.std.proofs.Common.{◌-◌, ◌∙◌, ap, arith, replicate}
 use Rattle.sector_disk.proofs.PackedParts.{refilled_held}
 use Rattle.sector_disk.proofs.packed.count_held.Goals as goal

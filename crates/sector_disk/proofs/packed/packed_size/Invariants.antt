@@ -1,4 +1,3 @@
--- What holds at the turns of the loop of `packed_size` (src/packed.rt).
 use Rattle.std.proofs.Common.{◌*◌, ◌≤◌}
 use Rattle.sector_disk.proofs.packed.packed_size.Given as goal
 

@@ -1,4 +1,3 @@
--- Answers to the goals of `read_piece` (src/pieces.rt) that the search leaves.
 use Rattle.std.proofs.Common.{◌≡◌, ℕ, List, ◌+◌, ◌≤◌, ◌/◌, ◌%◌, ap, arith, drop, length, take, ◌∙◌, sym}
 use Rattle.std.proofs.lemmas.Bool.{lt-ltb}
 use Rattle.std.proofs.lemmas.Option.{get_or_from_slice_get, slice_get_within}

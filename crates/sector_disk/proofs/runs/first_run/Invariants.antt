@@ -1,4 +1,3 @@
--- What holds at the turns of the loop of `first_run` (src/runs.rt).
 use Rattle.std.proofs.Common.{◌≡◌, ◌-◌, ◌≤◌, take, length, replicate}
 use Rattle.sector_disk.proofs.runs.first_run.Given as goal
 

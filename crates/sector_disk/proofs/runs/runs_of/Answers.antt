@@ -1,4 +1,3 @@
--- Answers to the goals of `runs_of` (src/runs.rt) that the search leaves.
 use Rattle.std.proofs.Common.{◌≡◌, ℕ, ◌-◌, ◌≤◌, List, [], ◌∷◌, ◌++◌, ◌∙◌, ap, append_assoc, arith}
 use Rattle.std.proofs.Common.{drop, length, length-drop, replicate, sym, take}
 use Rattle.std.proofs.lemmas.Grind.{common_steps}

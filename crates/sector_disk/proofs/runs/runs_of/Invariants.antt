@@ -1,4 +1,3 @@
--- What holds at the turns of the loop of `runs_of` (src/runs.rt).
 use Rattle.std.proofs.Common.{◌≡◌, ◌++◌, length}
 use Rattle.sector_disk.specs.inside.Runs.{unrolled}
 use Rattle.sector_disk.proofs.runs.runs_of.Given as goal

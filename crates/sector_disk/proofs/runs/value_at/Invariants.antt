@@ -1,4 +1,3 @@
--- What holds at the turns of the loop of `value_at` (src/runs.rt).
 use Rattle.std.proofs.Common.{◌≡◌, length, slice_get}
 use Rattle.sector_disk.specs.inside.Runs.{unrolled}
 use Rattle.sector_disk.proofs.runs.value_at.Given as goal

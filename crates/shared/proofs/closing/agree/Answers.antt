@@ -1,4 +1,3 @@
--- Answers to the goals of `agree` (src/closing.rt) that the search leaves.
 use Rattle.std.proofs.Common.{rules}
 use Rattle.shared.proofs.ClosedLog.{agree_by}
 use Rattle.shared.proofs.closing.agree.Goals as goal

@@ -1,4 +1,3 @@
--- Answers to the goals of `finish` (src/closing.rt) that the search leaves.
 use Rattle.std.proofs.Common.{List, ap, subst, sym}
 use Rattle.lock_state.specs.History.{Queue}
 use Rattle.lock_state.specs.PlacedItems.{Log, Stay}

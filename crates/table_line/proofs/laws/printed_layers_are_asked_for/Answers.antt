@@ -1,4 +1,3 @@
--- Answers to the goals of `printed_layers_are_asked_for` (src/laws.rt) that the search leaves.
 use Rattle.table_line.specs.LineLaws.{printed_again}
 use Rattle.table_line.proofs.laws.printed_layers_are_asked_for.Goals as goal
 

@@ -1,4 +1,3 @@
--- Answers to the goals of `words_ask_for_one_layer` (src/laws.rt) that the search leaves.
 use Rattle.table_line.specs.LineLaws.{asks_fails_none, asks_or_fails}
 use Rattle.table_line.proofs.laws.words_ask_for_one_layer.Goals as goal
 

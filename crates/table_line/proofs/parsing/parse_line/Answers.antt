@@ -1,4 +1,3 @@
--- Answers to the goals of `parse_line` (src/parsing.rt) that the search leaves.
 use Rattle.std.proofs.Common.{ap, sym, ◌∙◌}
 use Rattle.refusals.specs.Words.{words_of}
 use Rattle.table_line.specs.LineLaws.{read_in_range}

@@ -1,4 +1,3 @@
--- Answers to the goals of `push_line` (src/printing.rt) that the search leaves.
 use Rattle.std.proofs.Common.{◌++◌, ◌∷◌, [], decimal, ap, ◌∙◌}
 use Rattle.std.proofs.lemmas.Result.{IfOk-equal}
 use Rattle.table_line.specs.LineLaws.{line_joined}

@@ -1,4 +1,3 @@
--- What holds at the turns of `a_reader_reads_what_was_posted_last`.
 use Rattle.thread_tests.proofs.boards.a_reader_reads_what_was_posted_last.Given as goal
 
 abbrev pub ghosts-rows_are_read : goal.ghosts-rows_are_read

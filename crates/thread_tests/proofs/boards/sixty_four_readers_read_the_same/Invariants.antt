@@ -1,4 +1,3 @@
--- What holds at the turns of `sixty_four_readers_read_the_same`.
 use Rattle.thread_tests.proofs.boards.sixty_four_readers_read_the_same.Given as goal
 
 abbrev pub ghosts-are_reading : goal.ghosts-are_reading

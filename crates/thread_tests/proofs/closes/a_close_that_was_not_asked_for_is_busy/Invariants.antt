@@ -1,4 +1,3 @@
--- What holds at the turns of `a_close_that_was_not_asked_for_is_busy`.
 use Rattle.thread_tests.specs.Disks.{disk_ground}
 use Rattle.thread_tests.proofs.closes.a_close_that_was_not_asked_for_is_busy.Given as goal
 

@@ -1,4 +1,3 @@
--- What holds at the turns of `a_mark_after_a_close_is_refused`.
 use Rattle.thread_tests.specs.Disks.{disk_ground}
 use Rattle.thread_tests.proofs.closes.a_mark_after_a_close_is_refused.Given as goal
 

@@ -1,4 +1,3 @@
--- What holds at the turns of `a_seat_writes_flushes_and_reads`.
 use Rattle.thread_tests.specs.Disks.{disk_ground}
 use Rattle.thread_tests.proofs.closes.a_seat_writes_flushes_and_reads.Given as goal
 

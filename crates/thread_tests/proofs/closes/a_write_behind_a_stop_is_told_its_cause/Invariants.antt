@@ -1,4 +1,3 @@
--- What holds at the turns of `a_write_behind_a_stop_is_told_its_cause`.
 use Rattle.thread_tests.specs.Disks.{disk_ground}
 use Rattle.thread_tests.proofs.closes.a_write_behind_a_stop_is_told_its_cause.Given as goal
 

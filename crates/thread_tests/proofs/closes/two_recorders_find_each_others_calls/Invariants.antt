@@ -1,4 +1,3 @@
--- What holds at the turns of `two_recorders_find_each_others_calls`.
 use Rattle.thread_tests.specs.Disks.{disk_ground}
 use Rattle.thread_tests.proofs.closes.two_recorders_find_each_others_calls.Given as goal
 

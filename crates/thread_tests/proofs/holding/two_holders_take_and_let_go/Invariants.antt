@@ -1,4 +1,3 @@
--- What holds at the turns of `two_holders_take_and_let_go`.
 use Rattle.thread_tests.proofs.holding.two_holders_take_and_let_go.Given as goal
 
 abbrev pub ghosts-are_held : goal.ghosts-are_held

@@ -1,4 +1,3 @@
--- What holds at the turns of `begins_at_its_moment`.
 use Rattle.thread_tests.specs.Disks.{disk_ground}
 use Rattle.thread_tests.proofs.moments.begins_at_its_moment.Given as goal
 

@@ -1,4 +1,3 @@
--- What holds at the calls and the turns of the loops of `two_seats` (src/recording.rt).
 use Rattle.bio.specs.Sizes.{bytes_of}
 use Rattle.lock_state.specs.PlacedItems.{ground_of}
 use Rattle.log_store.specs.Fields.{store_of}

@@ -1,4 +1,3 @@
--- What holds at the calls and the turns of the loops of `stage` (src/scenes.rt).
 use Rattle.lock_state.specs.PlacedItems.{ground_of}
 use Rattle.thread_tests.proofs.scenes.stage.Given as goal
 

@@ -1,4 +1,3 @@
--- Answers to the goals of `before_submit` (src/allowed.rt) that the search leaves.
 use Rattle.std.proofs.Common.{◌+◌, sym, ◌∙◌, arith}
 use Rattle.bio.specs.PlaceLaws.{stands_there}
 use Rattle.world.proofs.Lists.{before_here, before_other}

@@ -1,4 +1,3 @@
--- What holds at the calls and the turns of the loops of `before_submit` (src/allowed.rt).
 use Rattle.world.specs.inside.StepTests.{IsBefore}
 use Rattle.world.proofs.allowed.before_submit.Given as goal
 

@@ -1,4 +1,3 @@
--- Answers to the goals of `ends_settled` (src/allowed.rt) that the search leaves.
 use Rattle.std.proofs.Common.{◌≡◌, ◌+◌, List, take, ap, sym, ◌∙◌, arith}
 use Rattle.std.proofs.lemmas.List.{take_all}
 use Rattle.std.specs.List.{list_all}

@@ -1,4 +1,3 @@
--- What holds at the calls and the turns of the loops of `ends_settled` (src/allowed.rt).
 use Rattle.std.proofs.Common.{◌≡◌, take, true}
 use Rattle.std.specs.List.{list_all}
 use Rattle.world.specs.inside.StepTests.{end_settled}

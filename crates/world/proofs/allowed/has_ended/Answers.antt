@@ -1,4 +1,3 @@
--- Answers to the goals of `has_ended` (src/allowed.rt) that the search leaves.
 use Rattle.std.proofs.Common.{sym, ◌∙◌}
 use Rattle.world.specs.Machine.{is_end}
 use Rattle.world.proofs.Lists.{any_reverse}

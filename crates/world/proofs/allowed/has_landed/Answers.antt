@@ -1,4 +1,3 @@
--- Answers to the goals of `has_landed` (src/allowed.rt) that the search leaves.
 use Rattle.std.proofs.Common.{ℕ, ◌+◌, Bool, ap, sym, ◌∙◌, arith}
 use Rattle.std.specs.Prelude.{slice_get}
 use Rattle.bio.specs.PlaceLaws.{all_next, not_all}

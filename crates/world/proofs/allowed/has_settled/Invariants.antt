@@ -1,4 +1,3 @@
--- What holds at the calls and the turns of the loops of `has_settled` (src/allowed.rt).
 use Rattle.std.proofs.Common.{◌≡◌, ◌+◌, true}
 use Rattle.std.specs.Prelude.{slice_get}
 use Rattle.bio.specs.Places.{all_below}

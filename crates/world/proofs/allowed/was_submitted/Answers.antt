@@ -1,4 +1,3 @@
--- Answers to the goals of `was_submitted` (src/allowed.rt) that the search leaves.
 use Rattle.std.proofs.Common.{sym, ◌∙◌}
 use Rattle.world.specs.Machine.{is_submit}
 use Rattle.world.proofs.Lists.{any_reverse}

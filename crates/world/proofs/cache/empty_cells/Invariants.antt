@@ -1,4 +1,3 @@
--- What holds at the calls and the turns of the loops of `empty_cells` (src/cache.rt).
 use Rattle.std.proofs.Common.{◌≡◌, replicate}
 use Rattle.world.specs.Cells.{empty_cell}
 use Rattle.world.proofs.cache.empty_cells.Given as goal

@@ -1,4 +1,3 @@
--- Answers to the goals of `is_among` (src/cell.rt) that the search leaves.
 use Rattle.std.proofs.Common.{◌==◌, ℕ, sym, ◌∙◌}
 use Rattle.world.proofs.Lists.{any_reverse}
 use Rattle.world.proofs.cell.is_among.Goals as goal

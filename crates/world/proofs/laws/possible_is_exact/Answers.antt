@@ -1,4 +1,3 @@
--- Answers to the goals of `possible_is_exact` (src/laws.rt) that the search leaves.
 use Rattle.std.proofs.Common.{take}
 use Rattle.bio.specs.EventLaws.{well_formed-take}
 use Rattle.world.proofs.Exact.{possible_reachable}

@@ -1,4 +1,3 @@
--- Answers to the goals of `land_late` (src/plan.rt) that the search leaves.
 use Rattle.std.proofs.Common.{ℕ, ◌+◌, ◌++◌, List, ap, ◌∙◌, arith}
 use Rattle.bio.specs.Requests.{first_sector}
 use Rattle.judge.specs.Accounts.{place_at}

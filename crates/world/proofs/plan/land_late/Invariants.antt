@@ -1,4 +1,3 @@
--- What holds at the calls and the turns of the loops of `land_late` (src/plan.rt).
 use Rattle.std.proofs.Common.{◌≡◌, ◌++◌, ◌+◌}
 use Rattle.bio.specs.Places.{collect}
 use Rattle.bio.specs.Requests.{first_sector}

@@ -1,4 +1,3 @@
--- Answers to the goals of `put_bytes` (src/putting.rt) that the search leaves.
 use Rattle.std.proofs.Common.{Some, List, ℕ, length, refl, ap, sym, ◌∙◌}
 use Rattle.world.proofs.ImageSector.{is_put}
 use Rattle.world.proofs.putting.put_bytes.Goals as goal

@@ -1,4 +1,3 @@
--- Answers to the goals of `put_written` (src/putting.rt) that the search leaves.
 use Rattle.std.proofs.Common.{◌/◌, ◌*◌, length, drop, ap, ◌∙◌, arith, length-drop}
 use Rattle.std.proofs.lemmas.List.{length-take-le}
 use Rattle.bio.specs.Content.{sector_of, writes}

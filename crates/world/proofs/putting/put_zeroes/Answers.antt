@@ -1,4 +1,3 @@
--- Answers to the goals of `put_zeroes` (src/putting.rt) that the search leaves.
 use Rattle.std.proofs.Common.{replicate}
 use Rattle.bio.specs.Content.{discards}
 use Rattle.world.proofs.ImageSector.{put_outside, range_value}

@@ -1,4 +1,3 @@
--- What holds at the calls and the turns of the loops of `finish` (src/reaching.rt).
 use Rattle.std.proofs.Common.{◌≡◌, ◌++◌}
 use Rattle.bio.specs.Places.{collect}
 use Rattle.judge.specs.Accounts.{place_at}

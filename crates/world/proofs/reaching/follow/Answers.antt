@@ -1,4 +1,3 @@
--- Answers to the goals of `follow` (src/reaching.rt) that the search leaves.
 use Rattle.std.proofs.Common.{ℕ, ◌+◌, ◌++◌, Option, List, ap, sym, ◌∙◌, arith}
 use Rattle.std.specs.Prelude.{slice_get}
 use Rattle.bio.specs.PlaceLaws.{stands_there}

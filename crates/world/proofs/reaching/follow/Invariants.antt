@@ -1,4 +1,3 @@
--- What holds at the calls and the turns of the loops of `follow` (src/reaching.rt).
 use Rattle.std.proofs.Common.{◌≡◌, ◌++◌}
 use Rattle.std.specs.Prelude.{slice_get}
 use Rattle.bio.specs.Places.{collect}

@@ -1,4 +1,3 @@
--- Answers to the goals of `land_at` (src/reaching.rt) that the search leaves.
 use Rattle.std.proofs.Common.{◌++◌, length, ap, sym, ◌∙◌}
 use Rattle.std.proofs.lemmas.Bool.{ltb-false}
 use Rattle.std.proofs.lemmas.List.{append-nil}

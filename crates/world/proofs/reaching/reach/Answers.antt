@@ -1,4 +1,3 @@
--- Answers to the goals of `reach` (src/reaching.rt) that the search leaves.
 use Rattle.std.proofs.Common.{◌/◌, length, subst, take}
 use Rattle.bio.specs.Content.{sector_of}
 use Rattle.judge.specs.Firsts.{first_on}

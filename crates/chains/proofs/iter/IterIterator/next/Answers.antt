@@ -1,4 +1,3 @@
--- Answers to the goals of `IterIterator::next` (src/iter.rt) that the search leaves.
 use Rattle.std.proofs.Common.{◌≡◌, ◌<◌, ◌∷◌, length, Some, None, ap, sym, ◌∙◌, refl, arith, rules}
 use Rattle.std.specs.Borrow.{Bor}
 use Rattle.std.proofs.lemmas.List.{get_or_read_under}

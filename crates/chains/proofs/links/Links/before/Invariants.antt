@@ -1,4 +1,3 @@
--- What holds at the turns of the loops of `Links::before` (src/links.rt).
 use Rattle.std.proofs.Common.{◌≡◌, ℕ, ◌<◌}
 use Rattle.chains.specs.inside.Rings.{after}
 use Rattle.chains.proofs.links.Links.before.Given as goal

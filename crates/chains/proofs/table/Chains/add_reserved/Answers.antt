@@ -1,4 +1,3 @@
--- Answers to the goals of `Chains::add_reserved` (src/table.rt) that the search leaves.
 use Rattle.std.proofs.Common.{◌≡◌, ◌<◌, max, [], ◌∷◌, ◌++◌, length, map, drop, Some, None, ap, sym}
 use Rattle.std.proofs.Common.{◌∙◌, arith}
 use Rattle.std.proofs.lemmas.List.{length-map, length-set}

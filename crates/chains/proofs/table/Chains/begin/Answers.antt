@@ -1,4 +1,3 @@
--- Answers to the goals of `Chains::begin` (src/table.rt) that the search leaves.
 use Rattle.std.proofs.Common.{ℕ, List, [], ◌∷◌, ◌++◌, map, Option, None, ap, sym, ◌∙◌, subst, refl}
 use Rattle.std.proofs.lemmas.List.{map-append}
 use Rattle.chains.specs.inside.Tables.{seen_chains, seen_lasts, values_of, IsTable, IsWalk}

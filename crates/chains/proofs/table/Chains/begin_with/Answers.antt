@@ -1,4 +1,3 @@
--- Answers to the goals of `Chains::begin_with` (src/table.rt) that the search leaves.
 use Rattle.std.proofs.Common.{[], ◌∷◌, ◌++◌, ap, ◌∙◌}
 use Rattle.chains.specs.Edits.{lengthened}
 use Rattle.chains.proofs.CallLaws.{begun-filled}

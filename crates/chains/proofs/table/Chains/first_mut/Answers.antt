@@ -1,4 +1,3 @@
--- Answers to the goals of `Chains::first_mut` (src/table.rt) that the search leaves.
 use Rattle.std.proofs.Common.{length, None, refl, sym, ◌∙◌, arith, vec_capacity}
 use Rattle.std.proofs.lemmas.List.{get_or_read_under}
 use Rattle.chains.proofs.CallLaws.{first-row, first-value, row-within}

@@ -1,4 +1,3 @@
--- Answers to the goals of `Chains::is_empty` (src/table.rt) that the search leaves.
 use Rattle.std.proofs.Common.{length, refl, ap, sym, ◌∙◌}
 use Rattle.std.specs.Prelude.{◌==◌}
 use Rattle.chains.specs.inside.Tables.{seen_chains, values_of}

@@ -1,4 +1,3 @@
--- Answers to the goals of `Chains::iter` (src/table.rt) that the search leaves.
 use Rattle.std.proofs.Common.{ap, ◌∙◌}
 use Rattle.std.specs.Prelude.{unwrap_or}
 use Rattle.chains.proofs.LookLaws.{look-begun}

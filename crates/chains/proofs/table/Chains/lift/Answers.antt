@@ -1,4 +1,3 @@
--- Answers to the goals of `Chains::lift` (src/table.rt) that the search leaves.
 use Rattle.std.proofs.Common.{[], ◌++◌, map, drop, take, Some, refl, ap, sym, ◌∙◌, arith}
 use Rattle.std.proofs.Common.{vec_capacity}
 use Rattle.chains.specs.Edits.{chain_in, lifted}

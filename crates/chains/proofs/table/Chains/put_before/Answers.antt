@@ -1,4 +1,3 @@
--- Answers to the goals of `Chains::put_before` (src/table.rt) that the search leaves.
 use Rattle.std.proofs.Common.{◌≡◌, None, map, ap, ◌∙◌, [], ◌++◌, vec_capacity}
 use Rattle.chains.specs.Edits.{chain_in, fronted}
 use Rattle.chains.specs.inside.Tables.{seen_chains, seen_lasts, values_of, walked_in, IsTable}

@@ -1,4 +1,3 @@
--- Answers to the goals of `Chains::replace_first` (src/table.rt) that the search leaves.
 use Rattle.std.proofs.Common.{◌≡◌, ℕ, List, ◌∷◌, map, ap, sym, ◌∙◌}
 use Rattle.chains.specs.Edits.{chain_in}
 use Rattle.chains.specs.inside.Tables.{seen_chains, values_of}

@@ -1,4 +1,3 @@
--- Answers to the goals of `Chains::reserve_row` (src/table.rt) that the search leaves.
 use Rattle.std.proofs.Common.{arith, ap, sym, ◌∙◌, vec_capacity}
 use Rattle.std.specs.Prelude.{is_some}
 use Rattle.chains.proofs.CallLaws.{all-new}

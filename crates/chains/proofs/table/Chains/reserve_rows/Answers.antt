@@ -1,4 +1,3 @@
--- Answers to the goals of `Chains::reserve_rows` (src/table.rt) that the search leaves.
 use Rattle.std.proofs.Common.{refl, ap, arith, vec_capacity}
 use Rattle.chains.proofs.CallLaws.{room-of, sound-same}
 use Rattle.chains.proofs.table.Chains.reserve_rows.Goals as goal

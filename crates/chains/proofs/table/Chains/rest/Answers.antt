@@ -1,4 +1,3 @@
--- Answers to the goals of `Chains::rest` (src/table.rt) that the search leaves.
 use Rattle.std.proofs.Common.{Some}
 use Rattle.chains.proofs.HoldsLaws.{noted-is-row}
 use Rattle.chains.proofs.WalkLaws.{rest-made, sound-at, walk-last}

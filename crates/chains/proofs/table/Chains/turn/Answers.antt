@@ -1,4 +1,3 @@
--- Answers to the goals of `Chains::turn` (src/table.rt) that the search leaves.
 use Rattle.std.proofs.Common.{map, Some, refl, ap, sym, ◌∙◌}
 use Rattle.chains.specs.Edits.{turned}
 use Rattle.chains.specs.inside.Tables.{seen_chains, seen_lasts, values_of, IsTable}

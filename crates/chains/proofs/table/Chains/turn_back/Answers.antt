@@ -1,4 +1,3 @@
--- Answers to the goals of `Chains::turn_back` (src/table.rt) that the search leaves.
 use Rattle.std.proofs.Common.{length, map, Some, refl, ap, sym, ◌∙◌, arith, length-set, ◌<◌}
 use Rattle.chains.specs.Edits.{turned}
 use Rattle.chains.specs.inside.Tables.{seen_chains, values_of}

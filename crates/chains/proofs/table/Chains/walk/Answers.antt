@@ -1,4 +1,3 @@
--- Answers to the goals of `Chains::walk` (src/table.rt) that the search leaves.
 use Rattle.chains.proofs.TableLaws.{table-rest}
 use Rattle.chains.proofs.CallLaws.{chain-noted}
 use Rattle.chains.proofs.WalkLaws.{walk-made}

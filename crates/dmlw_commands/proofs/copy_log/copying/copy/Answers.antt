@@ -1,4 +1,3 @@
--- Answers to the goals of `copy` (src/copy_log/copying.rt) that the search leaves.
 use Rattle.std.proofs.Common.{◌≡◌, ◌∙◌, ℕ, Err, Result, subst}
 use Rattle.refusals.specs.declared.refusal.Refusal.TheVariants as refusals
 use Rattle.refusals.specs.declared.run_error.RunError.{RunError}

@@ -1,4 +1,3 @@
--- Answers to the goals of `copy_named` (src/copy_log/copying.rt) that the search leaves.
 use Rattle.script_runner.specs.CallLaws.{on_error}
 use Rattle.dmlw_commands.proofs.CopyOnDisks.{copied_from, failed_from}
 use Rattle.dmlw_commands.proofs.CopyEnds.{fails_by_file}

@@ -1,4 +1,3 @@
--- Answers to the goals of `copy_image` (src/copy_log/images.rt) that the search leaves.
 use Rattle.std.proofs.Common.{inl, refl, subst, sym}
 use Rattle.script_runner.specs.CallLaws.{on_error}
 use Rattle.sector_disk.specs.declared.disk.SectorDisk.{SectorDisk}

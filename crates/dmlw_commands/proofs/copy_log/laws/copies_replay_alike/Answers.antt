@@ -1,4 +1,3 @@
--- Answers to the goals of `copies_replay_alike` (src/copy_log/laws.rt) that the search leaves.
 use Rattle.dmlw_commands.proofs.CopyReplay.{copy_alike, copy_whole}
 use Rattle.dmlw_commands.proofs.copy_log.laws.copies_replay_alike.Goals as goal
 

@@ -1,4 +1,3 @@
--- Answers to the goals of `answer_files` (src/judge_image/answering.rt) that the search leaves.
 use Rattle.std.proofs.Common.{◌∙◌, List, Option, subst, sym, ℕ}
 use Rattle.refusals.specs.Errors.{IsFileError}
 use Rattle.dmlw_files.specs.Files.{MatchesContents}

@@ -1,4 +1,3 @@
--- Answers to the goals of `answer_script` (src/judge_image/answering.rt) that the search leaves.
 use Rattle.std.proofs.Common.{◌≡◌, ◌∙◌, true, IfErr, IfOk, List, Result, ap, subst, sym}
 use Rattle.bio.specs.declared.event.CoreEvent.{CoreEvent}
 use Rattle.bio.specs.Lawful.{all_aligned, is_lawful}

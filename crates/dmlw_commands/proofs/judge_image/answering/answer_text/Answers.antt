@@ -1,4 +1,3 @@
--- Answers to the goals of `answer_text` (src/judge_image/answering.rt) that the search leaves.
 use Rattle.script_runner.specs.CallLaws.{on_error}
 use Rattle.dmlw_commands.proofs.QuestionEnds.{failed_text}
 use Rattle.dmlw_commands.proofs.judge_image.answering.answer_text.Goals as goal

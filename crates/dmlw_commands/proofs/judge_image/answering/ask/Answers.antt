@@ -1,4 +1,3 @@
--- Answers to the goals of `ask` (src/judge_image/answering.rt) that the search leaves.
 use Rattle.std.proofs.Common.{◌∙◌}
 use Rattle.dmlw_commands.specs.EndLaws.{ends_told}
 use Rattle.dmlw_commands.proofs.QuestionEnds.{answering_ends}

@@ -1,4 +1,3 @@
--- What holds at the calls and the turns of the loops of `print_run` (src/judge_image/finding.rt).
 use Rattle.std.proofs.Common.{take}
 use Rattle.std.specs.Prelude.{flat_map}
 use Rattle.std.specs.Io.KnownBytes.{Appends}

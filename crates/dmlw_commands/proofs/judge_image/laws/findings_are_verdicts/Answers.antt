@@ -1,4 +1,3 @@
--- Answers to the goals of `findings_are_verdicts` (src/judge_image/laws.rt) that the search leaves.
 use Rattle.dmlw_commands.proofs.Agreement.{same_judged, same_verdict}
 use Rattle.dmlw_commands.proofs.judge_image.laws.findings_are_verdicts.Goals as goal
 

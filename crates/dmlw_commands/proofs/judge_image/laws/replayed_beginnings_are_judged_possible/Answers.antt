@@ -1,5 +1,3 @@
--- Answers to goals of `replayed_beginnings_are_judged_possible`.
--- Its own crate alone cites it, for the theorems of src/judge_image/laws.rt.
 use Rattle.dmlw_commands.proofs.PrefixIsPossible.{asked_yes, begun_yes, judged_yes}
 use Rattle.dmlw_commands.proofs.judge_image.laws.replayed_beginnings_are_judged_possible.Goals as goal
 

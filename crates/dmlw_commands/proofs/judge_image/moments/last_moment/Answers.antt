@@ -1,4 +1,3 @@
--- Answers to the goals of `last_moment` (src/judge_image/moments.rt) that the search leaves.
 use Rattle.std.proofs.Common.{◌∙◌, ◌+◌, arith, sym}
 use Rattle.dmlw_commands.proofs.LastMoment.{none_next, stands_there, stop_is_last}
 use Rattle.dmlw_commands.proofs.judge_image.moments.last_moment.Goals as goal

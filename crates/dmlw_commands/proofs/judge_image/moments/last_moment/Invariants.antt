@@ -1,4 +1,3 @@
--- What holds at the calls and the turns of the loops of `last_moment` (src/judge_image/moments.rt).
 use Rattle.std.proofs.Common.{◌≡◌, None}
 use Rattle.bio.specs.Places.{first_below}
 use Rattle.dmlw_commands.proofs.LastMoment.{stops_at}

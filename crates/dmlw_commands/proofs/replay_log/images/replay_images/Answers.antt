@@ -1,4 +1,3 @@
--- Answers to the goals of `replay_images` (src/replay_log/images.rt) that the search leaves.
 use Rattle.std.proofs.Common.{IfErr, IfOk, Result, inl, refl, subst, ℕ}
 use Rattle.headline.specs.declared.reopening.ReopenError.{ReopenError}
 use Rattle.headline.specs.ReopenedLog.{IsRefused, IsReplayed as IsReopened}

@@ -1,4 +1,3 @@
--- Answers to the goals of `replay_named` (src/replay_log/replaying.rt) that the search leaves.
 use Rattle.std.proofs.Common.{subst, sym}
 use Rattle.script_runner.specs.CallLaws.{on_error}
 use Rattle.dmlw_files.specs.Images.{HoldsImage}

@@ -1,4 +1,3 @@
--- Answers to the goals of `skips` (src/holes.rt) that the search leaves.
 use Rattle.std.proofs.Common.{◌≡◌, ◌∙◌, ap, length, rules, take, replicate}
 use Rattle.std.proofs.lemmas.List.{take-replicate}
 use Rattle.dmlw_files.proofs.holes.Holes.skips.Goals as goal

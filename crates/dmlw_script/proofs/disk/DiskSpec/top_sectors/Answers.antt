@@ -1,4 +1,3 @@
--- Answers to the goals of `DiskSpec::top_sectors` (src/disk.rt) that the search leaves.
 use Rattle.std.proofs.Common.{◌≡◌, ◌-◌, length, List, Some, ap, subst, sym, ◌∙◌}
 use Rattle.std.specs.Prelude.{option_copied, slice_get}
 use Rattle.table_line.specs.declared.layer_spec.LayerSpec.{LayerSpec}

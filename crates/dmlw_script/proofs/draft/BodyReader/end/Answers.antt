@@ -1,4 +1,3 @@
--- Answers to the goals of `BodyReader::end` (src/draft.rt) that the search leaves.
 use Rattle.std.proofs.Common.{◌∙◌, sym}
 use Rattle.dmlw_script.specs.declared.command.Command.TheVariants as commands
 use Rattle.dmlw_script.proofs.DraftLemmas.{flags_end, moment_push}

@@ -1,4 +1,3 @@
--- Answers to the goals of `BodyReader::name_next` (src/draft.rt) that the search leaves.
 use Rattle.std.proofs.Common.{◌≡◌, true, false, List, [], ◌∷◌, ◌++◌, Ok, sym, ap, ◌∙◌}
 use Rattle.std.specs.List.{list_any}
 use Rattle.std.proofs.lemmas.Bool.{cond-false, not-true, not-false}

@@ -1,4 +1,3 @@
--- Answers to the goals of `BodyReader::say` (src/draft.rt) that the search leaves.
 use Rattle.std.proofs.Common.{ap, ◌∙◌, sym}
 use Rattle.dmlw_script.specs.Plans.{moment_at}
 use Rattle.dmlw_script.proofs.DraftLemmas.{flags_say, moment_push}

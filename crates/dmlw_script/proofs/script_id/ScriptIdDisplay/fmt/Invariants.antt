@@ -1,4 +1,3 @@
--- What holds at the calls and the turns of the loops of `ScriptIdDisplay::fmt` (src/script_id.rt).
 use Rattle.std.proofs.Common.{take}
 use Rattle.std.specs.Char.{encode_utf8}
 use Rattle.std.specs.Fmt.{HasWritten, IsPlainFormatter}

@@ -1,4 +1,3 @@
--- Answers to the goals of `LinearBlockDev::discard` (src/linear.rt) that the search leaves.
 use Rattle.fault_layers.specs.WindowLaws.{goes_window_discards}
 use Rattle.fault_layers.proofs.linear.LinearBlockDev.discard.Goals as goal
 

@@ -1,4 +1,3 @@
--- Answers to the goals of `LinearBlockDev::read` (src/linear.rt) that the search leaves.
 use Rattle.fault_layers.specs.WindowLaws.{goes_window_nothing}
 use Rattle.fault_layers.proofs.linear.LinearBlockDev.read.Goals as goal
 

@@ -1,4 +1,3 @@
--- Answers to the goals of `LinearBlockDev::write` (src/linear.rt) that the search leaves.
 use Rattle.fault_layers.specs.WindowLaws.{goes_window_writes}
 use Rattle.fault_layers.proofs.linear.LinearBlockDev.write.Goals as goal
 

@@ -1,4 +1,3 @@
--- Answers to the goals of `Account::verdict` (src/accounts.rt) that the search leaves.
 use Rattle.std.proofs.Common.{ℕ, List, Option, length, ◌/◌, subst}
 use Rattle.bio.specs.Content.{sector_of}
 use Rattle.judge.specs.Firsts.{first_bytes, first_on}

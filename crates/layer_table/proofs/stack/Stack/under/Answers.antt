@@ -1,4 +1,3 @@
--- Answers to the goals of `Stack::under` (src/stack.rt) that the search leaves.
 use Rattle.std.proofs.Common.{ap, ◌∙◌}
 use Rattle.layer_table.proofs.StackLayers.{all_under, first_asked, none_refused, none_under}
 use Rattle.layer_table.proofs.StackLayers.{of_error}

@@ -1,4 +1,3 @@
--- What holds at the calls and the turns of the loops of `Stack::under` (src/stack.rt).
 use Rattle.std.proofs.Common.{length}
 use Rattle.layer_table.proofs.StackLayers.{AreUnder}
 use Rattle.layer_table.proofs.stack.Stack.under.Given as goal

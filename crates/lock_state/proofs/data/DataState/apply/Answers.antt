@@ -1,4 +1,3 @@
--- Answers to the goals of `DataState::apply` (src/data.rt) that the search leaves.
 use Rattle.std.proofs.Common.{◌≡◌, ◌++◌, ◌∷◌, [], ℕ, List, OnOk, sym, ap, ◌∙◌, subst}
 use Rattle.bio.specs.Possible.{values_of}
 use Rattle.bio.specs.Content.{put}

@@ -1,4 +1,3 @@
--- Answers to the goals of `Fresh::new` (src/holders.rt) that the search leaves.
 use Rattle.lock_state.proofs.HolderMoves.{begins}
 use Rattle.lock_state.proofs.holders.Fresh.new.Goals as goal
 

@@ -1,4 +1,3 @@
--- Answers to the goals of `Keeper::agree` (src/holders.rt) that the search leaves.
 use Rattle.std.proofs.Common.{sym, ap, ◌∙◌, arith}
 use Rattle.lock_state.proofs.HolderMoves.{agrees, splits, joins, joined, lent_is, same_is}
 use Rattle.lock_state.proofs.holders.Keeper.agree.Goals as goal

@@ -1,4 +1,3 @@
--- Answers to the goals of `Keeper::begin` (src/holders.rt) that the search leaves.
 use Rattle.std.proofs.Common.{sym, ap, ◌∙◌, arith}
 use Rattle.lock_state.proofs.HolderMoves.{sets, splits, joins, joined, lent_is, set_is}
 use Rattle.lock_state.proofs.holders.Keeper.begin.Goals as goal

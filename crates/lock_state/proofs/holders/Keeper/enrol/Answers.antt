@@ -1,4 +1,3 @@
--- Answers to the goals of `Keeper::enrol` (src/holders.rt) that the search leaves.
 use Rattle.std.proofs.Common.{sym, ap, ◌∙◌, arith}
 use Rattle.lock_state.proofs.HolderMoves.{enrols, splits, enrolled_is}
 use Rattle.lock_state.proofs.holders.Keeper.enrol.Goals as goal

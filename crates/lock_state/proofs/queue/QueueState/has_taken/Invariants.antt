@@ -1,4 +1,3 @@
--- What holds at the calls and the turns of the loops of `QueueState::has_taken` (src/queue.rt).
 use Rattle.std.proofs.Common.{◌≡◌, ◌<◌, ℕ, Some, slice_get}
 use Rattle.pending.specs.CoreState.{items_of}
 use Rattle.lock_state.specs.declared.note.Item.{Item}

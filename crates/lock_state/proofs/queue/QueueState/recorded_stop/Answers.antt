@@ -1,4 +1,3 @@
--- Answers to the goals of `QueueState::recorded_stop` (src/queue.rt) that the search leaves.
 use Rattle.std.proofs.Common.{List, sym, ap, ◌∙◌}
 use Rattle.std.specs.Prelude.{slice_get}
 use Rattle.bio.specs.declared.event.CoreEvent.{CoreEvent}

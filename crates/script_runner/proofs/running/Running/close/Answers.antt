@@ -1,4 +1,3 @@
--- Answers to the goals of `Running::close` (src/running.rt) that the search leaves.
 use Rattle.std.proofs.Common.{◌∙◌, ◌||◌, Bool, ap, refl}
 use Rattle.script_runner.specs.Lines.{is_memory_end}
 use Rattle.script_runner.proofs.LineSteps.{closed-only}

@@ -1,4 +1,3 @@
--- Answers to the goals of `Running::complete` (src/running.rt) that the search leaves.
 use Rattle.std.proofs.Common.{◌≡◌, Some, refl, rules, []}
 use Rattle.std.specs.Prelude.{slice_get}
 use Rattle.script_runner.specs.declared.request.Request.TheVariants as requests

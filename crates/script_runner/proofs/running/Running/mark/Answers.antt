@@ -1,4 +1,3 @@
--- Answers to the goals of `Running::mark` (src/running.rt) that the search leaves.
 use Rattle.std.proofs.Common.{◌||◌, Bool, List, ap, refl, subst, ℕ}
 use Rattle.recorder.specs.Calls.{Marks}
 use Rattle.script_runner.specs.inside.Replies.{mark_outcome}

@@ -1,4 +1,3 @@
--- Answers to the goals of `Running::message` (src/running.rt) that the search leaves.
 use Rattle.std.proofs.Common.{◌≡◌, ◌∙◌, List, [], Result, Ok, Err, ap, refl, subst, sym, ℕ}
 use Rattle.std.specs.Prelude.{IsTrue}
 use Rattle.std.specs.List.{list_all}

@@ -1,4 +1,3 @@
--- Answers to the goals of `Running::read` (src/running.rt) that the search leaves.
 use Rattle.std.proofs.Common.{refl}
 use Rattle.script_runner.proofs.running.Running.read.Goals as goal
 

@@ -1,4 +1,3 @@
--- Answers to the goals of `Running::run_line` (src/running.rt) that the search leaves.
 use Rattle.std.proofs.Common.{[], inl, inr, subst, sym}
 use Rattle.std.specs.Prelude.{OnOk}
 use Rattle.dmlw_script.specs.declared.command.Command.{Command}

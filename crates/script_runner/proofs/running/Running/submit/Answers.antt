@@ -1,4 +1,3 @@
--- Answers to the goals of `Running::submit` (src/running.rt) that the search leaves.
 use Rattle.std.proofs.Common.{◌≡◌, ◌∙◌, ap, arith, inr, length, refl, subst, sym}
 use Rattle.std.specs.Io.KnownBytes.{Appends}
 use Rattle.std.specs.Prelude.{is_ok}

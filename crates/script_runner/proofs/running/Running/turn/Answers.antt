@@ -1,4 +1,3 @@
--- Answers to the goals of `Running::turn` (src/running.rt) that the search leaves.
 use Rattle.std.proofs.Common.{refl}
 use Rattle.script_runner.proofs.running.Running.turn.Goals as goal
 

@@ -1,4 +1,3 @@
--- Answers to the goals of `Work::run` (src/work.rt) that the search leaves.
 use Rattle.std.proofs.Common.{◌+◌, ◌-◌, ◌^◌, ◌<◌, arith, length}
 use Rattle.bio.specs.PlaceLaws.{stands_there}
 use Rattle.seat_runner.proofs.Seats.{does_next}

@@ -1,4 +1,3 @@
--- What holds at the calls and the turns of the loops of `Work::run` (src/work.rt).
 use Rattle.std.proofs.Common.{take}
 use Rattle.seat_runner.specs.inside.SeatWork.{DoesLines}
 use Rattle.seat_runner.proofs.work.Work.run.Given as goal

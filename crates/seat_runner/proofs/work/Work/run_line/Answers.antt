@@ -1,4 +1,3 @@
--- Answers to the goals of `Work::run_line` (src/work.rt) that the search leaves.
 use Rattle.std.proofs.Common.{◌∙◌, sym}
 use Rattle.seat_runner.proofs.Seats.{does, skips}
 use Rattle.seat_runner.proofs.work.Work.run_line.Goals as goal

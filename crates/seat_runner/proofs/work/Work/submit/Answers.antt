@@ -1,4 +1,3 @@
--- Answers to the goals of `Work::submit` (src/work.rt) that the search leaves.
 use Rattle.std.proofs.Common.{◌≡◌, List, Ok, ap, subst, sym, ◌∙◌}
 use Rattle.bio.specs.Check.{check_sized_answer}
 use Rattle.bio.specs.declared.request.Bio.{Bio}

@@ -1,4 +1,3 @@
--- Answers to the goals of `SectorDisk::bytes` (src/disk.rt) that the search leaves.
 use Rattle.std.proofs.Common.{◌/◌, length, arith}
 use Rattle.sector_disk.proofs.DeviceLaw.{given_of}
 use Rattle.sector_disk.proofs.disk.SectorDisk.bytes.Goals as goal

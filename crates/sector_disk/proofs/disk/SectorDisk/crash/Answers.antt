@@ -1,4 +1,3 @@
--- Answers to the goals of `SectorDisk::crash` (src/disk.rt) that the search leaves.
 use Rattle.std.proofs.Common.{ap, arith, length, ◌∙◌}
 use Rattle.sector_disk.specs.inside.Storage.{is_table}
 use Rattle.sector_disk.proofs.NewPast.{begins_chosen, chosen_of, kept_chosen}

@@ -1,4 +1,3 @@
--- Answers to the goals of `SectorDisk::into_bytes` (src/disk.rt) that the search leaves.
 use Rattle.std.proofs.Common.{refl}
 use Rattle.std.proofs.lemmas.Result.{IfOk-weaker}
 use Rattle.sector_disk.proofs.DeviceLaw.{given_of}

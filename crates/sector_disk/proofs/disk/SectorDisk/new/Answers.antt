@@ -1,4 +1,3 @@
--- Answers to the goals of `SectorDisk::new` (src/disk.rt) that the search leaves.
 use Rattle.std.proofs.lemmas.Result.{IfOk-weaker}
 use Rattle.sector_disk.specs.DiskView.{shown_of}
 use Rattle.sector_disk.proofs.NewPast.{zeroes_made}

@@ -1,4 +1,3 @@
--- Answers to the goals of `SectorDisk::open_tables` (src/disk.rt) that the search leaves.
 use Rattle.std.proofs.Common.{ℕ, length, refl, ap, sym, ◌∙◌, arith}
 use Rattle.std.proofs.lemmas.List.{length-replicate}
 use Rattle.std.proofs.lemmas.Bool.{eqb-true}

@@ -1,4 +1,3 @@
--- Answers to the goals of `SectorDisk::put` (src/disk.rt) that the search leaves.
 use Rattle.std.proofs.Common.{ap, arith, drop, List, refl, take, ◌∷◌, ◌∙◌}
 use Rattle.sector_disk.specs.Candidates.{Puts, Step}
 use Rattle.sector_disk.specs.inside.Storage.{change_values}

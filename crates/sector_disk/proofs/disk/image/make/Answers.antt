@@ -1,4 +1,3 @@
--- Answers to the goals of `make` (src/disk/image.rt) that the search leaves.
 use Rattle.sector_disk.proofs.NewPast.{begins_made}
 use Rattle.sector_disk.proofs.disk.image.make.Goals as goal
 

@@ -1,4 +1,3 @@
--- What holds at the turns of the loop of `widen` (src/disk/power.rt).
 use Rattle.std.proofs.Common.{◌≡◌, ◌≤◌, ◌-◌, length, vec_capacity}
 use Rattle.sector_disk.proofs.disk.power.widen.Given as goal
 

@@ -1,4 +1,3 @@
--- Answers to the goals of `FilledBytes::read` (src/filled.rt) that the search leaves.
 use Rattle.std.proofs.Common.{◌≡◌, ℕ, suc, zero, ◌+◌, ◌-◌, ◌≤◌, List, [], ◌∷◌, ◌++◌, ◌∙◌, take, drop, length, ap}
 use Rattle.std.proofs.Common.{replicate, refl, sym, arith, inl, inr}
 use Rattle.std.specs.Prelude.{min}

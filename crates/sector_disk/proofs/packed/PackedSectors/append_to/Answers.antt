@@ -1,4 +1,3 @@
--- Answers to the goals of `PackedSectors::append_to` (src/packed.rt) that the search leaves.
 use Rattle.std.proofs.Common.{ℕ, List, ◌≡◌, ◌+◌, ◌*◌, ◌++◌, ◌∙◌, ap, append_assoc, arith, drop, take}
 use Rattle.std.proofs.Math.Seq.{take-add}
 use Rattle.std.proofs.lemmas.List.{take_all}

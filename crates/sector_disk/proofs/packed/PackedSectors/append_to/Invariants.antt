@@ -1,4 +1,3 @@
--- What holds at the turns of the loop of `PackedSectors::append_to` (src/packed.rt).
 use Rattle.std.proofs.Common.{◌≡◌, ◌*◌, ◌++◌, take}
 use Rattle.sector_disk.proofs.packed.PackedSectors.append_to.Given as goal
 

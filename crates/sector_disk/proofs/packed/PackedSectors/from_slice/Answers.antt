@@ -1,4 +1,3 @@
--- Answers to the goals of `PackedSectors::from_slice` (src/packed.rt) that the search leaves.
 use Rattle.std.proofs.Common.{ℕ, List, ◌≡◌, ◌+◌, ◌-◌, ◌*◌, ◌/◌, ◌∙◌, ap, arith, drop, length, length-append}
 use Rattle.std.proofs.Common.{take}
 use Rattle.std.proofs.lemmas.List.{length-take}

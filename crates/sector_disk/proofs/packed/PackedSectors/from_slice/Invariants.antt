@@ -1,4 +1,3 @@
--- What holds at the turns of the loop of `PackedSectors::from_slice` (src/packed.rt).
 use Rattle.sector_disk.specs.inside.Packed.{IsPackedTo}
 use Rattle.sector_disk.proofs.packed.PackedSectors.from_slice.Given as goal
 

@@ -1,4 +1,3 @@
--- Answers to the goals of `PackedSectors::len` (src/packed.rt) that the search leaves.
 use Rattle.std.proofs.Common.{◌≡◌, ap, arith, length}
 use Rattle.sector_disk.specs.inside.Packed.{unpacked}
 use Rattle.sector_disk.proofs.PackedParts.{length-unpacked}

@@ -1,4 +1,3 @@
--- Answers to the goals of `PackedSectors::read_sector` (src/packed.rt) that the search leaves.
 use Rattle.std.proofs.Common.{List, ℕ, ◌≡◌, ◌/◌, ◌∙◌, ap, arith, drop, length, take}
 use Rattle.std.proofs.Common.{sym}
 use Rattle.sector_disk.specs.inside.Packed.{part_at, refilled, unpacked}

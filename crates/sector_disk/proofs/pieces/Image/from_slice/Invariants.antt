@@ -1,4 +1,3 @@
--- What holds at the turns of the loop of `Image::from_slice` (src/pieces.rt).
 use Rattle.std.proofs.Common.{◌≡◌, ◌⊎◌, ◌++◌, ◌%◌, [], length}
 use Rattle.sector_disk.proofs.pieces.Image.from_slice.Given as goal
 

@@ -1,4 +1,3 @@
--- What holds at the turns of the loop of `Image::into_vec` (src/pieces.rt).
 use Rattle.std.proofs.Common.{◌≡◌, ◌++◌, length}
 use Rattle.std.specs.Prelude.{reverse}
 use Rattle.sector_disk.specs.inside.Pieces.{joined}

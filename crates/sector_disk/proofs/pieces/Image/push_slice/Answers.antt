@@ -1,4 +1,3 @@
--- Answers to the goals of `Image::push_slice` (src/pieces.rt) that the search leaves.
 use Rattle.std.proofs.Common.{◌≡◌, ap, arith, length, length-append}
 use Rattle.sector_disk.specs.inside.Pieces.{joined}
 use Rattle.sector_disk.proofs.PieceAt.{AreWhole-more, joined-more}

@@ -1,4 +1,3 @@
--- What holds at the turns of the loop of `Image::to_vec` (src/pieces.rt).
 use Rattle.std.proofs.Common.{◌≡◌, ◌++◌, drop}
 use Rattle.sector_disk.specs.inside.Pieces.{joined}
 use Rattle.sector_disk.proofs.pieces.Image.to_vec.Given as goal

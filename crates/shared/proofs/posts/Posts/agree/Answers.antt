@@ -1,4 +1,3 @@
--- Answers to the goals of `Posts::agree` (src/posts.rt) that the search leaves.
 use Rattle.std.proofs.Common.{List, subst, sym}
 use Rattle.bio.specs.declared.outcome.Status.{Status}
 use Rattle.shared.specs.Posts.{ArePosted}

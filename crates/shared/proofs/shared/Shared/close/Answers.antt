@@ -1,4 +1,3 @@
--- Answers to the goals of `Shared::close` (src/shared.rt) that the search leaves.
 use Rattle.std.proofs.Common.{◌≡◌, ℕ, List, Option, length, ◌∙◌, ap, subst, sym}
 use Rattle.refusals.specs.declared.end.End.{End}
 use Rattle.lock_state.specs.Comparison.{Each}

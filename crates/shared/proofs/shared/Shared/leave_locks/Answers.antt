@@ -1,4 +1,3 @@
--- Answers to the goals of `Shared::leave_locks` (src/closing.rt) that the search leaves.
 use Rattle.std.proofs.Common.{List, subst, sym}
 use Rattle.bio.specs.declared.outcome.Status.{Status}
 use Rattle.lock_state.specs.Comparison.{Each}

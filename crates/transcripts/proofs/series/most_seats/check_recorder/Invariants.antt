@@ -1,4 +1,3 @@
--- What holds at the calls of `check_recorder` (src/series/most_seats.rt).
 use Rattle.lock_state.specs.PlacedItems.{ground_of}
 use Rattle.sector_disk.specs.DiskView.{shown_of}
 use Rattle.transcripts.proofs.series.most_seats.check_recorder.Given as goal

@@ -1,4 +1,3 @@
--- Answers to the goals of `World::has_step` (src/cache.rt) that the search leaves.
 use Rattle.std.proofs.Common.{◌/◌, ◌&&◌, not, length, ap, sym, ◌∙◌, arith}
 use Rattle.std.specs.Prelude.{reverse}
 use Rattle.world.specs.Cells.{WorldState, machine_in, machine_of}

@@ -1,4 +1,3 @@
--- Answers to the goals of `World::take` (src/cache.rt) that the search leaves.
 use Rattle.std.proofs.Common.{ℕ, ap, sym, ◌∙◌, subst}
 use Rattle.std.proofs.lemmas.Result.{on_ok_weaker}
 use Rattle.std.specs.Prelude.{get_or, slice_set}

@@ -1,4 +1,3 @@
--- Answers to the goals of `One::put` (src/levels/one.rt) that the search leaves.
 use Rattle.layer_table.proofs.levels.one.One.put.Goals as goal
 
 pub returns-in-Bare-clause-shown : goal.returns-in-Bare-clause-shown

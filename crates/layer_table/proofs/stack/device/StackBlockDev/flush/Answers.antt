@@ -1,4 +1,3 @@
--- Answers to the goals of `StackBlockDev::flush` (src/stack/device.rt) that the search leaves.
 use Rattle.blockdev.specs.Calls.{Flushes}
 use Rattle.layer_table.specs.StackLaws.{no_gap_kept}
 use Rattle.layer_table.proofs.stack.device.StackBlockDev.flush.Goals as goal

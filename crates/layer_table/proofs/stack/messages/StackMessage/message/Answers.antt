@@ -1,4 +1,3 @@
--- Answers to the goals of `StackMessage::message` (src/stack/messages.rt) that the search leaves.
 use Rattle.std.proofs.Common.{◌-◌}
 use Rattle.layer_table.specs.StackMessages.{no_gap_answered}
 use Rattle.layer_table.proofs.stack.messages.StackMessage.message.Goals as goal

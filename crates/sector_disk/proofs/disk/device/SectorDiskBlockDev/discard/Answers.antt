@@ -1,5 +1,3 @@
--- Answers to goals of `SectorDiskBlockDev::discard`.
--- Its own crate alone cites it, for the theorems of src/disk/device.rt.
 use Rattle.std.proofs.Common.{false}
 use Rattle.bio.specs.Content.{discards}
 use Rattle.sector_disk.proofs.DeviceLaw.{goes_past, goes_unchanged}

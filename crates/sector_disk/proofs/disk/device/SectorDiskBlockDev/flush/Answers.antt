@@ -1,4 +1,3 @@
--- Answers to the goals of `SectorDiskBlockDev::flush` (src/disk/device.rt) that the search leaves.
 use Rattle.std.proofs.Common.{refl, ◌∙◌}
 use Rattle.sector_disk.specs.CandidateLaws.{syncs_flush}
 use Rattle.sector_disk.specs.DiskView.{start_of}

@@ -1,4 +1,3 @@
--- Answers to the goals of `SectorDiskBlockDev::read` (src/disk/device.rt) that the search leaves.
 use Rattle.std.proofs.Common.{◌/◌, length, refl}
 use Rattle.bio.specs.Content.{nothing}
 use Rattle.blockdev.specs.JoinLaws.{goes_none}

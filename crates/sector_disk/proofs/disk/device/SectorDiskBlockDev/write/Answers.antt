@@ -1,4 +1,3 @@
--- Answers to the goals of `SectorDiskBlockDev::write` (src/disk/device.rt) that the search leaves.
 use Rattle.bio.specs.Content.{writes}
 use Rattle.blockdev.specs.JoinLaws.{goes_none}
 use Rattle.sector_disk.specs.DiskView.{shown_of}

@@ -23,6 +23,7 @@ pub fn print_script(alloc: Global, script: &Script) -> Result<Vec<u8>, AllocErro
     // What is printed is a text of this script, and so read as it.
     ensures again { IfOk result (λ text. IsTextOf text.items script.now) }
 {
+    // For the prover.
     crate::laws::each_script_has_a_text();
     let mut out = Vec::new(alloc);
     push_head(&mut out, script.data(), script.log(), script.log_size())?;

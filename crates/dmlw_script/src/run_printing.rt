@@ -21,6 +21,7 @@ pub fn print_run_script(alloc: Global, script: &RunScript) -> Result<Vec<u8>, Al
     // What is printed is a text of this script, and so read as it.
     ensures again { IfOk result (λ text. IsRunText text.items script.now) }
 {
+    // For the prover.
     crate::laws::each_run_script_has_a_text();
     let mut out = Vec::new(alloc);
     push_run_head(&mut out, script)?;

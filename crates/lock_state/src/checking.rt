@@ -61,6 +61,7 @@ impl<R: Run> QueueState<R> {
         ensures { MatchBool result (slice_get (items_of self.now.core) k ≡ Some (listed item.now))
             (slice_get (items_of self.now.core) k ≢ Some (listed item.now)) }
     {
+        // For the prover.
         list_has_what_is_queued();
         let bytes = self.sector_bytes();
         let id = self.taken[k];

@@ -57,11 +57,12 @@ pub fn record<O: Write>(
     ensures faults { IfErr result
         (FailsOnDisks text.now script.now (O.contents out.old) (O.contents out.new)) }
 {
+    // For the prover.
     crashed_logs_replay_to_what_could_be::<Stack>();
     lines_go_as_one_call::<Stack, Stack>();
     closed_runs_leave_whole_logs::<Stack, Stack>();
     let played = play_on_disks(alloc, text, script, out)?;
-    // It says what always holds of the recorder and its core.
+    // For the prover: what always holds of the recorder and its core.
     let _events = played.recorder.events();
     let status = played.recorder.status();
     let data_lies = played.data_lies;

@@ -59,8 +59,9 @@ pub fn events_of_run(alloc: Global, text: &[u8], script: &Script) -> Result<Rehe
         (λ events. all_aligned (bytes_of script.now.log_size) events ≡ true) }
     ensures faults { IfErr result (FailsRehearsal text.now script.now) }
 {
+    // For the prover.
     lines_go_as_one_call::<Stack, Stack>();
-    // It says what always holds of a script (`IsPlan`).
+    // For the prover: what always holds of a script (`IsPlan`).
     let _commands = script.commands();
     let played = play_on_disks(alloc, text, script, &mut io::sink())?;
     let ample = is_ample(played.ample, played.recorder.events());

@@ -34,6 +34,7 @@ pub fn run<D: Message + Drop, L: Message + Drop, O: Write>(
         (EndsRun (answering D.answers L.answers) text.now script.now (O.contents out.old)
         (O.contents out.new) running.old) }
 {
+    // For the prover.
     laws::requests_end_once();
     for (place, command) in script.commands().iter().enumerate() {
         match running.run_line(command, script.names(), out) {

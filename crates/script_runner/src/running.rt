@@ -152,6 +152,7 @@ impl<D: Message + Drop, L: Message + Drop> Running<D, L> {
         ensures count { OnOk result
             (length self.new.requests.items ≡ length self.old.requests.items) }
     {
+        // For the prover.
         laws::several_calls_go_as_one::<L>();
         match &self.requests[request] {
             Request::NotAsked => Ok(()),
@@ -176,6 +177,7 @@ impl<D: Message + Drop, L: Message + Drop> Running<D, L> {
         ensures goes { RecorderFrame (recorder_view self.old.recorder)
             (recorder_view self.new.recorder) }
     {
+        // For the prover.
         laws::several_calls_go_as_one::<L>();
         let bytes = read_sectors(&mut self.disk, self.alloc, self.moment, first, count);
         print_read(first, count, &bytes, out)
@@ -231,6 +233,7 @@ impl<D: Message + Drop, L: Message + Drop> Running<D, L> {
         ensures refused { IfErr result (λ stop. (refusal : Refusal) × (stop ≡ AtLine refusal)
             × Closes (replies.Refused refusal) self.old.recorder self.new.recorder) }
     {
+        // For the prover.
         laws::several_calls_go_as_one::<L>();
         if let Reply::Refused(refusal) = self.recorder.event(Event::Close) {
             return Err(StepError::AtLine(refusal));
@@ -253,6 +256,7 @@ impl<D: Message + Drop, L: Message + Drop> Running<D, L> {
         ensures goes { RecorderFrame (recorder_view self.old.recorder)
             (recorder_view self.new.recorder) }
     {
+        // For the prover.
         laws::several_calls_go_as_one::<L>();
         let text = ascii_text(text.as_slice());
         let answer = match over {

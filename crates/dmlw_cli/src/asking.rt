@@ -1,4 +1,4 @@
-//! The task of each command, by the words that were entered for it.
+//! Makes the task of each command from the words that were entered for it.
 ghost use Rattle.std.specs.Prelude.{◌≡◌, IfSome, is_some, option_map, true};
 ghost use Rattle.clap.specs.Words.{first_of, found_of, rows_of};
 ghost use Rattle.dmlw_cli.specs.Names.{HasWords};
@@ -12,7 +12,7 @@ use dmlw_commands::explain::{CopyNames, ReplayNames};
 use dmlw_commands::replay_log::upto_of;
 use refusals::number_of;
 
-/// The task that `record` asks for with the words that were entered.
+/// Makes the task of `record` from the words that were entered.
 pub fn record_task<'a>(found: &ArgMatches<'a>) -> Option<Task<'a>>
     ensures asks { IfSome result (AsksBy names.Record (rows_of (found_of found.now))) }
     ensures complete { HasWords names.Record (rows_of (found_of found.now))
@@ -23,7 +23,7 @@ pub fn record_task<'a>(found: &ArgMatches<'a>) -> Option<Task<'a>>
     Some(Task::Record { script, log })
 }
 
-/// The task that `run` asks for.
+/// Makes the task of `run`.
 pub fn run_task<'a>(found: &ArgMatches<'a>) -> Option<Task<'a>>
     ensures asks { IfSome result (AsksBy names.Run (rows_of (found_of found.now))) }
     ensures complete { HasWords names.Run (rows_of (found_of found.now)) → is_some result ≡ true }
@@ -33,7 +33,7 @@ pub fn run_task<'a>(found: &ArgMatches<'a>) -> Option<Task<'a>>
     Some(Task::Run { script, log })
 }
 
-/// The task that `list` asks for.
+/// Makes the task of `list`.
 pub fn list_task<'a>(found: &ArgMatches<'a>) -> Option<Task<'a>>
     ensures asks { IfSome result (AsksBy names.List (rows_of (found_of found.now))) }
     ensures complete { HasWords names.List (rows_of (found_of found.now)) → is_some result ≡ true }
@@ -42,7 +42,7 @@ pub fn list_task<'a>(found: &ArgMatches<'a>) -> Option<Task<'a>>
     Some(Task::List { log })
 }
 
-/// The task that `status` asks for.
+/// Makes the task of `status`.
 pub fn status_task<'a>(found: &ArgMatches<'a>) -> Option<Task<'a>>
     ensures asks { IfSome result (AsksBy names.Status (rows_of (found_of found.now))) }
     ensures complete { HasWords names.Status (rows_of (found_of found.now))
@@ -52,7 +52,7 @@ pub fn status_task<'a>(found: &ArgMatches<'a>) -> Option<Task<'a>>
     Some(Task::Status { log })
 }
 
-/// The task that `replay` asks for: by a WHAT that names no end of a replay, to tell so.
+/// Makes the task of `replay`. If WHAT names no end of a replay, the task reports that.
 pub fn replay_task<'a>(found: &ArgMatches<'a>) -> Option<Task<'a>>
     ensures asks { IfSome result (AsksBy names.Replay (rows_of (found_of found.now))) }
     ensures complete { HasWords names.Replay (rows_of (found_of found.now))
@@ -71,7 +71,7 @@ pub fn replay_task<'a>(found: &ArgMatches<'a>) -> Option<Task<'a>>
     }
 }
 
-/// The task that `copy` asks for: by a SECTORS that is no number of them, to tell so.
+/// Makes the task of `copy`. If SECTORS isn't a number of sectors, the task reports that.
 pub fn copy_task<'a>(found: &ArgMatches<'a>) -> Option<Task<'a>>
     ensures asks { IfSome result (AsksBy names.Copy (rows_of (found_of found.now))) }
     ensures complete { HasWords names.Copy (rows_of (found_of found.now)) → is_some result ≡ true }
@@ -88,7 +88,7 @@ pub fn copy_task<'a>(found: &ArgMatches<'a>) -> Option<Task<'a>>
     }
 }
 
-/// The task that `judge` asks for: by an M that is no number, to tell so.
+/// Makes the task of `judge`. If M isn't a number, the task reports that.
 pub fn judge_task<'a>(found: &ArgMatches<'a>) -> Option<Task<'a>>
     ensures asks { IfSome result (AsksBy names.Judge (rows_of (found_of found.now))) }
     ensures complete { HasWords names.Judge (rows_of (found_of found.now)) → is_some result ≡ true }
@@ -106,7 +106,7 @@ pub fn judge_task<'a>(found: &ArgMatches<'a>) -> Option<Task<'a>>
     }
 }
 
-/// The task that `path` asks for: by an M that is no number, to tell so.
+/// Makes the task of `path`. If M isn't a number, the task reports that.
 pub fn path_task<'a>(found: &ArgMatches<'a>) -> Option<Task<'a>>
     ensures asks { IfSome result (AsksBy names.Path (rows_of (found_of found.now))) }
     ensures complete { HasWords names.Path (rows_of (found_of found.now)) → is_some result ≡ true }
@@ -124,7 +124,7 @@ pub fn path_task<'a>(found: &ArgMatches<'a>) -> Option<Task<'a>>
     }
 }
 
-// The word that was entered for an argument.
+// Returns the word that was entered for an argument.
 fn word_of<'a>(found: &ArgMatches<'a>, argument: &str) -> Option<&'a str>
     ensures { option_map (λ word. word.now) result
         ≡ first_of argument.now (rows_of (found_of found.now)) }

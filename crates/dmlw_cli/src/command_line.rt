@@ -1,4 +1,4 @@
-//! Reads a command line by `clap`, and finds the task that it asks for.
+//! Parses a command line by `clap`, and finds the task that it asks for.
 ghost use Rattle.std.specs.Prelude.{◌≡◌, ◌⊎◌, List, ℕ, ◌++◌, IfOk, IfSome, None, OnOk, Some, false};
 ghost use Rattle.std.specs.Prelude.{is_some, map, not, true};
 ghost use Rattle.std.specs.List.{filter, list_any};
@@ -21,7 +21,7 @@ use clap::{ArgMatches, Error};
 use std::alloc::{AllocError, Global};
 use std::convert::AsStr;
 
-// The task that a parse found.
+// Finds the task in a parsed command line.
 fn task_of<'a>(matches: &ArgMatches<'a>) -> Option<Task<'a>>
     ensures asks { IfSome result (IsAskedBy (subcommand_rows_of matches.now)) }
     ensures complete { (entered : Entered) → subcommand_rows_of matches.now ≡ Some entered →
@@ -32,7 +32,7 @@ fn task_of<'a>(matches: &ArgMatches<'a>) -> Option<Task<'a>>
     task_by(name, found)
 }
 
-// The word by which a command was entered, and what was found of its own words.
+// The name of the command that was entered, and its parsed words.
 fn entered<'m, 'a>(matches: &'m ArgMatches<'a>) -> Option<(&'a str, &'m ArgMatches<'a>)>
     ensures some { IfSome result
         (λ found. subcommand_rows_of matches.now
@@ -42,7 +42,7 @@ fn entered<'m, 'a>(matches: &'m ArgMatches<'a>) -> Option<(&'a str, &'m ArgMatch
     matches.subcommand()
 }
 
-// The task that a command asks for with the words that were entered.
+// Makes the task of a command from the words that were entered.
 fn task_by<'a>(name: Name, found: &ArgMatches<'a>) -> Option<Task<'a>>
     ensures asks { IfSome result (AsksBy name (rows_of (found_of found.now))) }
     ensures complete { HasWords name (rows_of (found_of found.now)) → is_some result ≡ true }
@@ -68,7 +68,7 @@ fn parse<'a, S: AsStr>(alloc: Global, words: &'a [S]) -> Result<ArgMatches<'a>, 
     program_command(alloc)?.try_get_matches_from(words)
 }
 
-// The error of a command line that lacks a word, which no parse lets through.
+// The error for a command line that lacks a word; no parse lets that through.
 fn incomplete(alloc: Global) -> Error
     ensures { (kind_of result ≡ ErrorKind.OutOfMemory)
         ⊎ (kind_of result ≡ ErrorKind.MissingRequiredArgument) }
@@ -85,15 +85,14 @@ fn missing_word(alloc: Global) -> Result<Error, AllocError>
     program_command(alloc)?.error(ErrorKind::MissingRequiredArgument, "a word is missing")
 }
 
-// Whether a word asks a command to explain itself.
+// Whether a word is `--explain`.
 fn is_explain(word: &str) -> bool
     ensures { result ≡ is_explain word.now }
 {
     word == "--explain"
 }
 
-/// Whether a command line asks the command to explain itself: by the word `--explain`, in any place
-/// after the program's name.
+/// Whether a command line has the word `--explain`, in any place after the program's name.
 pub fn has_explain<S: AsStr>(words: &[S]) -> bool
     ensures { result ≡ has_explain (map S.text words.now) }
 {
@@ -103,14 +102,14 @@ pub fn has_explain<S: AsStr>(words: &[S]) -> bool
     }
 }
 
-// Whether one of the words after the program's name asks for that.
+// Whether one of the words after the program's name is `--explain`.
 fn are_explaining<S: AsStr>(words: &[S]) -> bool
     ensures { result ≡ list_any (λ word. is_explain (S.text word)) words.now }
 {
     words.iter().any(|word| is_explain(word.as_str()))
 }
 
-/// A command line without the words that ask for that.
+/// Returns a command line without the words `--explain`.
 pub fn without_explain<'a, S: AsStr>(
     alloc: Global,
     words: &'a [S],
@@ -126,7 +125,7 @@ pub fn without_explain<'a, S: AsStr>(
     Ok(plain)
 }
 
-// Appends the words after the program's name but those that ask for that.
+// Appends the words after the program's name, except `--explain`.
 fn push_plain<'a, S: AsStr>(words: &'a [S], plain: &mut Vec<&'a str>) -> Result<(), AllocError>
     ensures { OnOk result (map (λ word. word.now) plain.new.items ≡
         map (λ word. word.now) plain.old.items
@@ -141,7 +140,7 @@ fn push_plain<'a, S: AsStr>(words: &'a [S], plain: &mut Vec<&'a str>) -> Result<
     Ok(())
 }
 
-// Whether a command line asks for the page of the formats.
+// Whether a command line is `help formats`.
 fn is_formats(words: &[&str]) -> bool
     ensures { result ≡ is_formats (map (λ word. word.now) words.now) }
 {
@@ -151,9 +150,9 @@ fn is_formats(words: &[&str]) -> bool
     }
 }
 
-/// Reads a command line without `--explain`; the first word is the program's name. `help formats`
-/// asks for the page of the formats, and other words are read as clap does: a name of a file is
-/// taken as it stands where it doesn't begin with a hyphen.
+/// Parses a command line without `--explain`; the first word is the program's name. `help formats`
+/// asks for the page of the formats. `clap` parses all other words; a file's name is taken as it is
+/// if it doesn't begin with a hyphen.
 pub fn read_words<'a>(alloc: Global, words: &'a [&'a str]) -> Task<'a>
     ensures { IsRead (map (λ word. word.now) words.entry.now) result }
 {
@@ -163,14 +162,14 @@ pub fn read_words<'a>(alloc: Global, words: &'a [&'a str]) -> Task<'a>
     read_commands(alloc, words)
 }
 
-/// The task of a command line for which there was no memory.
+/// The task of a command line that couldn't be parsed for lack of memory.
 pub fn unread<'a>(error: AllocError) -> Task<'a>
     ensures { (words : List (List ℕ)) → IsRead words result }
 {
     Task::Show(Error::from(error))
 }
 
-// Reads a command line as clap does.
+// Parses a command line by `clap`.
 fn read_commands<'a, S: AsStr>(alloc: Global, words: &'a [S]) -> Task<'a>
     ensures { IsReadByClap (map S.text words.entry.now) result }
 {

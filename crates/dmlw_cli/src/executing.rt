@@ -1,4 +1,4 @@
-//! Does what a command line asks for: `execute` is all that the program calls.
+//! Executes a command line: the program calls only `execute`.
 ghost use Rattle.std.specs.Prelude.{◌≡◌, ◌⊎◌, Bool, IfErr, MatchResult, OnOk, false, map, true};
 ghost use Rattle.std.specs.Io.KnownBytes.{Appends, Keeps};
 ghost use Rattle.std.specs.IoError.{error_kind};
@@ -34,17 +34,16 @@ use std::io::Write;
 use std::sync::Wait;
 use std::thread::Threads;
 
-/// Does what a command line asks for, and answers how it ended: its exit status is 0 done, 1
-/// refused or an image that is ruled out, 2 a command line that isn't one of the program's, 3
-/// logging ended before its time. `words` begin with the program's name. What the user is to read
-/// goes to the session's `out`; faults go to its `err`, and with `--explain` among the words what
-/// helps against them, whether it explained before or not. Where `out` can't be written the command
-/// is refused, as by a file that can't be.
+/// Executes a command line, and returns how it ended. Its exit status is 0 if it is done, 1 if it
+/// is refused or an image is ruled out, 2 if the command line isn't one of the program's, 3 if
+/// logging ended early. The first of `words` is the program's name. Results go to the session's
+/// `out`, faults to its `err`; if `--explain` is among the words, what helps follows each fault. If
+/// `out` can't be written, the command is refused, as for a file that can't be written.
 ///
-/// Threads are started and waited for by `rt`: of the commands `run` alone does so.
+/// `rt` starts threads and waits for them: only the command `run` does that.
 ///
-/// Whatever the words are, it does what they are read as, and no more. `crate::laws` says which
-/// words are read as which command.
+/// Whatever the words are, it does what they are parsed as, and no more. `crate::laws` says which
+/// words are parsed as which command.
 pub fn execute<'a, S: AsStr, F: Files, O: Write, E: Write, H: Threads + Wait + Sync>(
     rt: &H,
     words: &'a [S],
@@ -57,16 +56,16 @@ pub fn execute<'a, S: AsStr, F: Files, O: Write, E: Write, H: Threads + Wait + S
     ensures command { EndsCommand (F.writes session.old.files) (F.writes session.new.files)
         (status_of result.exit) }
 
-    // Where it is refused each file holds what it held; so it does where logging ended, unless a
-    // log was asked to be written.
+    // If it is refused, each file holds what it held. That is also so if logging ended and no log
+    // was asked to be written.
     ensures kept { IsRefusal result.exit
         → KeepsFiles (F.contents session.old.files) (F.contents session.new.files) }
     ensures unmade { result.exit ≡ LoggingEnded
         → KeepsFiles (F.contents session.old.files) (F.contents session.new.files)
         ⊎ AsksForOne (F.writes session.old.files) (F.writes session.new.files) }
 
-    // Without `--explain` nothing goes to `err` where it is done,
-    // and of a refusal its one line, as far as `err` takes it.
+    // Without `--explain` nothing goes to `err` if it is done,
+    // and for a refusal its one line, as far as `err` takes it.
     ensures told { has_explain (map S.text words.entry.now) ≡ false
         → TellsBy result.exit result (E.contents session.old.err) (E.contents session.new.err) }
 {
@@ -84,7 +83,7 @@ pub fn execute<'a, S: AsStr, F: Files, O: Write, E: Write, H: Threads + Wait + S
     }
 }
 
-// Does a task, and answers how it ended.
+// Does a task, and returns how it ended.
 #[tactic(auto, using(crate::proofs::Ends::leaves_by))]
 fn perform<F: Files, O: Write, E: Write, H: Threads + Wait + Sync>(
     rt: &H,
@@ -130,8 +129,8 @@ fn perform<F: Files, O: Write, E: Write, H: Threads + Wait + Sync>(
     }
 }
 
-/// Says why a command line can't be read, and answers the
-/// exit status: 2 where a word isn't UTF-8 text, else 1.
+/// Prints why a command line can't be read, and returns the
+/// exit status: 2 if a word isn't UTF-8 text, else 1.
 pub fn refuse<E: Write>(alloc: Global, error: io::Error, err: &mut E) -> u8
     ensures { result ≡ status_of (unread_exit (error_kind error)) }
 {
@@ -163,7 +162,7 @@ fn write_page<O: Write>(page: &str, out: &mut O) -> Result<(), RunError>
     Ok(())
 }
 
-// Tells that a word is none of those that stand in its place.
+// Reports that a word isn't one of those that are possible in its place.
 fn tell_flaw<E: Write>(flaw: Flaw, word: &str, err: &mut E) -> Ended
     ensures usage { result.exit ≡ Usage }
     ensures told { result.err_taken ≡ true
@@ -185,7 +184,7 @@ fn write_flaw<E: Write>(flaw: Flaw, word: &str, err: &mut E) -> io::Result<()>
     Ok(())
 }
 
-// Shows the text of a command line that has no other task.
+// Prints the text of a command line that has no other task.
 fn show<O: Write, E: Write>(alloc: Global, text: Error, out: &mut O, err: &mut E) -> Ended
     ensures ends { EndsUntasked (kind_of text) result.exit }
     ensures silent { is_asked_for (kind_of text) ≡ false

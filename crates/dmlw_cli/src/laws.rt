@@ -1,4 +1,4 @@
-//! Laws of command lines: each is a function whose contract it is, and which runs to nothing.
+//! Laws of command lines: each is a function that does nothing, and its contract is the law.
 ghost use Rattle.std.specs.Prelude.{◌≡◌, ◌∷◌, [], List, Option, Some, false, true, ℕ};
 ghost use Rattle.dmlw_cli.specs.CommandLine.{command_words, is_positional};
 ghost use Rattle.dmlw_cli.specs.Commands.{DoesWords, LeavesLog, LeavesReplayed, LeavesRun};
@@ -20,7 +20,7 @@ ghost use Rattle.dmlw_commands.specs.Whats.{IsWhat};
 ghost use Rattle.replay.specs.declared.upto.Upto.{Upto};
 ghost use Rattle.refusals.specs.Words.{IsNumber};
 
-/// A word names a command exactly where it is the command's name.
+/// A word names a command exactly if it is the command's name.
 #[tactic(auto, using(crate::proofs::CommandNames::named, crate::proofs::CommandNames::named_again))]
 pub fn names_are_told_apart()
     ensures named { (word : List ℕ) (name : Name) → name_of word ≡ Some name
@@ -28,7 +28,7 @@ pub fn names_are_told_apart()
     ensures again { (name : Name) → name_of (name_text name) ≡ Some name }
 {}
 
-/// Words that don't begin with a hyphen are names of files: where `record SCRIPT LOG` is done, the
+/// Words that don't begin with a hyphen are names of files. If `record SCRIPT LOG` is done, the
 /// script in that file was recorded in that log.
 pub fn plain_words_record()
     ensures ends { (contents later : List ℕ → Option (List ℕ)) (before after : Option (List Write))
@@ -48,7 +48,7 @@ pub fn plain_words_record()
         LeavesLog script log contents later old new ended.exit }
 {}
 
-/// Where `run SCRIPT LOG` is done, the seats of the script
+/// If `run SCRIPT LOG` is done, the seats of the script
 /// in that file were run, and recorded in that log.
 pub fn plain_words_run()
     ensures ends { (contents later : List ℕ → Option (List ℕ)) (before after : Option (List Write))
@@ -68,7 +68,7 @@ pub fn plain_words_run()
         LeavesRun script log contents later old new ended.exit }
 {}
 
-/// Where `list LOG` is done, the list of the log in that file was shown.
+/// If `list LOG` is done, the list of the log in that file was printed.
 pub fn plain_words_list()
     ensures { (contents later : List ℕ → Option (List ℕ)) (before after : Option (List Write))
         (old new errors_old errors_new : Option (List ℕ)) (ended : Ended)
@@ -79,7 +79,7 @@ pub fn plain_words_list()
         (err_stream false errors_old errors_new) ended }
 {}
 
-/// Where `status LOG` is done, the status of the log in that file was shown.
+/// If `status LOG` is done, the status of the log in that file was printed.
 pub fn plain_words_status()
     ensures { (contents later : List ℕ → Option (List ℕ)) (before after : Option (List Write))
         (old new errors_old errors_new : Option (List ℕ)) (ended : Ended)
@@ -90,7 +90,7 @@ pub fn plain_words_status()
         (err_stream false errors_old errors_new) ended }
 {}
 
-/// Where `replay LOG FIRST OUT WHAT` is done, the log in that file was replayed, up to what WHAT
+/// If `replay LOG FIRST OUT WHAT` is done, the log in that file was replayed, up to what WHAT
 /// names, on the image in the file FIRST, for the file OUT.
 pub fn plain_words_replay()
     ensures ends { (contents later : List ℕ → Option (List ℕ)) (before after : Option (List Write))
@@ -102,7 +102,7 @@ pub fn plain_words_replay()
         later before after old new errors_old errors_new ended →
         ReplaysWhat what (contents log) (contents first) (contents out) out before after old new
         (err_stream false errors_old errors_new) ended }
-    // And the file OUT holds the image that came of it.
+    // And the file OUT holds the resulting image.
     ensures leaves { (contents later : List ℕ → Option (List ℕ))
         (before after : Option (List Write)) (old new errors_old errors_new : Option (List ℕ))
         (ended : Ended)
@@ -114,8 +114,8 @@ pub fn plain_words_replay()
         ended.exit ≡ Done → LeavesReplayed what (contents log) (contents first) (later out) }
 {}
 
-/// Where `copy LOG OUT SECTORS` is done, the log in that file was copied to a new one with sectors
-/// of 4,096 bytes, on a disk of as many sectors as SECTORS says, for the file OUT.
+/// If `copy LOG OUT SECTORS` is done, the log in that file was copied to a new one with sectors
+/// of 4,096 bytes, on a disk of SECTORS sectors, for the file OUT.
 pub fn plain_words_copy()
     ensures ends { (contents later : List ℕ → Option (List ℕ)) (before after : Option (List Write))
         (old new errors_old errors_new : Option (List ℕ)) (ended : Ended)
@@ -136,8 +136,8 @@ pub fn plain_words_copy()
         ended.exit ≡ Done → HoldsCopied (contents log) sectors (later out) }
 {}
 
-/// Where `judge SCRIPT M IMAGE` is done, the image in that file was judged by the script in that
-/// file, after as many events as M says.
+/// If `judge SCRIPT M IMAGE` is done, the image in that file was judged by the script in that
+/// file, after its first M events.
 pub fn plain_words_judge()
     ensures { (contents later : List ℕ → Option (List ℕ)) (before after : Option (List Write))
         (old new errors_old errors_new : Option (List ℕ)) (ended : Ended)
@@ -153,8 +153,8 @@ pub fn plain_words_judge()
         (err_stream false errors_old errors_new) ended }
 {}
 
-/// Where `path SCRIPT M IMAGE` is done, it was told how the image in that file could have come to
-/// the device of the script in that file, after as many events as M says.
+/// If `path SCRIPT M IMAGE` is done, it printed how the image in that file could have come to the
+/// device of the script in that file, after its first M events.
 pub fn plain_words_path()
     ensures { (contents later : List ℕ → Option (List ℕ)) (before after : Option (List Write))
         (old new errors_old errors_new : Option (List ℕ)) (ended : Ended)

@@ -1,9 +1,9 @@
-//! What each command line of dmlw comes to, over files and writers of any kind.
+//! Executes command lines of dmlw, over files and writers of any kind.
 //!
-//! `execute` does one command line; its contract says of each command what it has printed and which
-//! file it has asked to be written, in the words of `specs/Commands`. The commands themselves stand
-//! in `dmlw_commands`; `command_line` reads the words, `laws` says
-//! which plain words are which command.
+//! `execute` executes one command line. For each command its contract says what is printed and
+//! which file is asked to be written, in the words of `specs/Commands`. The commands are in
+//! `dmlw_commands`; `command_line` parses the words, and `laws` says which plain words are which
+//! command.
 #![tactic(auto)]
 
 pub use executing::{execute, refuse};

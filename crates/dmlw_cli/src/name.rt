@@ -16,7 +16,7 @@ pub enum Name {
 }
 
 impl Name {
-    /// The command that a word names: None for any other word.
+    /// Returns the command that a word names; None for any other word.
     pub fn of(word: &str) -> Option<Name>
         ensures { result ≡ name_of word.now }
     {

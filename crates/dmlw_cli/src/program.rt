@@ -1,4 +1,4 @@
-//! The program's command line, as `clap` reads it: its commands, their words and their help.
+//! The program's command line, as `clap` parses it: its commands, their words and their help.
 ghost use Rattle.std.specs.Prelude.{◌≡◌, IfOk, codes, false};
 ghost use Rattle.clap.specs.Words.{App, app_of, new_app, rule_of, with_rule, with_subcommand};
 ghost use Rattle.dmlw_cli.specs.CommandLine.{IsCommandOf, bare_app, command_app, needed};
@@ -8,8 +8,8 @@ ghost use Rattle.dmlw_cli.specs.declared.name.Name.TheVariants as names;
 use clap::{Arg, Command};
 use std::alloc::{AllocError, Global};
 
-// What `help` prints. It has the commands that `program_command`
-// has, and `help formats`, which is none of them.
+// What `help` prints. It has the commands of `program_command`,
+// and `help formats`, which isn't one of them.
 const HELP: &str = "\
 Records block requests in a log, and reads logs back
 
@@ -36,7 +36,7 @@ Options:
 Exit status: 0 done, 1 refused or ruled out, 2 usage, 3 logging ended before its time.
 A status such as 3 4 says: 3 entries, of which the last uses sector 4.";
 
-// What an event is, by which `judge` and `path` count.
+// What counts as an event for `judge` and `path`.
 const EVENTS: &str = "\
 An event is a line of the script that submits a request (w, f, d) or ends one (c), a mark, or the
 close; so is the end of logging, where that comes first. Events count from 0. Other lines are none.
@@ -52,7 +52,7 @@ close; so is the end of logging, where that comes first. Events count from 0. Ot
 M is 0 to 5 here. At 3 the flush hasn't ended: sector 5 may hold zeroes, or the bytes of a. At 4 it
 has, and made a sure: event 0 rules zeroes out. With --explain its line of the script is printed.";
 
-/// The program's command line, as `clap` is to read it.
+/// Returns the program's command line for `clap`.
 pub fn program_command<'a>(alloc: Global) -> Result<Command<'a>, AllocError>
     ensures { IfOk result (λ command. app_of command ≡ program_app) }
 {
@@ -72,7 +72,7 @@ pub fn program_command<'a>(alloc: Global) -> Result<Command<'a>, AllocError>
     with_command(program, path_command(alloc))
 }
 
-// The program's command without those that it is asked by.
+// The program's command without its subcommands.
 fn bare_command<'a>(alloc: Global) -> Command<'a>
     ensures { app_of result ≡ bare_app }
 {
@@ -83,7 +83,7 @@ fn bare_command<'a>(alloc: Global) -> Command<'a>
         .arg_required_else_help(true)
 }
 
-// The program's command with one more that it is asked by.
+// The program's command with one more subcommand.
 fn with_command<'a>(
     program: Command<'a>,
     made: Result<Command<'a>, AllocError>,
@@ -94,7 +94,7 @@ fn with_command<'a>(
     program.subcommand(made?)
 }
 
-// A word that a command has to have.
+// A required word of a command.
 fn argument<'a>(alloc: Global, name: &'a str, help: &'a str) -> Arg<'a>
     ensures rule { rule_of result ≡ needed name.entry.now }
     ensures own { result.global ≡ false }

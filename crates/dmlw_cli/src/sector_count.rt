@@ -1,4 +1,4 @@
-//! The number of sectors that a command line names for a new disk.
+//! The number of sectors of a new disk, as a word of a command line.
 ghost use Rattle.std.specs.Prelude.{◌≡◌, ◌≤◌, IfSome, None, ℕ};
 ghost use Rattle.dmlw_cli.specs.Counts.{IsSectorCount};
 
@@ -23,8 +23,8 @@ impl Model for SectorCount {
 }
 
 impl SectorCount {
-    /// The number that a word is: 1 to 20 decimal digits of
-    /// a value from 8 to 1,048,576. None for any other word.
+    /// Parses a word: 1 to 20 decimal digits of a value
+    /// from 8 to 1,048,576. None for any other word.
     pub fn of(word: &[u8]) -> Option<SectorCount>
         ensures some { IfSome result (IsSectorCount word.now) }
         ensures none { result ≡ None → (count : ℕ) → IsSectorCount word.now count → ⊥ }
@@ -36,7 +36,7 @@ impl SectorCount {
         Some(SectorCount { sectors })
     }
 
-    /// The number itself.
+    /// Returns the number.
     pub fn sectors(&self) -> u64
         ensures value { result ≡ self.now }
         ensures least { 8 ≤ result }

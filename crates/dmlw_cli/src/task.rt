@@ -10,55 +10,55 @@ use replay::Upto;
 /// What a command line asks for. `script`, `log` and `image` are names of files.
 #[derive(Debug, Drop)]
 pub enum Task<'a> {
-    /// To record the requests of a script in a new log.
+    /// Record the requests of a script in a new log.
     Record {
         script: &'a str,
         log: &'a str,
     },
-    /// To run the seats of a script, each in a thread, and record their requests in a new log.
+    /// Run the seats of a script, each in a thread, and record their requests in a new log.
     Run {
         script: &'a str,
         log: &'a str,
     },
-    /// To list the entries of a log.
+    /// List the entries of a log.
     List {
         log: &'a str,
     },
-    /// To print the status of a log.
+    /// Print the status of a log.
     Status {
         log: &'a str,
     },
-    /// To replay a log on an image, up to an entry that is named.
+    /// Replay a log on an image, up to a named entry.
     Replay {
         names: ReplayNames<'a>,
         upto: Upto<'a>,
     },
-    /// To copy a log to a new one with sectors of 4,096 bytes, on a disk of so many sectors of 512.
+    /// Copy a log to a new one with sectors of 4,096 bytes, on a disk of `sectors` sectors of 512.
     Copy {
         names: CopyNames<'a>,
         sectors: SectorCount,
     },
-    /// To judge whether an image could have been on the disk of a script after so many events.
+    /// Judge whether an image could have been on the disk of a script after its first events.
     Judge {
         script: &'a str,
         moment: u64,
         image: &'a str,
     },
-    /// To tell how an image could have come to the disk of a script after so many events.
+    /// Print how an image could have come to the disk of a script after its first events.
     Path {
         script: &'a str,
         moment: u64,
         image: &'a str,
     },
-    /// To print this page: what is read and printed.
+    /// Print this page: what is read and printed.
     Formats(&'static str),
-    /// To show a text: help, the version, or why the line isn't one of the program's.
+    /// Print a text: help, the version, or why the line isn't one of the program's.
     Show(Error),
-    /// To tell that this word is none of those that stand in its place.
+    /// Report that this word isn't one of those that are possible in its place.
     Flawed(Flaw, &'a str),
 }
 
-/// A word that `clap` lets through, and that is none of the program's.
+/// A word that `clap` lets through, and that isn't one of the program's.
 #[derive(Clone, Copy, Debug, PartialEq, Eq)]
 pub enum Flaw {
     /// WHAT names no end of a replay.
@@ -70,7 +70,7 @@ pub enum Flaw {
 }
 
 impl Flaw {
-    /// The argument that the word stands for, the forms that are possible there, and where help is.
+    /// The argument of the word, the forms that are possible there, and where help is.
     pub fn forms(self) -> &'static str
         ensures { result.now ≡ flaw_forms self }
     {

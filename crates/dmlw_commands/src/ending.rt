@@ -12,15 +12,15 @@ use std::alloc::Global;
 use std::io;
 use std::io::Write;
 
-/// How a command ended, and whether the error stream took all that it was told.
+/// How a command ended, and whether the error stream took all that was written to it.
 #[derive(Clone, Copy, Debug, PartialEq, Eq)]
 pub struct Ended {
     pub exit: Exit,
     pub err_taken: bool,
 }
 
-/// How a command ends that did this. A fault is reported by one line, after what was printed before
-/// it, and `more` stands behind it; where there is no fault and no more, nothing goes to `err`.
+/// Ends a command with this result. A fault is reported by one line, after what was printed before
+/// it, and `more` follows it. If there is no fault and no more, nothing goes to `err`.
 pub fn end<T: Copy, O: Write, E: Write>(
     alloc: Global,
     done: Result<T, RunError>,
@@ -43,8 +43,8 @@ pub fn end<T: Copy, O: Write, E: Write>(
     }
 }
 
-/// How a recording ends that came so far, or failed. Where logging ended before its time, the exit
-/// says so, and nothing is reported; a fault is, as by `end`.
+/// Ends a recording with this status, or its failure. If logging ended early, the exit says so and
+/// nothing is reported. A fault is reported as by `end`.
 pub fn end_recording<O: Write, E: Write>(
     alloc: Global,
     done: Result<Status, RunError>,
@@ -64,7 +64,7 @@ pub fn end_recording<O: Write, E: Write>(
     }
 }
 
-/// How a command ends so, of which there is no fault to report: `more` is all that goes to `err`.
+/// Ends a command that reports no fault: only `more` goes to `err`.
 pub fn end_well<E: Write>(exit: Exit, more: &str, err: &mut E) -> Ended
     ensures exit { result.exit ≡ exit }
     ensures quiet { more.now ≡ [] → E.contents err.new ≡ E.contents err.old }
@@ -77,8 +77,8 @@ pub fn end_well<E: Write>(exit: Exit, more: &str, err: &mut E) -> Ended
     }
 }
 
-/// Reports a fault, by one line, and `more` behind it, all
-/// in one write where there is memory for it.
+/// Reports a fault by one line, followed by `more`, in one
+/// write if there is memory for it.
 pub fn report<E: Write>(alloc: Global, fault: RunError, more: &str, err: &mut E) -> Ended
     ensures exit { result.exit ≡ exit_of fault }
     ensures told { result.err_taken ≡ true
@@ -90,8 +90,8 @@ pub fn report<E: Write>(alloc: Global, fault: RunError, more: &str, err: &mut E)
     }
 }
 
-// Writes the line of a fault and what stands behind it: in
-// parts where there is no memory to make them whole.
+// Writes the line of a fault and what follows it: in
+// parts if there is no memory to join them.
 fn tell_fault<E: Write>(alloc: Global, fault: RunError, more: &str, err: &mut E) -> io::Result<()>
     ensures { OnOk result (Appends (E.contents err.old) (E.contents err.new)
         (fault_line fault ++ more.now)) }
@@ -105,7 +105,7 @@ fn tell_fault<E: Write>(alloc: Global, fault: RunError, more: &str, err: &mut E)
     }
 }
 
-// Writes a text, and sees it written.
+// Writes and flushes a text.
 fn tell<E: Write>(text: &str, err: &mut E) -> io::Result<()>
     ensures { OnOk result (Appends (E.contents err.old) (E.contents err.new) text.now) }
 {

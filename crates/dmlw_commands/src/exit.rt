@@ -14,7 +14,7 @@ pub enum Exit {
     Refused,
     /// The command line isn't one of the program's.
     Usage,
-    /// Logging ended before its time: the log is written as far as it came, or none could be made.
+    /// Logging ended early: the log is written as far as it came, or none could be made.
     LoggingEnded,
     /// The verdict on the image is no.
     RuledOut,

@@ -1,4 +1,4 @@
-// The log of an image, opened on a disk that the image becomes without a copy.
+// Opens the log of an image, which becomes a disk without a copy.
 // Its entries are read one by one, without a write's data.
 ghost use Rattle.std.specs.Prelude.{◌≡◌, ◌⊎◌, IfErr, IfOk, List, Option, false};
 ghost use Rattle.log_format.specs.declared.entry.Entry.{Entry};
@@ -18,7 +18,7 @@ use refusals::{Refusal, RunError};
 use sector_disk::{Image, SectorDisk};
 use std::alloc::Global;
 
-// The reader of the log that an image holds.
+// Opens a reader of the log in an image.
 pub(crate) fn open_image(alloc: Global, image: Image) -> Result<LogReader<SectorDisk>, RunError>
     requires { IsImage image }
     ensures opened { IfOk result (λ reader. Opens image (reader_of reader)) }
@@ -34,8 +34,8 @@ pub(crate) fn open_image(alloc: Global, image: Image) -> Result<LogReader<Sector
     }
 }
 
-// The entry that comes next in the log of an image, without
-// a write's data; none after the last one.
+// Reads the next entry in the log of an image, without a
+// write's data; none after the last one.
 pub(crate) fn next_of_image(
     reader: &mut LogReader<SectorDisk>,
 ) -> Result<Option<(Placed, Entry)>, RunError>

@@ -22,10 +22,10 @@ use script_runner::{Lies, RunResult};
 use std::alloc::Global;
 use std::io::Write;
 
-/// Does `record SCRIPT LOG`: records the requests of a script in a new log, and answers how it
-/// ended. `script` and `log` are names of files. What there is to print goes to `out` before the
-/// log is written, also where logging ended before its time; a fault is reported to `err`, with
-/// what helps where it `explains`.
+/// Executes `record SCRIPT LOG`: records the requests of a script in a new log, and returns how it
+/// ended. `script` and `log` are names of files. The output goes to `out` before the log is
+/// written, also if logging ended early. A fault is reported to `err`, with what helps if the
+/// session `explains`.
 pub fn record<F: Files, O: Write, E: Write>(
     script: &str,
     log: &str,
@@ -37,15 +37,15 @@ pub fn record<F: Files, O: Write, E: Write>(
         (O.contents session.old.out) (O.contents session.new.out)
         (err_stream session.old.explains (E.contents session.old.err)
         (E.contents session.new.err)) result }
-    // Where it is refused each file holds what it held, and a script isn't written over. So it does
-    // where logging ended, unless the log was asked to be written.
+    // If it is refused, each file holds what it held, and a script isn't overwritten. That is also
+    // so if logging ended and the log wasn't asked to be written.
     ensures kept { IsRefusal result.exit
         → KeepsFiles (F.contents session.old.files) (F.contents session.new.files) }
     ensures unmade { result.exit ≡ Exit.LoggingEnded →
         KeepsFiles (F.contents session.old.files) (F.contents session.new.files)
         ⊎ AsksFor log.now (F.writes session.old.files) (F.writes session.new.files) }
-    // Where it is done LOG holds the log; so it does where
-    // logging ended, unless each file holds what it held.
+    // If it is done, LOG holds the log. That is also so if logging
+    // ended, unless each file holds what it held.
     ensures written { result.exit ≡ Exit.Done →
         HoldsLog (F.contents session.old.files script.now) Exit.Done (O.contents session.old.out)
         (O.contents session.new.out) (F.contents session.new.files log.now) }
@@ -55,7 +55,7 @@ pub fn record<F: Files, O: Write, E: Write>(
         (O.contents session.old.out)
         (O.contents session.new.out) (F.contents session.new.files log.now) }
     ensures apart { script.now ≡ log.now → F.writes session.new.files ≡ F.writes session.old.files }
-    // A script whose bytes are known, and too many, is refused as a file, and nothing is printed.
+    // A script whose known bytes are too many is refused as a file, and nothing is printed.
     ensures within { IsTooLong 4194304 (F.contents session.old.files script.now)
         → result.exit ≡ Exit.Refused }
 {
@@ -109,7 +109,7 @@ fn record_script<F: Files, O: Write>(
     Ok(status)
 }
 
-// Runs the script in a file, and prints what happens and how far its log has come.
+// Runs the script in a file, and prints its output and the log's status.
 fn run_file<F: Files, O: Write>(
     alloc: Global,
     script: &str,
@@ -132,7 +132,7 @@ fn run_file<F: Files, O: Write>(
     run_text(alloc, &text, out)
 }
 
-// Runs the script that a text spells, and prints what happens and how far its log has come.
+// Runs the script that a text spells, and prints its output and the log's status.
 fn run_text<O: Write>(alloc: Global, text: &[u8], out: &mut O) -> Result<RunResult, RunError>
     ensures printed { IfOk result
         (λ recorded. IsPrintedLog (Some text.now) recorded.status (image_of recorded.disk)
@@ -144,7 +144,7 @@ fn run_text<O: Write>(alloc: Global, text: &[u8], out: &mut O) -> Result<RunResu
     run_script(alloc, text, &script, out)
 }
 
-// Runs a script, which was read from `text`, and prints what happens and how far its log has come.
+// Runs a script, which was read from `text`, and prints its output and the log's status.
 fn run_script<O: Write>(
     alloc: Global,
     text: &[u8],
@@ -163,7 +163,7 @@ fn run_script<O: Write>(
     Ok(recorded)
 }
 
-/// Prints how far a log has come, and how often the layers lied, if they did.
+/// Prints a log's status, and how often the layers lied, if they did.
 pub fn print_end<O: Write>(status: Status, lies: Lies, out: &mut O) -> Result<(), RunError>
     ensures printed { OnOk result
         (Appends (O.contents out.old) (O.contents out.new) (end_lines status lies)) }
@@ -175,7 +175,7 @@ pub fn print_end<O: Write>(status: Status, lies: Lies, out: &mut O) -> Result<()
     Ok(())
 }
 
-// Prints how far a log has come.
+// Prints a log's status.
 fn print_status<O: Write>(status: Status, out: &mut O) -> Result<(), RunError>
     ensures printed { OnOk result
         (Appends (O.contents out.old) (O.contents out.new) (status_line status)) }
@@ -185,7 +185,7 @@ fn print_status<O: Write>(status: Status, out: &mut O) -> Result<(), RunError>
     Ok(())
 }
 
-// Prints how often the layers of the data disk lied, and those of the log's, where one did.
+// Prints how often the layers of the data disk and of the log's disk lied, if one did.
 fn print_lies<O: Write>(lies: Lies, out: &mut O) -> Result<(), RunError>
     ensures printed { OnOk result
         (Appends (O.contents out.old) (O.contents out.new) (lies_line lies)) }

@@ -1,4 +1,4 @@
-//! Running the seats of a script, from the names of its files to how it ended.
+//! `run SCRIPT LOG`: runs the seats of a script, each in a thread of its own.
 ghost use Rattle.std.specs.Prelude.{◌≡◌, ◌⊎◌, Err, IfErr, IfOk, OnErr, OnOk, Some};
 ghost use Rattle.std.specs.Io.KnownBytes.{Appends};
 ghost use Rattle.refusals.specs.declared.refusal.Refusal.TheVariants as refusals;
@@ -26,10 +26,10 @@ use std::io::Write;
 use std::sync::Wait;
 use std::thread::Threads;
 
-/// Does `run SCRIPT LOG`: runs the seats of a script over a new log, each in a thread of its own,
-/// and answers how it ended. `script` and `log` are names of files. What there is to print goes to
-/// `out` before the log is written, also where logging ended before its time; a fault is reported
-/// to `err`, with what helps where it `explains`.
+/// Executes `run SCRIPT LOG`: runs the seats of a script over a new log, each in a thread of its
+/// own, and returns how it ended. `script` and `log` are names of files. The output goes to `out`
+/// before the log is written, also if logging ended early. A fault is reported to `err`, with what
+/// helps if the session `explains`.
 pub fn run<F: Files, O: Write, E: Write, H: Threads + Wait + Sync>(
     rt: &H,
     script: &str,
@@ -42,15 +42,15 @@ pub fn run<F: Files, O: Write, E: Write, H: Threads + Wait + Sync>(
         (O.contents session.old.out) (O.contents session.new.out)
         (err_stream session.old.explains (E.contents session.old.err)
         (E.contents session.new.err)) result }
-    // Where it is refused each file holds what it held, and a script isn't written over. So it does
-    // where logging ended, unless the log was asked to be written.
+    // If it is refused, each file holds what it held, and a script isn't overwritten. That is also
+    // so if logging ended and the log wasn't asked to be written.
     ensures kept { IsRefusal result.exit
         → KeepsFiles (F.contents session.old.files) (F.contents session.new.files) }
     ensures unmade { result.exit ≡ Exit.LoggingEnded →
         KeepsFiles (F.contents session.old.files) (F.contents session.new.files)
         ⊎ AsksFor log.now (F.writes session.old.files) (F.writes session.new.files) }
-    // Where it is done LOG holds the log; so it does where
-    // logging ended, unless each file holds what it held.
+    // If it is done, LOG holds the log. That is also so if logging
+    // ended, unless each file holds what it held.
     ensures written { result.exit ≡ Exit.Done →
         HoldsRun (F.contents session.old.files script.now) Exit.Done (O.contents session.old.out)
         (O.contents session.new.out) (F.contents session.new.files log.now) }
@@ -64,7 +64,7 @@ pub fn run<F: Files, O: Write, E: Write, H: Threads + Wait + Sync>(
         TellsLine (err_stream session.old.explains (E.contents session.old.err)
         (E.contents session.new.err)) Exit.Refused
         (fault_line (refused_by refusals.File)) result }
-    // A script whose bytes are known, and too many, is refused as a file, and nothing is printed.
+    // A script whose known bytes are too many is refused as a file, and nothing is printed.
     ensures within { IsTooLong 4194304 (F.contents session.old.files script.now)
         → result.exit ≡ Exit.Refused }
 {
@@ -119,7 +119,7 @@ fn run_named<F: Files, O: Write, H: Threads + Wait + Sync>(
     Ok(status)
 }
 
-// Runs the script in a file, and prints what its seats' calls came to and how far its log has come.
+// Runs the script in a file, and prints a line for each seat and the log's status.
 fn run_file<F: Files, O: Write, H: Threads + Wait + Sync>(
     rt: &H,
     alloc: Global,
@@ -141,8 +141,8 @@ fn run_file<F: Files, O: Write, H: Threads + Wait + Sync>(
     run_text(rt, alloc, &text, out)
 }
 
-// Runs the script that a text spells, and prints what its
-// seats' calls came to and how far its log has come.
+// Runs the script that a text spells, and prints a line for
+// each seat and the log's status.
 fn run_text<O: Write, H: Threads + Wait + Sync>(
     rt: &H,
     alloc: Global,
@@ -159,8 +159,8 @@ fn run_text<O: Write, H: Threads + Wait + Sync>(
     run_script(rt, alloc, text, &script, out)
 }
 
-// Runs a script, which was read from `text`, and prints what
-// its seats' calls came to and how far its log has come.
+// Runs a script, which was read from `text`, and prints a
+// line for each seat and the log's status.
 fn run_script<O: Write, H: Threads + Wait + Sync>(
     rt: &H,
     alloc: Global,

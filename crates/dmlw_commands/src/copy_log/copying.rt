@@ -1,4 +1,4 @@
-// How the log in a file is copied, and the image of the new one written.
+// `copy LOG OUT SECTORS`: copies the log in a file, and writes the image of the new one.
 ghost use Rattle.std.specs.Prelude.{◌≡◌, Err, ◌≤◌, ◌⊎◌, IfErr, IfOk, OnErr, OnOk};
 ghost use Rattle.std.specs.Io.KnownBytes.{Appends};
 ghost use Rattle.refusals.specs.Errors.{IsFileError, refused_by};
@@ -20,10 +20,11 @@ use sector_disk::SectorDisk;
 use std::alloc::Global;
 use std::io::Write;
 
-/// Does `copy LOG OUT SECTORS`: copies the log in a file to a new log with sectors of 4,096 bytes,
-/// on a disk of so many sectors of 512 bytes, 8 to 1,048,576, and answers how it ended. How many
-/// entries were copied goes to `out` before the disk's image is written; a fault is reported to
-/// `err`, with what helps where it `explains`. OUT is refused as a file where it is LOG.
+/// Executes `copy LOG OUT SECTORS`: copies the log in a file to a new log with sectors of 4,096
+/// bytes, on a disk of `sectors` sectors of 512 bytes, 8 to 1,048,576, and returns how it ended.
+/// The number of copied entries goes to `out` before the disk's image is written; a fault is
+/// reported to `err`, with what helps if the session `explains`. OUT is refused as a file if it is
+/// LOG.
 ///
 /// Each entry keeps its flags, its body, and its place and length in bytes. The copy stops before
 /// an entry whose place or length in bytes is no multiple of 4,096, before one that doesn't fit,
@@ -41,12 +42,12 @@ pub fn copy<F: Files, O: Write, E: Write>(
         (O.contents session.new.out)
         (err_stream session.old.explains (E.contents session.old.err)
         (E.contents session.new.err)) result }
-    // Where it is done, OUT holds the image of the new log's disk.
+    // If it is done, OUT holds the image of the new log's disk.
     ensures written { result.exit ≡ Exit.Done
         → HoldsCopied (F.contents session.old.files names.entry.log.now) sectors
         (F.contents session.new.files names.entry.out.now) }
-    // It is done or refused; where it is refused each file
-    // holds what it held, and a log isn't written over.
+    // It is done or refused. If it is refused, each file
+    // holds what it held, and a log isn't overwritten.
     ensures exits { (result.exit ≡ Exit.Done) ⊎ (result.exit ≡ Exit.Refused) }
     ensures kept { IsRefusal result.exit
         → KeepsFiles (F.contents session.old.files) (F.contents session.new.files) }
@@ -69,7 +70,7 @@ pub fn copy<F: Files, O: Write, E: Write>(
     )
 }
 
-// Copies the log in a file, tells how many entries that were, and has the image written.
+// Copies the log in a file, prints the number of entries, and has the image written.
 fn copy_file<F: Files, O: Write>(
     alloc: Global,
     names: CopyNames,
@@ -118,7 +119,7 @@ fn copy_named<F: Files>(
     copy_image(alloc, log, sectors)
 }
 
-// Tells how many entries were copied, and has the image of the new log's disk written.
+// Prints the number of copied entries, and has the image of the new log's disk written.
 fn hand_over<F: Files, O: Write>(
     alloc: Global,
     count: u64,
@@ -142,7 +143,7 @@ fn hand_over<F: Files, O: Write>(
     Ok(())
 }
 
-// Tells how many entries were copied.
+// Prints the number of copied entries.
 fn print_count<O: Write>(count: u64, out: &mut O) -> Result<(), RunError>
     ensures printed { OnOk result
         (Appends (O.contents out.old) (O.contents out.new) (copied_line count)) }

@@ -1,4 +1,4 @@
-// How the log that an image has is copied to a new log, on disks in memory.
+// Copies the log in an image to a new log, on disks in memory.
 ghost use Rattle.std.specs.Prelude.{◌≡◌, ◌≤◌, IfErr, IfOk};
 ghost use Rattle.sector_disk.specs.DiskView.{shown_of};
 ghost use Rattle.log_reader.specs.ReaderView.{reader_of};
@@ -16,7 +16,7 @@ use replay::{CopyFault, copy_log};
 use sector_disk::{Image, SectorDisk};
 use std::alloc::Global;
 
-/// What a copy left.
+/// The result of a copy.
 #[derive(Debug, Drop)]
 pub(crate) struct Copied {
     /// How many entries were copied.
@@ -25,9 +25,9 @@ pub(crate) struct Copied {
     pub(crate) disk: SectorDisk,
 }
 
-/// Copies the log that an image has to a new log with sectors of 4,096
-/// bytes, on a disk of so many sectors of 512 bytes, 8 to 1,048,576. In
-/// memory are both disks and one entry; the old log's disk is gone after it.
+/// Copies the log in an image to a new log with sectors of 4,096 bytes, on a
+/// disk of `sectors` sectors of 512 bytes, 8 to 1,048,576. Both disks and one
+/// entry are in memory; the old log's disk is dropped at the end.
 pub(crate) fn copy_image(alloc: Global, log: Image, sectors: u64) -> Result<Copied, RunError>
     requires log { IsImage log }
     requires least { 8 ≤ sectors }
@@ -47,7 +47,7 @@ pub(crate) fn copy_image(alloc: Global, log: Image, sectors: u64) -> Result<Copi
     }
 }
 
-// By what a copy ends that stopped so.
+// Turns the fault of a copy into the command's error.
 fn stopped(fault: CopyFault) -> RunError
     ensures { result ≡ copy_stopped fault }
 {
@@ -57,7 +57,7 @@ fn stopped(fault: CopyFault) -> RunError
     }
 }
 
-// Opens the log that an image has, on the disk that it is.
+// Opens the log in an image, which becomes a disk.
 fn open_log(alloc: Global, log: Image) -> Result<LogReader<SectorDisk>, RunError>
     requires { IsImage log }
     ensures opened { IfOk result (λ reader. IsOpened log (reader_of reader)) }
@@ -70,8 +70,8 @@ fn open_log(alloc: Global, log: Image) -> Result<LogReader<SectorDisk>, RunError
     }
 }
 
-// Begins the new log, on a disk of so many sectors of zeroes. Nothing was copied yet, so want of
-// memory is told as such, and not as an end of logging.
+// Begins the new log, on a disk of `sectors` sectors of zeroes. Nothing was copied yet, so a lack
+// of memory is reported as such, and not as an end of logging.
 fn begin_log(alloc: Global, sectors: u64) -> Result<LogStore<SectorDisk>, RunError>
     requires least { 8 ≤ sectors }
     requires most { sectors ≤ 1048576 }
@@ -88,7 +88,7 @@ fn begin_log(alloc: Global, sectors: u64) -> Result<LogStore<SectorDisk>, RunErr
     }
 }
 
-// A disk of so many sectors of zeroes.
+// A disk of `sectors` sectors of zeroes.
 fn new_disk(alloc: Global, sectors: u64) -> Result<SectorDisk, RunError>
     requires least { 8 ≤ sectors }
     requires most { sectors ≤ 1048576 }

@@ -1,5 +1,5 @@
 // What the image of a copy replays to: the law is a
-// function whose contract it is, and which runs to nothing.
+// function that does nothing, and its contract is the law.
 ghost use Rattle.std.specs.Prelude.{◌≡◌, List, None, Option, length, take, ℕ};
 ghost use Rattle.bio.specs.Content.{Content};
 ghost use Rattle.log_format.specs.declared.decode.Super.{Super};
@@ -9,8 +9,8 @@ ghost use Rattle.log_reader.specs.declared.fault.LogFault.{LogFault};
 ghost use Rattle.log_reader.specs.ImageLog.{IsReading};
 ghost use Rattle.dmlw_commands.specs.LogCopies.{IsCopied};
 
-/// Of the image of a copy as many entries are read as of the log, and no fault. On each disk the
-/// first of them, however many, replay to what the first of the log's entries replay to.
+/// The image of a copy has as many readable entries as the log, and no fault. On each disk its
+/// first n entries replay to what the log's first n entries replay to.
 pub fn copies_replay_alike()
     ensures whole { (log image : List ℕ) (count sectors : ℕ) (new : Super) (copies : List Entry)
         (fault : Option LogFault) →

@@ -1,4 +1,4 @@
-//! A kind of answer to a question on an image: how it is found, printed, and ends the command.
+//! A kind of answer about an image: how it is found, printed, and ends the command.
 ghost use Rattle.std.specs.Prelude.{◌≡◌, ◌/◌, ◌%◌, IfOk, OnOk, [], false, length, take, true};
 ghost use Rattle.std.specs.String.{string_bytes};
 ghost use Rattle.dmlw_files.specs.Files.{KeepsFiles};
@@ -14,14 +14,14 @@ use std::alloc::{AllocError, Global};
 use std::io;
 use std::io::Write;
 
-// What a command answers on an image. `judge` and `path` are one command, but for it.
+// An answer about an image. `judge` and `path` are one command, except for this.
 pub(crate) trait Answer: Drop {
     // What an answer says, what is printed of it, and how it ends the command.
     ghost meaning: { Meaning Self };
 
-    // The answer after the first `moment` of the events, where zeroes were on the device before the
+    // Finds the answer after the first `moment` of the events, if the device held zeroes before the
     // first event. `events` is a list that a recorder of the device may have recorded; the image
-    // has the device's length in bytes, whole sectors of 512. Want of memory is the only error.
+    // has the device's length in bytes, whole sectors of 512. Lack of memory is the only error.
     fn on_image(
         alloc: Global,
         events: &[CoreEvent],
@@ -39,8 +39,8 @@ pub(crate) trait Answer: Drop {
         ensures { OnOk result (Appends (O.contents out.old) (O.contents out.new)
             (meaning.printed self.now)) };
 
-    // What `--explain` adds behind the answer, by the script in a file: lines that each begin with
-    // two spaces. Empty where it isn't asked for.
+    // What `--explain` adds after the answer, by the script in a file: lines that each begin with
+    // two spaces. Empty if it isn't asked for.
     fn explain<F: Files>(
         &self,
         alloc: Global,

@@ -1,4 +1,4 @@
-//! The form that `judge` and `path` share: a question on an
+//! The form that `judge` and `path` share: a question about an
 //! image is answered by the script in a file.
 ghost use Rattle.std.specs.Prelude.{◌≡◌, ◌⊎◌, ◌++◌, IfErr, IfOk, IsOk, [], false, length, take};
 ghost use Rattle.std.specs.Prelude.{true};
@@ -29,8 +29,8 @@ use script_runner::events_of_run;
 use std::alloc::Global;
 use std::io::Write;
 
-/// What is asked: of the image in one file, had power failed after the first `moment` of the
-/// recorder's events by the script in another one. Both are named.
+/// The question: about the image in one file, had power failed after the first `moment` events of
+/// the script in another file. Both files are named.
 #[derive(Clone, Copy, Debug)]
 pub(crate) struct Asked<'a> {
     pub(crate) script: &'a str,
@@ -38,9 +38,9 @@ pub(crate) struct Asked<'a> {
     pub(crate) image: &'a str,
 }
 
-// Runs the script in a file as `record` does, and prints the answer on the image in another one,
-// after the first `moment` of the recorder's events, where zeroes were on the data disk at first. A
-// fault is reported to `err`, with what helps where it `explains`.
+// Runs the script in a file as `record` does, and prints the answer about the image in another one,
+// after the first `moment` of the recorder's events, if the data disk held zeroes at first. A fault
+// is reported to `err`, with what helps if the session `explains`.
 pub(crate) fn ask<A: Answer, F: Files, O: Write, E: Write>(
     asked: Asked<'_>,
     session: &mut Session<F, O, E>,
@@ -80,8 +80,8 @@ pub(crate) fn ask<A: Answer, F: Files, O: Write, E: Write>(
     )
 }
 
-// What `--explain` adds to what a question came to: lines
-// of the answer's own, or what helps against the fault.
+// What `--explain` adds: lines for the answer, or what
+// helps against the fault.
 fn explain_answered<A: Answer, F: Files>(
     alloc: Global,
     explains: bool,
@@ -109,7 +109,7 @@ fn explain_answered<A: Answer, F: Files>(
     }
 }
 
-// How a command ends whose question came to this.
+// Ends a command with this result of its question.
 fn end_answering<A: Answer, O: Write, E: Write>(
     alloc: Global,
     answered: &Result<A, RunError>,
@@ -130,7 +130,7 @@ fn end_answering<A: Answer, O: Write, E: Write>(
     }
 }
 
-// Reads both files, and prints the answer on the image.
+// Reads both files, and prints the answer about the image.
 fn answer_files<A: Answer, F: Files, O: Write>(
     alloc: Global,
     asked: Asked<'_>,
@@ -152,7 +152,7 @@ fn answer_files<A: Answer, F: Files, O: Write>(
     print_answer(answer_text(alloc, &text, asked.moment, &image), out)
 }
 
-// The image in the file of a name, as one vector.
+// Reads the image in a file, as one vector.
 fn read_bytes<F: Files>(alloc: Global, name: &str, files: &mut F) -> Result<Vec<u8>, RunError>
     ensures contents { IfOk result
         (λ image. MatchesContents (F.contents files.old name.now) image.items) }
@@ -167,7 +167,7 @@ fn read_bytes<F: Files>(alloc: Global, name: &str, files: &mut F) -> Result<Vec<
     Ok(image.into_vec(alloc)?)
 }
 
-// Prints an answer, where there is one.
+// Prints an answer, if there is one.
 fn print_answer<A: Answer, O: Write>(
     answered: Result<A, RunError>,
     out: &mut O,
@@ -185,7 +185,7 @@ fn print_answer<A: Answer, O: Write>(
     Ok(answer)
 }
 
-// The answer on an image, by the script that a text spells.
+// Finds the answer about an image, by the script that a text spells.
 fn answer_text<A: Answer>(
     alloc: Global,
     text: &[u8],
@@ -200,7 +200,7 @@ fn answer_text<A: Answer>(
     answer_script(alloc, text, &script, moment, image)
 }
 
-// The answer on an image, by a script that was read from `text`.
+// Finds the answer about an image, by a script that was read from `text`.
 fn answer_script<A: Answer>(
     alloc: Global,
     text: &[u8],
@@ -219,15 +219,15 @@ fn answer_script<A: Answer>(
     answered_by((rehearsed, answered))
 }
 
-// What a question came to, by a rehearsal, which goes.
+// Finds the answer by a rehearsal, which is dropped.
 fn answered_by<D: Drop, A: Answer>(answered: (D, Result<A, RunError>)) -> Result<A, RunError>
     ensures { result ≡ answered.1 }
 {
     answered.1
 }
 
-// The answer on an image, after so many of these events of
-// a device of so many sectors, over zeroes.
+// Finds the answer about an image, after the first events of
+// a device over zeroes.
 fn answer_events<A: Answer>(
     alloc: Global,
     events: &[CoreEvent],

@@ -1,4 +1,4 @@
-//! What `path` finds: a run of the cache machine that leaves an image, or what rules the image out.
+//! What `path` finds: a machine run that leaves an image, or what rules the image out.
 ghost use Rattle.std.specs.Prelude.{OnOk};
 ghost use Rattle.std.specs.Io.KnownBytes.{Appends};
 ghost use Rattle.std.specs.List.{flat_map};

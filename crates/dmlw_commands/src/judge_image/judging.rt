@@ -14,16 +14,16 @@ use std::alloc::{AllocError, Global};
 use std::io;
 use std::io::Write;
 
-/// Does `judge SCRIPT M IMAGE`: runs a script as `record` does, and prints whether the image could
-/// have been on its data disk, had power failed after the first `moment` of the recorder's events,
-/// where zeroes were on it at first. `script` and `image` are names of files; both are read before
-/// either is judged.
+/// Executes `judge SCRIPT M IMAGE`: runs a script as `record` does, and prints whether the image
+/// could have been on its data disk, had power failed after the first `moment` of the recorder's
+/// events, if it held zeroes at first. `script` and `image` are names of files; both are read
+/// before either is judged.
 ///
 /// The disk is seen from the top of its layers. A verdict of no exits as ruled out, with nothing on
-/// `err`. Refused are a file that can't be read, is too long or no image (32), the first line of
-/// the script that is at fault, its run where that fails, a number past the last moment and an
-/// image of another size than the disk (34). A log that can't be made is the end of logging. A
-/// fault is reported to `err`, with what helps where it `explains`.
+/// `err`. It refuses a file that can't be read, is too long or no image (32), the first line of the
+/// script that is at fault, a run that fails, and a number past the last moment or an image of
+/// another size than the disk (34). A log that can't be made is the end of logging. A fault is
+/// reported to `err`, with what helps if the session `explains`.
 pub fn judge<F: Files, O: Write, E: Write>(
     script: &str,
     moment: u64,

@@ -1,4 +1,4 @@
-//! Laws of verdicts: each is a function whose contract it is, and which runs to nothing.
+//! Laws of verdicts: each is a function that does nothing, and its contract is the law.
 ghost use Rattle.std.specs.Prelude.{◌≡◌, ◌/◌, IsTrue, List, take, true, ℕ};
 ghost use Rattle.bio.specs.declared.event.CoreEvent.{CoreEvent};
 ghost use Rattle.bio.specs.Lawful.{all_aligned, is_well_formed};
@@ -41,8 +41,8 @@ pub fn replayed_beginnings_are_judged_possible()
     beginnings_are_possible();
 }
 
-/// `path` and `judge` say the same of an image: after the same events there is a run just where the
-/// verdict is yes, and where there is none, the verdict is the no that is printed.
+/// `path` and `judge` agree on an image: after the same events there is a run exactly if the
+/// verdict is yes, and if there is none, the verdict is the no that is printed.
 pub fn findings_are_verdicts()
     ensures content { (sectors : ℕ) (events : List CoreEvent) (first now : Content)
         (verdict : Verdict) (finding : Finding) →

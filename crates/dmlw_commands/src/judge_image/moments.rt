@@ -1,5 +1,5 @@
 //! The moments of a run that a question may name, and what
-//! `--explain` tells of one that it may not.
+//! `--explain` prints about one that it may not.
 ghost use Rattle.std.specs.Prelude.{◌≡◌, ◌≤◌, [], Some, false, length};
 ghost use Rattle.std.specs.String.{string_bytes};
 ghost use Rattle.bio.specs.Events.{is_stop};
@@ -16,8 +16,8 @@ use std::alloc::Global;
 use std::fmt;
 use std::fmt::Write;
 
-/// The last moment of a list of events: how many of them stand before the Stop, or how many there
-/// are. Each number up to it is a moment.
+/// Returns the last moment of a list of events: the number of events before the Stop, or of all.
+/// Each number up to it is a moment.
 pub fn last_moment(events: &[CoreEvent]) -> usize
     ensures last { result ≡ last_moment events.now }
     ensures within { result ≤ length events.now }
@@ -41,8 +41,8 @@ struct Moments {
     has_layers: bool,
 }
 
-/// What `--explain` adds where a moment, or an image's size, is none of a script's: lines that each
-/// begin with two spaces. Empty where it isn't asked for, or where there is no memory for it.
+/// What `--explain` adds if a moment, or an image's size, isn't one of a script's: lines that each
+/// begin with two spaces. Empty if it isn't asked for, or there is no memory for it.
 pub(crate) fn explain_moment<F: Files>(
     alloc: Global,
     explains: bool,
@@ -101,7 +101,7 @@ fn write_moment<F: Files, W: Write>(
     Ok(())
 }
 
-// Writes how many events a run has, where a moment is past the last of them.
+// Writes how many events a run has, if a moment is past the last of them.
 fn write_last<W: Write>(script: &str, moment: u64, moments: Moments, to: &mut W) -> fmt::Result {
     if moment <= moments.last {
         return Ok(());
@@ -122,7 +122,7 @@ fn write_last<W: Write>(script: &str, moment: u64, moments: Moments, to: &mut W)
     )
 }
 
-// The moments of the run of the script that a text spells, where it has one.
+// Returns the moments of the run of the script that a text spells, if it has one.
 fn moments_of(alloc: Global, text: &[u8]) -> Option<Moments> {
     let script = read_script(alloc, text).ok()?;
     let rehearsed = events_of_run(alloc, text, &script).ok()?;

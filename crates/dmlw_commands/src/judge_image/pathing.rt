@@ -9,15 +9,15 @@ use dmlw_files::{Files, Session};
 use std::io::Write;
 use world::Finding;
 
-/// Does `path SCRIPT M IMAGE`: runs a script as `record` does, and prints a run of the cache
-/// machine that submits and ends the requests of the first `moment` of the recorder's events in
-/// their order, and leaves the image, where zeroes were on the data disk at first. Each step is a
-/// line, the last one `power`; ids are places of events. `script` and `image` are names of files;
-/// both are read before either is judged.
+/// Executes `path SCRIPT M IMAGE`: runs a script as `record` does, and prints a machine run that
+/// submits and ends the requests of the first `moment` of the recorder's events in their order, and
+/// leaves the image, if the data disk held zeroes at first. Each step is a line, the last one
+/// `power`; ids are places of events. `script` and `image` are names of files; both are read before
+/// either is judged.
 ///
-/// The disk is seen from the top of its layers. Where no run leaves the image, the verdict's line
-/// is printed, and it exits as ruled out, with nothing on `err`. What is refused, and how that is
-/// reported, is as with `judge`.
+/// The disk is seen from the top of its layers. If no run leaves the image, the verdict's line is
+/// printed, and it exits as ruled out, with nothing on `err`. Refusals and reports are those of
+/// `judge`.
 pub fn path<F: Files, O: Write, E: Write>(
     script: &str,
     moment: u64,

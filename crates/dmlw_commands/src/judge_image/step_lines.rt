@@ -1,5 +1,5 @@
-//! What `--explain` adds behind a run: the line of the script that each step belongs to; and behind
-//! a no the line of the event that rules the sector out.
+//! What `--explain` adds after a run: the script's line for each step; and after a no, the line of
+//! the event that rules the sector out.
 //!
 //! A request's submission and its landings belong to the line that submits it, its end to the line
 //! that ends it, a destage to what landed last, and power goes after the line of the last call.
@@ -22,7 +22,7 @@ struct EventLine<'a> {
     text: &'a [u8],
 }
 
-// How far a run has been told.
+// How far a run has been printed.
 #[derive(Drop)]
 struct Told {
     // The place of the event that comes next.
@@ -31,8 +31,8 @@ struct Told {
     landed: usize,
 }
 
-// The lines that the steps of a run belong to, each behind its step, by the script in a file: lines
-// that begin with two spaces. Empty where it isn't asked for, or where there is no memory for it.
+// The steps of a run, each followed by its line of the script in a file: lines that begin with two
+// spaces. Empty if it isn't asked for, or there is no memory for it.
 pub(crate) fn explain_run<F: Files>(
     alloc: Global,
     explains: bool,
@@ -54,8 +54,8 @@ pub(crate) fn explain_run<F: Files>(
     }
 }
 
-/// The line that an event of a run stands in, by the script in a file: a line that begins with two
-/// spaces. Empty where it isn't asked for, where there is none, or where there is no memory for it.
+/// The line of an event of a run, by the script in a file: a line that begins with two spaces.
+/// Empty if it isn't asked for, there is none, or there is no memory for it.
 pub(crate) fn explain_event<F: Files>(
     alloc: Global,
     explains: bool,
@@ -163,7 +163,7 @@ fn write_steps<W: Write>(lines: &[EventLine], run: &[Step], to: &mut W) -> fmt::
     Ok(())
 }
 
-// Writes a step with its line; it stands alone where it has none, as power that goes before the
+// Writes a step with its line, or the step only if it has none, as for power that fails before the
 // first event.
 fn write_step<W: Write>(step: Step, line: Option<&EventLine>, to: &mut W) -> fmt::Result {
     let Some(EventLine { number, text }) = line else {
@@ -177,8 +177,8 @@ fn write_step<W: Write>(step: Step, line: Option<&EventLine>, to: &mut W) -> fmt
 }
 
 impl Told {
-    // The place of the event that a step belongs to, where the steps before it were told. None for
-    // power that goes before the first event.
+    // The place of the event that a step belongs to, after the steps before it. None for power that
+    // fails before the first event.
     fn place_of(&mut self, lines: &[EventLine], step: Step) -> Option<usize> {
         match step {
             Step::Submit(id) => Some(self.pass(id.place() as usize)),
@@ -192,7 +192,7 @@ impl Told {
         }
     }
 
-    // Goes past an event, and answers its place.
+    // Goes past an event, and returns its place.
     fn pass(&mut self, place: usize) -> usize {
         self.next = place.saturating_add(1);
         place

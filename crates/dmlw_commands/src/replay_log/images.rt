@@ -1,4 +1,4 @@
-//! Replays the log that an image has on the disk that another image is.
+//! Replays the log in an image on the disk that another image becomes.
 ghost use Rattle.std.specs.Prelude.{◌≡◌, ◌/◌, IfErr, IfOk, length};
 ghost use Rattle.sector_disk.specs.DiskView.{shown_of};
 ghost use Rattle.sector_disk.specs.Sizes.{Begins};
@@ -14,17 +14,17 @@ use replay::Upto;
 use sector_disk::{Image, SectorDisk};
 use std::alloc::Global;
 
-/// What a replay left.
+/// The result of a replay.
 #[derive(Debug, Drop)]
 pub(crate) struct Replayed {
     /// How many entries were replayed.
     pub(crate) count: u64,
-    /// The disk that has the image that came of it.
+    /// The disk with the resulting image.
     pub(crate) disk: SectorDisk,
 }
 
-/// Replays a log on the disk that a first image is, up to the entry that is named, by the call that
-/// carries the headline; the log's disk is gone after it.
+/// Replays a log on the disk that a first image becomes, up to the named entry, by the call that
+/// carries the headline; the log's disk is dropped at the end.
 pub(crate) fn replay_images(
     alloc: Global,
     log: Image,
@@ -46,7 +46,7 @@ pub(crate) fn replay_images(
     }
 }
 
-// Why a log wasn't replayed that wasn't reopened, or of which the replay stopped.
+// Why a log couldn't be reopened, or its replay stopped.
 fn stop_of(error: ReopenError) -> RunError
     ensures { result ≡ stop_by error }
 {
@@ -59,7 +59,7 @@ fn stop_of(error: ReopenError) -> RunError
     }
 }
 
-// The disk that an image is.
+// Makes a disk of an image.
 fn disk_of(alloc: Global, image: Image) -> Result<SectorDisk, RunError>
     requires { IsImage image }
     ensures begins { IfOk result

@@ -1,4 +1,4 @@
-//! `replay LOG FIRST OUT WHAT`: applies a log, up to the entry that is named, to an image.
+//! `replay LOG FIRST OUT WHAT`: applies a log, up to the named entry, to an image.
 ghost use Rattle.std.specs.Prelude.{◌≡◌, Err, ◌⊎◌, IfErr, IfOk, OnErr, OnOk};
 ghost use Rattle.std.specs.Io.KnownBytes.{Appends};
 ghost use Rattle.refusals.specs.Errors.{IsFileError, refused_by};
@@ -21,10 +21,10 @@ use sector_disk::SectorDisk;
 use std::alloc::Global;
 use std::io::Write;
 
-/// Does `replay LOG FIRST OUT WHAT`: applies the entries of a log, up to the one that is named, to
-/// a first image, and answers how it ended. How many they are goes to `out` before the image that
-/// came of it is written; a fault is reported to `err`, with what helps where it `explains`. OUT
-/// may be the file FIRST, and is refused as a file where it is LOG.
+/// Executes `replay LOG FIRST OUT WHAT`: applies the entries of a log, up to the named one, to a
+/// first image, and returns how it ended. Their number goes to `out` before the resulting image is
+/// written; a fault is reported to `err`, with what helps if the session `explains`. OUT may be the
+/// file FIRST, and is refused as a file if it is LOG.
 ///
 /// An entry's sectors are the log's; a FUA entry is applied as any other. Both images are whole
 /// sectors of 512 bytes, 1 to 1,048,576.
@@ -40,13 +40,13 @@ pub fn replay<F: Files, O: Write, E: Write>(
         (O.contents session.new.out)
         (err_stream session.old.explains (E.contents session.old.err)
         (E.contents session.new.err)) result }
-    // Where it is done, OUT holds the image that came of it.
+    // If it is done, OUT holds the resulting image.
     ensures written { result.exit ≡ Exit.Done
         → HoldsReplayed (F.contents session.old.files names.entry.log.now)
         (F.contents session.old.files names.entry.first.now) upto.now
         (F.contents session.new.files names.entry.out.now) }
-    // It is done or refused; where it is refused each file
-    // holds what it held, and a log isn't written over.
+    // It is done or refused. If it is refused, each file
+    // holds what it held, and a log isn't overwritten.
     ensures exits { (result.exit ≡ Exit.Done) ⊎ (result.exit ≡ Exit.Refused) }
     ensures kept { IsRefusal result.exit
         → KeepsFiles (F.contents session.old.files) (F.contents session.new.files) }
@@ -69,7 +69,7 @@ pub fn replay<F: Files, O: Write, E: Write>(
     )
 }
 
-// Replays the log in a file, tells how many entries that were, and has the image written.
+// Replays the log in a file, prints the number of entries, and has the image written.
 fn replay_files<F: Files, O: Write>(
     alloc: Global,
     names: ReplayNames,
@@ -120,7 +120,7 @@ fn replay_named<F: Files>(
     replay_images(alloc, log, first, upto)
 }
 
-// Tells how many entries were replayed, and has the image of the disk that was left written.
+// Prints the number of replayed entries, and has the image of the resulting disk written.
 fn hand_over<F: Files, O: Write>(
     alloc: Global,
     count: u64,
@@ -144,7 +144,7 @@ fn hand_over<F: Files, O: Write>(
     Ok(())
 }
 
-// Tells how many entries were replayed.
+// Prints the number of replayed entries.
 fn print_count<O: Write>(count: u64, out: &mut O) -> Result<(), RunError>
     ensures printed { OnOk result
         (Appends (O.contents out.old) (O.contents out.new) (replayed_line count)) }

@@ -5,8 +5,8 @@ ghost use Rattle.dmlw_commands.specs.Whats.{IsNoWhat, IsWhat};
 use refusals::number_of;
 use replay::Upto;
 
-/// The end of a replay that a word names: `entries:<n>`, with 1 to 20 decimal digits of a value
-/// below 2^64, `mark:<text>`, whose text may be empty, or `flush`. None for any other word.
+/// Parses the end of a replay that a word names: `entries:<n>`, with 1 to 20 decimal digits of a
+/// value below 2^64, `mark:<text>`, whose text may be empty, or `flush`. None for any other word.
 pub fn upto_of(word: &[u8]) -> Option<Upto<'_>>
     ensures some { IfSome result (IsWhat word.now) }
     ensures none { result ≡ None → IsNoWhat word.now }

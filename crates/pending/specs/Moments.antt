@@ -1,4 +1,4 @@
--- The last moment of which the log tells.
+-- The last moment up to which logging goes on.
 use Rattle.std.specs.Prelude.{ℕ, List, length, unwrap_or}
 use Rattle.bio.specs.declared.event.CoreEvent.{CoreEvent}
 use Rattle.bio.specs.Events.{first_place, is_stop}

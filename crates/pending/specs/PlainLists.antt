@@ -4,7 +4,7 @@ use Rattle.bio.specs.declared.event.CoreEvent.{CoreEvent}
 use Rattle.log_format.specs.declared.entry.Entry.{Entry}
 use Rattle.pending.specs.CompletionList.{Item, entry_at}
 
--- the ids alone
+-- only the ids
 abbrev pub ids_of : List Item → List ℕ
 ids_of items = map (λ item. item.0) items
 

@@ -4,7 +4,7 @@ use Rattle.std.specs.Prelude.{true}
 use Rattle.bio.specs.declared.event.CoreEvent.{CoreEvent}
 use Rattle.bio.specs.declared.event.CoreEvent.TheVariants.{Submit, Complete, Mark, Stop, Close}
 
--- the event, and where it is an end, the same end with success
+-- the event; if it is an end, the same end with success
 abbrev pub as_success : CoreEvent → CoreEvent
 as_success (Complete id ok) = Complete id true
 as_success (Submit bio) = Submit bio

@@ -1,4 +1,4 @@
--- The definitions of `pending` that its proofs alone use: no other crate cites them.
+-- The definitions of `pending` that only its proofs use: no other crate cites them.
 pub mod Release
 pub mod SectorBits
 pub mod Covers

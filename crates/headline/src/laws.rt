@@ -1,5 +1,5 @@
-//! Laws about the headline, apart from the code: what it promises is never empty, and a crash leaves
-//! what `reopen_and_replay` asks for. Each function does nothing: its contract is the law.
+//! Laws about the headline, apart from the code: what it promises is never empty, and a crash
+//! leaves what `reopen_and_replay` asks for. Each function does nothing: its contract is the law.
 ghost use Rattle.std.specs.Prelude.{◌≡◌, ◌≤◌, ℕ, List, length};
 ghost use Rattle.bio.specs.Content.{AgreeBelow, Content};
 ghost use Rattle.bio.specs.declared.event.CoreEvent.{CoreEvent};
@@ -26,8 +26,8 @@ pub fn each_count_belongs_to_a_moment()
 }
 
 /// A device of the same size that holds what a crash left of a recorder's log holds the log that
-/// `reopen_and_replay` asks for: the first `count` entries, of which the recorder's clause `crash`
-/// says that all that was acknowledged is among them.
+/// `reopen_and_replay` asks for: the first `count` entries. By the recorder's clause `crash` all
+/// that was acknowledged is among them.
 pub fn crashed_logs_are_held<L: BlockDev + Drop, D: BlockDev>()
     ensures { (old new : Recorder L L.BlockDev) (left : Content) (log : D)
         → (plain : LeavesPlainLog (recorder_view old) (recorder_view new) left)

@@ -1,46 +1,55 @@
 #!/usr/bin/env python3
 """planted: tries wrong bodies that the gate doesn't try.
 
-  bench/planted.py [--untried] [CRATE | CRATE/NAME]..
-        In a copy of the repository, adds the edits of crates/CRATE/planted/ to those of must-fail/, and runs `rt must-fail` over these crates: all that have such a
-        folder, if none is named. CRATE/NAME tries that edit only, of either folder. The copy begins with what checks in this checkout kept, so check the crates first.
-        Status 0: each edit was refused. With --untried only those of planted/ whose row in docs/lab/PLANTED.md says 'not tried yet'.
+  bench/planted.py [CRATE | CRATE/NAME]..
+        In a copy of the repository, adds the bugs of crates/CRATE/planted.txt that have a text to the edits of must-fail/, and runs `rt must-fail` over these crates: all
+        that have such a file, if none is named. CRATE/NAME tries that bug only, of either place; its name has - for each space. The copy begins with what checks in this
+        checkout kept, so check the crates first. Status 0: each was refused.
+
+planted.txt has an entry for each bug: its name after `## `, what refused it after `refused: `, and either its edit's place, or the lines of an edit (`file: `, `old: `, `new: `),
+or nothing more if its text is gone.
 """
 import os, shutil, subprocess, sys, tempfile
-
-import ready
 
 root = os.path.dirname(os.path.dirname(os.path.abspath(__file__)))
 
 
-def untried():
-    """The edits that were not tried yet, as CRATE/planted/NAME.edit."""
-    for crate, bug, refused in ready.rows_of(ready.text_of(f"{root}/docs/lab/PLANTED.md")):
-        if "not tried yet" in refused:
-            yield f"{crate}/planted/{bug.replace('`', '').split(' (')[0].lower().replace(' ', '-')}.edit"
+def entries_of(crate):
+    """The bugs of a crate: each with its name, what refused it, and the lines of its edit."""
+    path = f"{root}/crates/{crate}/planted.txt"
+    if not os.path.exists(path):
+        return
+    with open(path, encoding="utf-8") as it:
+        for part in it.read().split("\n## ")[1:]:
+            name, *lines = part.rstrip("\n").split("\n")
+            refused = next((line[9:] for line in lines if line.startswith("refused: ")), "")
+            edit = [line for line in lines if line.startswith(("file: ", "old: ", "new:"))]
+            yield name, refused, edit
+
+
+def slug_of(name):
+    """The name by which a bug is asked for, which its edit has as its file's."""
+    return name.replace("`", "").split(" (")[0].lower().replace(" ", "-")
 
 
 def main():
-    words = [it for it in sys.argv[1:] if it != "--untried"]
-    wanted = set(untried()) if "--untried" in sys.argv else None
-    if any("/" in it for it in words):
-        wanted = {f"{crate}/planted/{edit}.edit" for crate, edit in (it.split("/") for it in words)}
-        words = []
-    tried = sorted({it.split("/")[0] for it in wanted}) if wanted is not None else None
-    named = words or tried or sorted(it for it in os.listdir(f"{root}/crates") if os.path.isdir(f"{root}/crates/{it}/planted"))
+    wanted = {tuple(word.split("/")) for word in sys.argv[1:] if "/" in word}
+    named = [word for word in sys.argv[1:] if "/" not in word] or sorted({crate for crate, _ in wanted})
+    named = named or sorted(it for it in os.listdir(f"{root}/crates") if os.path.exists(f"{root}/crates/{it}/planted.txt"))
     with tempfile.TemporaryDirectory(prefix="planted-") as room:
         copy = f"{room}/r"
         shutil.copytree(root, copy, ignore=shutil.ignore_patterns("out", ".git"), symlinks=True)
-        for name in named:
-            at = f"{copy}/crates/{name}"
-            os.makedirs(f"{at}/must-fail", exist_ok=True)
-            if wanted is not None:
-                for edit in os.listdir(f"{at}/must-fail"):
-                    shutil.move(f"{at}/must-fail/{edit}", f"{at}/planted/{edit}")
-            for edit in os.listdir(f"{at}/planted"):
-                if wanted is not None and f"{name}/planted/{edit}" not in wanted:
-                    continue
-                shutil.move(f"{at}/planted/{edit}", f"{at}/must-fail/{edit}")
+        for crate in named:
+            folder = f"{copy}/crates/{crate}/must-fail"
+            os.makedirs(folder, exist_ok=True)
+            for name, _, edit in entries_of(crate):
+                if edit:
+                    with open(f"{folder}/{slug_of(name)}.edit", "w", encoding="utf-8") as it:
+                        it.write("\n".join(edit) + "\n")
+            if wanted:
+                for file in os.listdir(folder):
+                    if (crate, file[: -len(".edit")]) not in wanted:
+                        os.remove(f"{folder}/{file}")
         return subprocess.run(["rt", "must-fail", *named], cwd=copy).returncode
 
 

@@ -2,8 +2,8 @@
 """ready: what the gate would refuse or a reader would miss, found in a minute and without a proof.
 
   bench/ready.py [--count]
-        Says which files `rt fmt` would change (the gate refuses their crate whole), which edits, of must-fail/ and of planted/, name a text that doesn't stand
-        once in its file, which edits have no row in docs/lab/PLANTED.md, and where that page's counts aren't those of its rows. --count writes the counts.
+        Says which files `rt fmt` would change (the gate refuses their crate whole), which edits, of must-fail/ and of planted.txt, name a text that isn't once in its
+        file, which edits have no entry in their crate's planted.txt, and if docs/lab/PLANTED.md has other counts than there are. --count writes the counts.
         Says also where docs/HEADLINE.md isn't what bench/headline.py writes, which places the documents cite that aren't there, which files have no head
         or one that isn't true (bench/heads.py), and where release/ is there and isn't of the tree at hand (bench/release.py).
 
@@ -11,7 +11,7 @@ The repository's files stay as they are, but for the counts. It needs the kit's 
 """
 import glob, os, re, shutil, subprocess, sys, tempfile
 
-import heads, release
+import heads, planted, release
 
 root = os.path.dirname(os.path.dirname(os.path.abspath(__file__)))
 
@@ -31,39 +31,28 @@ def not_laid_out():
                 yield f"crates/{crate}/{file}: rt fmt would change it"
 
 
-def pieces_of(edit):
+def pieces_of(lines):
     """The files of an edit, each with a text that it replaces and the text in its place."""
     file, old = None, None
-    for line in text_of(edit).split("\n"):
+    for line in lines:
         word, _, rest = line.partition(": ")
         if word == "file":
             file = rest.strip()
         elif word == "old":
             old = rest
-        elif word == "new":
+        elif line.startswith("new:"):
             yield file, old, rest
 
 
 def edits_off(edits):
-    for edit in edits:
-        folder = os.path.dirname(os.path.dirname(edit))
+    for crate, name, lines in edits:
         texts = {}
-        for file, old, new in pieces_of(edit):
-            text = texts.get(file) or text_of(f"{folder}/{file}")
+        for file, old, new in pieces_of(lines):
+            text = texts.get(file) or text_of(f"{root}/crates/{crate}/{file}")
             if text.count(old) != 1:
-                yield f"{os.path.relpath(edit, root)}: its text stands {text.count(old)} times in {file}"
+                yield f"crates/{crate}: the text of {name} is {text.count(old)} times in {file}"
             # (a later pair is for what the ones before it made)
             texts[file] = text.replace(old, new)
-
-
-def rows_of(page):
-    section = None
-    for line in page.split("\n"):
-        head = re.match(r"### `(\w+)`", line)
-        section = head.group(1) if head else section
-        if section and line.startswith("| ") and not line.startswith("| Bug") and "---" not in line:
-            cells = [it.strip() for it in line.strip().strip("|").split(" | ")]
-            yield section, cells[0], cells[-1]
 
 
 def cited():
@@ -82,24 +71,22 @@ def headline_off():
 
 
 def main():
-    edits = sorted(glob.glob(f"{root}/crates/*/must-fail/*.edit"))
-    planted = sorted(glob.glob(f"{root}/crates/*/planted/*.edit"))
+    crates = sorted(os.listdir(f"{root}/crates"))
+    bugs = {crate: list(planted.entries_of(crate)) for crate in crates}
+    kept = [(edit.split("/")[-3], os.path.basename(edit)[:-5], text_of(edit).split("\n")) for edit in sorted(glob.glob(f"{root}/crates/*/must-fail/*.edit"))]
+    more = [(crate, planted.slug_of(name), edit) for crate in crates for name, _, edit in bugs[crate] if edit]
     page = text_of(f"{root}/docs/lab/PLANTED.md")
-    rows = list(rows_of(page))
-    by_tests = [it for it in rows if re.search(r"\btests?\b", it[2]) and "goal" not in it[2] and "check of" not in it[2]]
-    found = [*not_laid_out(), *edits_off(edits + planted), *cited(), *headline_off(), *heads.off(), *release.off()]
-    for edit in edits + planted:
-        crate, name = edit.split("/")[-3], os.path.basename(edit)[:-5].replace("-", " ")
-        if not any(section == crate and bug.replace("`", "").split(" (")[0].lower() == name for section, bug, _ in rows):
-            found.append(f"{os.path.relpath(edit, root)}: no row in docs/lab/PLANTED.md")
-    wanted = re.sub(r"\d+ bugs, of which \d+ are refused", f"{len(rows)} bugs, of which {len(by_tests)} are refused", page)
-    wanted = re.sub(r"^\d+ of them stand in", f"{len(edits)} of them stand in", wanted, flags=re.M)
-    wanted = re.sub(r"\d+ more stand in", f"{len(planted)} more stand in", wanted)
+    found = [*not_laid_out(), *edits_off(kept + more), *cited(), *headline_off(), *heads.off(), *release.off()]
+    for crate, name, _ in kept:
+        if not any(planted.slug_of(bug) == name for bug, _, _ in bugs[crate]):
+            found.append(f"crates/{crate}/must-fail/{name}.edit: no entry in planted.txt")
+    wanted = re.sub(r"^\d+ bugs are in", f"{len(kept)} bugs are in", page, flags=re.M)
+    wanted = re.sub(r"^\d+ more have their text", f"{len(more)} more have their text", wanted, flags=re.M)
     if wanted != page and "--count" in sys.argv:
         with open(f"{root}/docs/lab/PLANTED.md", "w", encoding="utf-8") as it:
             it.write(wanted)
     elif wanted != page:
-        found.append(f"docs/lab/PLANTED.md: {len(rows)} bugs, {len(by_tests)} by tests, {len(edits)} edits")
+        found.append(f"docs/lab/PLANTED.md: {len(kept)} edits, {len(more)} more with a text")
     print("\n".join(found) or "ready")
     return 1 if found else 0
 

@@ -45,7 +45,7 @@ pub record Begins (start statuses : List Status) : Type 0 where
   pub rest : List Status
   pub is : start ++ rest ≡ statuses
 
--- the number of an end: that of its refusal, and 0 where there is none
+-- the number of an end: that of its refusal, and 0 if there is none
 abbrev pub end_number : Option End → ℕ
 end_number None = 0
 end_number (Some ends.Full) = 18

@@ -60,12 +60,12 @@ Compares step before found after =
 pub record Fits (place : ℕ) (statuses : List Status) (by : ℕ) (pass : Knows) : Type 0 where
   -- only one pass is the writer's, and it knows all that was posted
   pub writes : pass.writes ≡ true → (by ≡ place) × (pass.seen ≡ statuses)
-  -- what was seen, and what was told, is a beginning of that
+  -- what was seen, and what was told, is a prefix of that
   pub seen : Begins pass.seen statuses
   pub told : Begins pass.told statuses
 
 -- The rule: the word is the last of a list of statuses that never goes back, and each pass has seen
--- a beginning of that list.
+-- a prefix of that list.
 pub record IsPosted (words : List ℕ) (passes : List Knows) : Type 0 where
   pub place : ℕ
   pub statuses : List Status

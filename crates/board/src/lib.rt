@@ -2,8 +2,8 @@
 //! and readers look at it. Nobody waits for anybody.
 //!
 //! A status is one number in one shared word, so a reader never sees half of one. What is proved of
-//! readers is said of lists: each reader has seen a beginning of what the writer posted, and a look
-//! makes that beginning longer or leaves it, and answers its last status. So no reader sees a
+//! readers is said of lists: each reader has seen a prefix of what the writer posted, and a look
+//! makes that prefix longer or leaves it, and answers its last status. So no reader sees a
 //! status go back. No call waits, and none takes memory but the one that makes the board.
 #![tactic(auto)]
 
@@ -90,7 +90,7 @@ impl<N: Names> Model for WriterSeat<N> {
 }
 
 /// The seat of a reader. Contracts see it as the statuses
-/// that it has seen, a beginning of what was posted.
+/// that it has seen, a prefix of what was posted.
 #[derive(Drop)]
 pub struct StatusSeat<N: Names> {
     pass: Seat<(), Knows>,
@@ -112,7 +112,7 @@ impl<N: Names> Model for StatusSeat<N> {
 
 impl Blank {
     /// A board with no reader, on which the status of an
-    /// empty log stands. `Err` where there is no memory.
+    /// empty log stands. `Err` if there is no memory.
     pub fn new(alloc: Global) -> Result<Blank, AllocError> {
         let (post, pass) = Post::of_words(alloc, &[0], &())?;
         Ok(Blank { post, pass })
@@ -197,8 +197,8 @@ impl<N: Names> Board<N> {
     }
 
     /// A status that was posted, and none older than any that this reader has had: the last of what
-    /// it has seen by then, which begins with all that it had seen before, and never goes back. That
-    /// none was posted since no clause says.
+    /// it has seen by then, which begins with all that it had seen before, and never goes back.
+    /// That none was posted since no clause says.
     pub fn read(&self, mine: &mut StatusSeat<N>) -> Status
         ensures later { MayFollow (last_of mine.old) result }
         ensures begins { Begins mine.old mine.new }
@@ -208,7 +208,7 @@ impl<N: Names> Board<N> {
         status_of(self.post.shared.load::<Look>(&mut mine.pass, 0))
     }
 
-    /// What the reader has seen is a beginning of what the writer posted.
+    /// What the reader has seen is a prefix of what the writer posted.
     pub fn agree(&self, writer: &mut WriterSeat<N>, mine: &mut StatusSeat<N>)
         ensures same { (writer.new ≡ writer.old) × (mine.new ≡ mine.old) }
         ensures begins { Begins mine.old writer.old }

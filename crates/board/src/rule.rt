@@ -13,7 +13,7 @@ pub struct Knows {
     pub told: LinkedList<Status>,
 }
 
-// The word is the last of all statuses, of which each pass has seen a beginning.
+// The word is the last of all statuses, of which each pass has seen a prefix.
 pub struct Law;
 
 impl TableRule<(), Knows, ()> for Law {

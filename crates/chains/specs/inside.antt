@@ -1,4 +1,4 @@
--- The definitions of `chains` that its proofs alone use: no other crate cites them.
+-- The definitions of `chains` that only its proofs use: no other crate cites them.
 pub mod Rings
 pub mod Changes
 pub mod Steps

@@ -137,7 +137,7 @@ fn call_in(round: usize, kind: Kind) -> Call {
 // What a call answers: the byte that is read or 0, or that it failed.
 fn told<D: BlockDev + Drop>(rt: &impl Abort, device: &mut D, now: Ms, call: Call) -> Option<u8> {
     let answer = ask(rt, device, now, call);
-    // A delay of a millisecond may stand among the layers.
+    // A delay of a millisecond may are among the layers.
     match answer.end {
         Ok(end) if end != now && end != now.later_by(Ms::new(1)) => None,
         Ok(_) if call.kind == Kind::Read => Some(answer.byte()),

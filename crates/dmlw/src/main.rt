@@ -4,7 +4,7 @@
 //! `dmlw record SCRIPT LOG` runs a script of writes, flushes and their ends, and writes the log of
 //! the whole run, byte for byte; `dmlw run SCRIPT LOG` runs one of several seats, each in a thread.
 //! `dmlw list LOG` prints a log's entries up to the first fault, `dmlw status LOG` how far the log
-//! has come. `dmlw replay LOG FIRST OUT WHAT` puts a beginning of a log on an image,
+//! has come. `dmlw replay LOG FIRST OUT WHAT` puts a prefix of a log on an image,
 //! `dmlw judge SCRIPT M IMAGE` says whether an image could have been on the device after M events,
 //! had power failed there. Here `dmlw_cli::execute` is called over the system's files and streams,
 //! of which no clause knows what they hold.

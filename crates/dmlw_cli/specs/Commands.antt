@@ -235,7 +235,7 @@ pub record TellsOneLine (ended : Ended) (old new : Option (List ℕ)) : Type 0 w
   pub told : ended.err_taken ≡ true → Appends old new line
 
 -- What is told of how a command ends so, which doesn't explain itself: of a refusal one line, and
--- nothing where it is done or ruled out. Where logging ended, a line where no log could be made,
+-- nothing if it is done or ruled out. Where logging ended, a line where no log could be made,
 -- and nothing where the log came as far as it did.
 abbrev pub TellsBy : Exit → Ended → Option (List ℕ) → Option (List ℕ) → Type 0
 TellsBy Done ended old new = new ≡ old

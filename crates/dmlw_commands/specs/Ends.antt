@@ -20,14 +20,14 @@ abbrev pub err_stream : Bool → Option (List ℕ) → Option (List ℕ) → Err
 err_stream explains before after = record { explains = explains; before = before; after = after }
 
 -- What a command has told on the error stream that ends so, with this line to tell: that line and,
--- where it explains itself, perhaps more behind it; nothing where there is no line, and it doesn't.
+-- where it explains itself, perhaps more behind it; nothing if there is no line, and it doesn't.
 pub record TellsLine (t : ErrStream) (exit : Exit) (line : List ℕ) (ended : Ended) : Type 0 where
   pub exits : ended.exit ≡ exit
   pub told : ended.err_taken ≡ true
       → (more : List ℕ) × (t.explains ≡ false → more ≡ []) × Appends t.before t.after (line ++ more)
   pub quiet : t.explains ≡ false → line ≡ [] → t.after ≡ t.before
 
--- what a command has told that did this: the one line of its fault, or none where it is done
+-- what a command has told that did this: the one line of its fault, or none if it is done
 abbrev pub Tells : {T : Type 0} → ErrStream → Result T RunError → Ended → Type 0
 Tells t done ended = TellsLine t (exit_by done) (told_line done) ended
 

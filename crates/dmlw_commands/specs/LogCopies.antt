@@ -104,7 +104,7 @@ pub record IsCopiedFrom (log_file : Option (List ℕ)) (count sectors : ℕ)
   pub log_image : IsImage log
   pub copied : IsCopied log count sectors image
 
--- the log in a file was copied, and what came of it is what another file holds, where that is known
+-- the log in a file was copied, and what came of it is what another file holds, if that is known
 pub record HoldsCopied (log_file : Option (List ℕ)) (sectors : ℕ)
     (written : Option (List ℕ)) : Type 0 where
   pub count : ℕ

@@ -62,7 +62,7 @@ PrintsRun contents name old new before after status =
     × (new ≡ one_more old name bytes)
 
 -- The script that a file's bytes spell was run, which ends so, and what that prints was printed;
--- its log is what another file holds, where that is known.
+-- its log is what another file holds, if that is known.
 pub record HoldsRun (contents : Option (List ℕ)) (exit : Exit)
     (before after written : Option (List ℕ)) : Type 0 where
   pub status : Status
@@ -72,7 +72,7 @@ pub record HoldsRun (contents : Option (List ℕ)) (exit : Exit)
   pub held : MatchesContents written bytes
 
 -- Where running a script succeeds it has printed what it came to, and asked for its log to be
--- written, and for no other file. Where it fails it has asked for no file; or for the log, which
+-- written, and for no other file. If it fails it has asked for no file; or for the log, which
 -- couldn't be written, after all that was printed.
 abbrev pub WritesRun : Option (List ℕ) → List ℕ → Option (List Write) → Option (List Write)
     → Option (List ℕ) → Option (List ℕ)
@@ -102,7 +102,7 @@ pub data FailsRunning (contents : Option (List ℕ)) (before after : Option (Lis
       → FailsRun script fault → Keeps before after → FailsRunning contents before after fault
 
 -- What running a script over a log of this name comes to, from what a writer held to what it holds:
--- where it succeeds it has printed what it came to and how far the log has come; where it fails,
+-- where it succeeds it has printed what it came to and how far the log has come; if it fails,
 -- why, and what was printed before that.
 abbrev pub Runs : Option (List ℕ) → List ℕ → Option (List Write) → Option (List Write)
     → Option (List ℕ) → Option (List ℕ) → Result Status RunError → Type 0

@@ -32,7 +32,7 @@ abbrev pub finding_text : Finding → List ℕ
 finding_text (Run run) = flat_map step_line run.items
 finding_text (RuledOut sector by) = verdict_line (verdicts.No sector by)
 
--- how a finding ends the command: done by a run, ruled out where there is none
+-- how a finding ends the command: done by a run, ruled out if there is none
 abbrev pub exit_by_finding : Finding → Exit
 exit_by_finding (Run run) = exits.Done
 exit_by_finding (RuledOut sector by) = exits.RuledOut

@@ -1,4 +1,4 @@
--- Images that are what a beginning of a script's log leaves.
+-- Images that are what a prefix of a script's log leaves.
 use Rattle.std.specs.Prelude.{ℕ, ◌/◌, ◌≤◌, List, length, take}
 use Rattle.bio.specs.Content.{AgreeBelow, Content, sector_of}
 use Rattle.bio.specs.declared.event.CoreEvent.{CoreEvent}

@@ -58,7 +58,7 @@ PrintsLog contents name old new before after status =
     × (new ≡ one_more old name bytes)
 
 -- The script that a file's bytes spell was recorded, which ends so, and what that prints was
--- printed; its log is what another file holds, where that is known.
+-- printed; its log is what another file holds, if that is known.
 pub record HoldsLog (contents : Option (List ℕ)) (exit : Exit)
     (before after written : Option (List ℕ)) : Type 0 where
   pub status : Status
@@ -68,7 +68,7 @@ pub record HoldsLog (contents : Option (List ℕ)) (exit : Exit)
   pub held : MatchesContents written bytes
 
 -- Where recording a script succeeds it has printed what happened, and asked for its log to be
--- written, and for no other file. Where it fails it has asked for no file; or for the log, which
+-- written, and for no other file. If it fails it has asked for no file; or for the log, which
 -- couldn't be written, after all that was printed.
 abbrev pub WritesLog : Option (List ℕ) → List ℕ → Option (List Write) → Option (List Write)
     → Option (List ℕ) → Option (List ℕ)
@@ -98,7 +98,7 @@ pub data FailsRecording (contents : Option (List ℕ)) (before after : Option (L
       → FailsOnDisks bytes script before after fault → FailsRecording contents before after fault
 
 -- What recording a script in a log of this name comes to, from what a writer held to what it holds:
--- where it succeeds it has printed what happened and how far the log has come; where it fails, why,
+-- where it succeeds it has printed what happened and how far the log has come; if it fails, why,
 -- and what happened before that.
 abbrev pub Records : Option (List ℕ) → List ℕ → Option (List Write) → Option (List Write)
     → Option (List ℕ) → Option (List ℕ) → Result Status RunError → Type 0

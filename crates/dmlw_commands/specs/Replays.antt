@@ -111,7 +111,7 @@ pub record IsReplayedFrom (log_file first_file : Option (List ℕ)) (upto : Upto
   pub replayed : IsReplayed log first upto count image
 
 -- the log in a file was replayed, and what came of it is
--- what another file holds, where that is known
+-- what another file holds, if that is known
 pub record HoldsReplayed (log_file first_file : Option (List ℕ)) (upto : Upto)
     (written : Option (List ℕ)) : Type 0 where
   pub count : ℕ

@@ -77,7 +77,7 @@ pub trait Files {
     ghost has_failure: { Self → Bool };
 
     /// The whole of a file of at most `limit` bytes. A longer file is refused. If a file's bytes
-    /// are known and aren't too many, only want of memory refuses it.
+    /// are known and aren't too many, only lack of memory refuses it.
     fn read(&mut self, alloc: Global, name: &str, limit: u64) -> Result<Image, FileError>
         ensures contents { IfOk result
             (λ image. MatchesContents (contents self.old name.now) image) }

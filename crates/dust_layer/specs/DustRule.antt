@@ -12,7 +12,7 @@ use Rattle.dust_layer.specs.declared.parts.Stop.TheVariants.{Below, Struck}
 use Rattle.dust_layer.specs.BadBlocks.{Bad, IsList, listed}
 use Rattle.dust_layer.specs.Walk.{ByBlock}
 
--- What a device with bad blocks holds: the device beneath,
+-- What a device with bad blocks holds: the lower device,
 -- the list, and how often a bad block failed a call.
 pub record Held (D : Type 0) : Type 0 where
   pub lower : D
@@ -22,7 +22,7 @@ pub record Held (D : Type 0) : Type 0 where
 abbrev pub held : {D : Type 0} → Dust D → Held D
 held device = record { lower = device.lower; bad = listed device.bad; faults = device.faults }
 
--- The device beneath did the call, and the list and the own faults stay.
+-- The lower device did the call, and the list and the own faults stay.
 pub record IsPassed {D : Type 0} (does : D → Call → ℕ → Result ℕ DevError → D → Type 0)
     (call : Call) (now : ℕ) (result : Result ℕ DevError)
     (old new : Held D) : Type 0 where

@@ -85,7 +85,7 @@ IsRefused size sectors orders.Clear bad error = ⊥
 IsRefused size sectors orders.Enable bad error = ⊥
 IsRefused size sectors orders.Disable bad error = ⊥
 
--- the list that an order leaves where it is done
+-- the list that an order leaves if it is done
 abbrev pub list_ordered : Order → Bad → Bad
 list_ordered (orders.Add block count) bad = with_entry block (Some count) bad
 list_ordered (orders.Remove block) bad = with_entry block None bad
@@ -102,7 +102,7 @@ mode_ordered orders.Enable enabled = true
 mode_ordered orders.Disable enabled = false
 
 -- What an order answers over blocks of so many sectors in a layer of so many, and what it leaves:
--- what it is for where it is done, and all as it was where it is refused.
+-- what it is for if it is done, and all as it was if it is refused.
 abbrev pub IsAnswered : ℕ → ℕ → Order → Result (Unit {0}) MessageError → Bad → Bool → Bad → Bool
     → Type 0
 IsAnswered size sectors order (Ok done) old was new enabled =

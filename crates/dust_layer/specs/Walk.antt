@@ -70,7 +70,7 @@ part_of block call place =
     (reach block (first_of call) (count_of call) (suc place)) call
 
 -- The parts of so many blocks, from one on, are done one after another, each Ok, and each begun at
--- the moment at which the one before ended. `does` says what the device beneath does.
+-- the moment at which the one before ended. `does` says what the lower device does.
 abbrev pub DoesParts : {D : Type 0} → (D → Call → ℕ → Result ℕ DevError → D → Type 0) → (ℕ → Call)
     → ℕ → ℕ → D → ℕ → D → ℕ → Type 0
 DoesParts does part begin zero old now new end = (new ≡ old) × (end ≡ now)

@@ -1,2 +1,2 @@
--- The definitions of `dust_layer` that its proofs alone use: no other crate cites them.
+-- The definitions of `dust_layer` that only its proofs use: no other crate cites them.
 pub mod OrderParser

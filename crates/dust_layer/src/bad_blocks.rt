@@ -58,7 +58,7 @@ impl BadBlocks {
         let _count = self.counts.remove(&block);
     }
 
-    /// Lists a block with its count. Refused where there is no memory, and the list then stays.
+    /// Lists a block with its count. Refused if there is no memory, and the list then stays.
     pub(crate) fn add(&mut self, block: u64, count: u8) -> Result<(), AllocError>
         ensures added { OnOk result
             (IsList (listed self.new) (with_entry block (Some count) (listed self.old))) }

@@ -59,7 +59,7 @@ impl<D: BlockDev + Drop> Dust<D> {
         self.mode
     }
 
-    /// The device beneath.
+    /// The lower device.
     pub fn into_lower(self) -> D
         ensures { result ≡ self.lower }
     {
@@ -168,7 +168,7 @@ impl<D: Message + Drop> Dust<D> {
     ghost use Rattle.std.specs.Prelude.{◌≡◌};
     ghost use Rattle.blockdev.specs.Messages.{Unchanged};
 
-    /// Hands a message to the device beneath, whose layers count from 1; its bad blocks stay.
+    /// Hands a message to the lower device, whose layers count from 1; its bad blocks stay.
     /// Refused as that device refuses it.
     pub fn message_below(&mut self, layer: u64, text: &str) -> Result<(), MessageError>
         ensures same { Unchanged (D.shown self.old.lower) (D.shown self.new.lower) }

@@ -1,4 +1,4 @@
-//! The part of a call that falls on some of its sectors, done on the device beneath.
+//! The part of a call that falls on some of its sectors, done on the lower device.
 //! `blocks` calls it for each block that a write, a discard or a read touches.
 ghost use Rattle.std.specs.Prelude.{◌≡◌, ◌<◌, ◌≤◌, ◌+◌, ◌-◌, ◌*◌, ◌/◌, OnOk, drop, length};
 ghost use Rattle.std.specs.Prelude.{take};
@@ -15,7 +15,7 @@ use blockdev::BlockDev;
 pub(crate) enum Stop {
     /// At a bad block.
     Struck,
-    /// At an error of the device beneath.
+    /// At an error of the lower device.
     Below(DevError),
 }
 

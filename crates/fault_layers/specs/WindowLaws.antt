@@ -10,7 +10,7 @@ use Rattle.bio.specs.Content.{sector_of, writes}
 use Rattle.bio.specs.ContentLaws.{over-shift}
 use Rattle.fault_layers.specs.Window.{SeenFrom, window}
 
--- a patch of the device beneath has the values of a patch of the range, in the same sectors
+-- a patch of the lower device has the values of a patch of the range, in the same sectors
 abbrev IsShifted : ℕ → Patch → Patch → Type 0
 IsShifted offset below patch = (sector : ℕ) → below (offset + sector) ≡ patch sector
 
@@ -90,7 +90,7 @@ lawful_window v offset length fits lawful = record {
   lies = lawful.lies;
 }
 
--- where the device beneath goes by the shifted call, the range goes by the call
+-- where the lower device goes by the shifted call, the range goes by the call
 goes_window : (offset length : ℕ) (below patch : Patch) (v w : View) → IsShifted offset below patch
     → DeviceFrame below v w
     → DeviceFrame patch (window v offset length) (window w offset length)

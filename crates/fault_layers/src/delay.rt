@@ -1,4 +1,4 @@
-//! The delay layer: each call reaches the device beneath so many milliseconds later.
+//! The delay layer: each call reaches the lower device later by a delay in milliseconds.
 //! `layer_table` makes its gate of a `delay` line.
 use crate::gate::{Gate, Kind, Verdict};
 use crate::gated::Gated;

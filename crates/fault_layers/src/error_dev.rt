@@ -1,4 +1,4 @@
-//! The error layer: every call fails, and the device beneath isn't called.
+//! The error layer: every call fails, and the lower device isn't called.
 //! `layer_table` uses its gate for an `error` line.
 ghost use Rattle.std.specs.Prelude.{◌≡◌, false};
 

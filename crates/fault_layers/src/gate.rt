@@ -1,4 +1,4 @@
-//! What decides, call by call, whether the device beneath does it, and when: `Gate`.
+//! What decides, call by call, whether the lower device does it, and when: `Gate`.
 //! The delay, error, flakey and fuse layers each have one, and `Gated` asks it.
 ghost use Rattle.std.specs.Prelude.{◌≡◌, ℕ, Bool, false};
 ghost use Rattle.fault_layers.specs.declared.gate.Kind.{Kind};
@@ -20,17 +20,17 @@ pub enum Kind {
 /// What becomes of a call.
 #[derive(Clone, Copy, Debug, PartialEq, Eq)]
 pub enum Verdict {
-    /// The device beneath does it, and its answer is the call's.
+    /// The lower device does it, and its answer is the call's.
     Pass,
-    /// The device beneath begins it so many milliseconds later, and its answer is the call's.
+    /// The lower device begins it later by a delay in milliseconds, and its answer is the call's.
     Delay(Ms),
-    /// It answers Io, and the device beneath isn't called.
+    /// It answers Io, and the lower device isn't called.
     Fail,
-    /// It answers that it ended well at once, and the device beneath isn't called: a lie.
+    /// It answers that it ended well at once, and the lower device isn't called: a lie.
     Drop,
 }
 
-/// What decides which calls reach the device beneath, and when.
+/// What decides which calls reach the lower device, and when.
 pub trait Gate {
     /// What becomes of a call of this kind at this moment.
     ghost verdict: { Self → Kind → ℕ → Verdict };

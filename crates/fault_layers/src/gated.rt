@@ -34,7 +34,7 @@ impl<D: BlockDev + Drop, G: Gate + Drop> Gated<D, G> {
         }
     }
 
-    /// The device beneath.
+    /// The lower device.
     pub fn into_lower(self) -> D
         ensures { result ≡ self.lower }
     {
@@ -135,7 +135,7 @@ impl<D: BlockDev + Drop, G: Gate + Drop> BlockDev for Gated<D, G> {
 impl<D: Message + Drop, G: Gate + Drop> Message for Gated<D, G> {
     ghost use Rattle.std.specs.Prelude.{◌≡◌};
 
-    // What the device beneath answers, and the gate and its counts stay.
+    // What the lower device answers, and the gate and its counts stay.
     ghost answers = { λ old layer text result new.
         D.answers old.lower layer text result new.lower × (new.gate ≡ old.gate)
         × (new.faults ≡ old.faults) × (new.lies ≡ old.lies) };

@@ -1,6 +1,6 @@
 //! Devices over another one, which map its sectors, make its calls later or make it fail.
 //!
-//! `Linear` is a part of the device beneath it. Every other layer only
+//! `Linear` is a part of the lower device it. Every other layer only
 //! decides: its gate (`Gate`) says for each call whether the device
 //! beneath does it, and when, and `Gated` is the one device over them all.
 #![tactic(auto)]

@@ -35,7 +35,7 @@ impl<D: BlockDev + Drop> Linear<D> {
         }
     }
 
-    /// The device beneath.
+    /// The lower device.
     pub fn into_lower(self) -> D
         ensures { result ≡ self.lower }
     {
@@ -93,7 +93,7 @@ impl<D: BlockDev + Drop> BlockDev for Linear<D> {
 impl<D: Message + Drop> Message for Linear<D> {
     ghost use Rattle.std.specs.Prelude.{◌≡◌};
 
-    // What the device beneath answers, and the range stays.
+    // What the lower device answers, and the range stays.
     ghost answers = { λ old layer text result new.
         D.answers old.lower layer text result new.lower × (new.offset ≡ old.offset)
         × (new.length ≡ old.length) };

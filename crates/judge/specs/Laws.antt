@@ -14,7 +14,7 @@ use Rattle.bio.specs.declared.event.CoreEvent.{CoreEvent}
 use Rattle.bio.specs.Possible.{covers_at, has_kept, is_durable, is_kept, is_replaced, values_at}
 use Rattle.judge.specs.Accounts.{is_held_from, is_value, last_below}
 
--- a place passes just where there is a last one
+-- a place passes exactly if there is a last one
 pub any_below-last : (test : ℕ → Bool) (n : ℕ) → any_below test n ≡ is_some (last_below test n)
 any_below-last test zero = refl
 any_below-last test (suc n) = elim (bool_cases (test n)) [
@@ -69,12 +69,12 @@ last_below-found test (suc n) p e = elim (bool_cases (test n)) [
 pub none_passes : (test : ℕ → Bool) (n : ℕ) → last_below test n ≡ None → any_below test n ≡ false
 none_passes test n none = any_below-last test n ∙ ap is_some none
 
--- some durable request covers the sector just where there is a last one
+-- some durable request covers the sector exactly if there is a last one
 pub kept_last : (events : List CoreEvent) (sector : ℕ)
     → has_kept events sector ≡ is_some (last_below (is_kept events sector) (length events))
 kept_last events sector = any_below-last (is_kept events sector) (length events)
 
--- a durable request over a sector stands among the events
+-- a durable request over a sector is among the events
 pub kept_within : (events : List CoreEvent) (sector id : ℕ) → is_kept events sector id ≡ true
     → id < length events
 kept_within events sector id kept = elim (option_cases (slice_get events id)) [
@@ -109,7 +109,7 @@ not_true : (b : Bool) → not b ≡ true → b ≡ false
 not_true true e = cc
 not_true false e = refl
 
--- a request that has a value stands among the events
+-- a request that has a value is among the events
 pub stands_within : (events : List CoreEvent) (sector id : ℕ) (value : List ℕ)
     → values_at (slice_get events id) sector ≡ Some value → id < length events
 stands_within events sector id value is = elim (option_cases (slice_get events id)) [
@@ -140,7 +140,7 @@ parts-held events now sector id value stays =
     ap (λ b. not b && is_value (values_at (slice_get events id) sector) (now sector)) stays
     ∙ is_value_found (values_at (slice_get events id) sector) (now sector) value
 
--- some request has its value held by the sector just where a last one is found
+-- some request has its value held by the sector exactly if a last one is found
 pub held_somewhere : (events : List CoreEvent) (now : Content) (sector id : ℕ)
     → values_at (slice_get events id) sector ≡ Some (now sector)
     → is_replaced events sector id ≡ false

@@ -1,3 +1,3 @@
--- The definitions of `judge` that its proofs alone use: no other crate cites them.
+-- The definitions of `judge` that only its proofs use: no other crate cites them.
 pub mod Last
 pub mod Accounts

@@ -33,7 +33,7 @@ pub struct Account {
 impl Account {
     /// The account of an image, had power failed after these events. Takes memory of 32 bytes for
     /// each sector of the image and 16 for each event, and time by the sum of the sectors that the
-    /// requests cover. Want of memory is the only error.
+    /// requests cover. Lack of memory is the only error.
     pub fn of(alloc: Global, events: &[CoreEvent], image: &[u8]) -> Result<Account, AllocError>
         ensures { IfOk result (IsAccount events.now (sector_of image.now)
             (length image.now / 512)) }

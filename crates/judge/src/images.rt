@@ -21,7 +21,7 @@ use std::cmp;
 /// request that was submitted, unless that ended before the submission of a durable one over the
 /// sector. A request is durable where it ended with success, and has FUA or ended before the
 /// submission of a flush that ended with success. Takes memory of 32 bytes for each sector and 16
-/// for each event, and time by the sum of the sectors that the requests cover. Want of memory is
+/// for each event, and time by the sum of the sectors that the requests cover. Lack of memory is
 /// the only error.
 pub fn could_hold(
     alloc: Global,

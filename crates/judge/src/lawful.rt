@@ -43,14 +43,14 @@ fn can_follow(events: &[CoreEvent], event: &CoreEvent) -> bool
     }
 }
 
-// Whether no Stop and no Close stands among the events.
+// Whether no Stop and no Close is among the events.
 fn is_recording(events: &[CoreEvent]) -> bool
     ensures { result ≡ is_recording events.now }
 {
     has_no_stop(events) && has_no_close(events)
 }
 
-// Whether no Stop stands among the events.
+// Whether no Stop is among the events.
 fn has_no_stop(events: &[CoreEvent]) -> bool
     ensures { result ≡ has_no_stop events.now }
 {
@@ -62,7 +62,7 @@ fn has_no_stop(events: &[CoreEvent]) -> bool
     true
 }
 
-// Whether no Close stands among the events.
+// Whether no Close is among the events.
 fn has_no_close(events: &[CoreEvent]) -> bool
     ensures { result ≡ has_no_close events.now }
 {
@@ -104,7 +104,7 @@ fn is_open_at(events: &[CoreEvent], id: usize) -> bool
     }
 }
 
-// Whether no end of the request stands among the events.
+// Whether no end of the request is among the events.
 fn has_no_end(events: &[CoreEvent], id: usize) -> bool
     requires { id < length events.now }
     ensures { result ≡ is_none (end_of events.now id) }

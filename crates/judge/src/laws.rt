@@ -23,7 +23,7 @@ pub fn verdicts_differ()
         → verdict ≡ other }
 {}
 
-/// A request is durable just where it ended with success, and has FUA or ended before the last
+/// A request is durable exactly if it ended with success, and has FUA or ended before the last
 /// submission of a flush that ended with success.
 pub fn the_last_flush_decides()
     ensures { (events : List CoreEvent) (flush id : ℕ) → IsLastFlush events flush
@@ -32,7 +32,7 @@ pub fn the_last_flush_decides()
         (submits has_fua (slice_get events id) || is_before events id flush)) }
 {}
 
-/// A request's value is gone from a sector just where it ended before the last submission of a
+/// A request's value is gone from a sector exactly if it ended before the last submission of a
 /// durable request over the sector.
 pub fn the_last_durable_request_decides()
     ensures { (events : List CoreEvent) (sector last id : ℕ) → IsLastKept events sector last →

@@ -121,7 +121,7 @@ fn played(alloc: Global, core: &mut Core, steps: &str) -> Result<String, AllocEr
 // Steps, and what is shown of them: a flush takes what ended before it; a FUA write is queued at
 // its end, failed or not, behind an older write of its sector, also of a discard's, and before
 // those of other sectors; a busy core isn't closed; nothing is queued after a stop; of two flushes
-// the one that ends first takes what ended before it, also where it has data; recording goes on
+// the one that ends first takes what ended before it, also if it has data; recording goes on
 // after a take; and a mark waits for nothing.
 const ROWS: &str =
     "write 10,write 20,write 30,end 2,end 1,flush,end 0,end 5,close,take=2 30+1 0;1 20+1 0;5 0+0 1;0 10+1 0;8 0+0 8;9
@@ -182,7 +182,7 @@ fn one_of_many_is_taken(rt: HostRuntime) -> Result<(), Fail> {
     check_many(&rt, rt.alloc(), &mut Core::new(rt.alloc())?)
 }
 
-// A request of the mix: flushes, and writes with flush, only where they are asked for.
+// A request of the mix: flushes, and writes with flush, only if they are asked for.
 fn mixed(alloc: Global, random: u64, flushes: bool) -> Result<Bio, AllocError> {
     match random % 4096 {
         0..64 if flushes => Ok(Bio::Flush),

@@ -1,5 +1,5 @@
 // On generated scripts: each beginning of a copied log
-// replays to what that beginning of the log replays to.
+// replays to what that prefix of the log replays to.
 use crate::crashed_logs::{SECTORS, Sizes, log_of, script_of};
 use bio::SectorSize;
 use blockdev::BlockDev;

@@ -26,7 +26,7 @@ fn layered(alloc: Global, first: &str, second: &str, calls: u64) -> Result<Strin
     )?)
 }
 
-// What is listed of a log is its first line, and a beginning of the whole list.
+// What is listed of a log is its first line, and a prefix of the whole list.
 fn is_beginning(listed: &str) -> bool {
     match listed.split_once(';') {
         Some((_super, entries)) => WHOLE.starts_with(entries),
@@ -34,7 +34,7 @@ fn is_beginning(listed: &str) -> bool {
     }
 }
 
-// Under these two layers and a fuse of so many calls what is listed is a beginning.
+// Under these two layers and a fuse of so many calls what is listed is a prefix.
 fn check_layers(
     rt: &(impl Abort + Print + Threads + Wait + Sync),
     alloc: Global,
@@ -49,7 +49,7 @@ fn check_layers(
 }
 
 // Each layer over each, and a fuse of 0 to 6 calls over both: where a log could be made, its
-// entries are a beginning of the list.
+// entries are a prefix of the list.
 #[test]
 fn layers_leave_beginnings(rt: HostRuntime) -> Result<(), Fail> {
     let alloc = rt.alloc();

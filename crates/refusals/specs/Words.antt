@@ -4,7 +4,7 @@ use Rattle.std.specs.Prelude.{◌∷◌, Option, Some, None, length, nat_lt, nat
 use Rattle.std.specs.Char.{is_ascii_digit}
 use Rattle.std.specs.List.{filter, list_all, slice_split}
 
--- what stands before the first such byte, or all where there is none
+-- what stands before the first such byte, or all if there is none
 abbrev pub before_byte : ℕ → List ℕ → List ℕ
 before_byte mark [] = []
 before_byte mark (b ∷ bytes) = if b == mark then [] else b ∷ before_byte mark bytes

@@ -85,7 +85,7 @@ left_on None disk = (shown_of disk).content
 left_on (Some picks) disk = left_by (cache_of disk) picks
 
 -- The status tells how many entries are placed, the highest sector of 512 bytes that they use (0
--- where there are none), and the cause that ended logging.
+-- if there are none), and the cause that ended logging.
 pub record IsCounted (status : Status) (recorder : DiskRecorder) : Type 0 where
   pub entries : status.entries ≡ recorder.store.placed
   pub end : status.end ≡ recorder.end
@@ -123,7 +123,7 @@ pub record IsRecorded (plan : ScriptValue) (text : List ℕ) (status : Status) (
   pub tells : lies.log_disk ≡ 0
       → status ≡ status_of (bytes_of plan.log_size)
       (entries_of (store_of last.recorder.store)) last.recorder.end
-  -- unless it lied, the bytes have a log, as seen through its layers, which is a beginning of the
+  -- unless it lied, the bytes have a log, as seen through its layers, which is a prefix of the
   -- completion list of the recorder's events with all that is settled and all that is acknowledged;
   -- each beginning of it replays to what the recorded device could hold
   pub beginning : lies.log_disk ≡ 0 →

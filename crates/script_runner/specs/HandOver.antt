@@ -17,8 +17,8 @@ FlushesFirst {D} does now call answer old new =
     ((error : DevError) × (answer ≡ Err error) × does old Flushes now answer new)
     ⊎ ((mid : D) × (end : ℕ) × does old Flushes now (Ok end) mid × does mid call now answer new)
 
--- A request is handed over at this moment, and the device gives this answer: a write with flush is
--- handed over as a flush, and then as the write where the flush succeeded.
+-- A request is passed on at this moment, and the device gives this answer: a write with flush is
+-- passed on as a flush, and then as the write where the flush succeeded.
 abbrev pub HandsOver : {D : Type 0} → Deeds D → ℕ → Bio → Result ℕ DevError → D → D → Type 0
 HandsOver does now (bios.Write first bytes true fua meta) answer old new =
     FlushesFirst does now (Writes first bytes fua) answer old new

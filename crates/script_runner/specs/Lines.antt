@@ -60,7 +60,7 @@ abbrev pub is_starved : Result ℕ DevError → Bool
 is_starved (Err errors.Memory) = true
 is_starved _ = false
 
--- logging has ended for want of memory, says a turn
+-- logging has ended for lack of memory, says a turn
 abbrev pub is_memory_end : Turn → Bool
 is_memory_end (turns.Ended ends.Memory) = true
 is_memory_end _ = false
@@ -104,7 +104,7 @@ abbrev pub HearsEnd : {L : Type 0} {l : Ghosts L} → Option ℕ → Bool → Re
 HearsEnd (Some id) ok old new = (reply : Reply) × Completes id ok reply old new
 HearsEnd None ok old new = new ≡ old
 
--- A request that was asked is handed over to the data device, and ends
+-- A request that was asked is passed on to the data device, and ends
 -- with that result, which is printed. Memory may run out in the device.
 pub record EndsAsked {D L : Type 0} {d : Ghosts D} {l : Ghosts L} (bio : Bio) (id : Option ℕ)
     (name : ScriptId) (text : List ℕ) (old new : Running D L d l) : Type 0 where
@@ -161,7 +161,7 @@ pub record GivesTurn {D L : Type 0} {d : Ghosts D} {l : Ghosts L} (text : List �
   pub short : new.short ≡ (old.short || is_memory_end turn)
 
 -- what the line of a mark prints by the recorder's reply: nothing where the mark is queued or
--- passed; and that it failed where there is no memory for it, which is the only refusal
+-- passed; and that it failed if there is no memory for it, which is the only refusal
 abbrev pub PrintsMark : Reply → List ℕ → Type 0
 PrintsMark (replies.Queued id) printed = printed ≡ []
 PrintsMark replies.Passed printed = printed ≡ []
@@ -181,7 +181,7 @@ pub record SetsMoment {D L : Type 0} {d : Ghosts D} {l : Ghosts L} (moment : ℕ
   pub short : new.short ≡ old.short
 
 -- A line tells the recorder of a mark; the data device isn't called.
--- A mark is refused for want of memory alone.
+-- A mark is refused for lack of memory alone.
 pub record TellsMark {D L : Type 0} {d : Ghosts D} {l : Ghosts L} (mark text : List ℕ)
     (old new : Running D L d l) : Type 0 where
   pub device : new.disk ≡ old.disk

@@ -13,7 +13,7 @@ use Rattle.script_runner.specs.Runs.{RunsLines}
 use Rattle.script_runner.specs.Submissions.{is_asked}
 use Rattle.recorder.specs.Fields.{core_of}
 
--- the event says that logging ended for want of memory
+-- the event says that logging ended for lack of memory
 abbrev pub is_memory_stop : CoreEvent → Bool
 is_memory_stop (core_events.Stop ends.Memory) = true
 is_memory_stop _ = false

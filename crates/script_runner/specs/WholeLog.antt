@@ -6,7 +6,7 @@ use Rattle.recorder.specs.declared.recorder.Recorder.{Recorder}
 use Rattle.recorder.specs.RecorderView.{log_of}
 use Rattle.recorder.specs.Fields.{core_of}
 
--- where recording is closed and logging goes on, all of the completion list is placed
+-- if recording is closed and logging goes on, all of the completion list is placed
 abbrev pub IsWritten : {L : Type 0} {l : Ghosts L} → Recorder L l → Type 0
 IsWritten recorder =
     has_no_close (core_of recorder).events ≡ false → recorder.end ≡ None

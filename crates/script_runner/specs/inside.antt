@@ -1,4 +1,4 @@
--- The definitions of `script_runner` that its proofs alone use: no other crate cites them.
+-- The definitions of `script_runner` that only its proofs use: no other crate cites them.
 pub mod Play
 pub mod Replies
 pub mod Steps

@@ -64,7 +64,7 @@ fn write<D: BlockDev>(
     device.write(now, first, bytes, fua)
 }
 
-// Reads so many sectors from a device; none where there is no memory for them or the read fails.
+// Reads so many sectors from a device; none if there is no memory for them or the read fails.
 pub(crate) fn read_sectors<D: BlockDev>(
     device: &mut D,
     alloc: Global,

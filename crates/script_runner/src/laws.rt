@@ -31,7 +31,7 @@ use blockdev::Message;
 use layer_table::Stack;
 
 /// After any list of submissions, completions, marks and writer's turns, whatever calls the layers
-/// fail, and a crash at any moment, inside a log write too, the reopened log is a beginning of the
+/// fail, and a crash at any moment, inside a log write too, the reopened log is a prefix of the
 /// completion list and holds every mark and FUA write acknowledged as logged; replaying any
 /// beginning of it gives a content that the recorded device could hold had power failed there.
 ///
@@ -114,8 +114,8 @@ pub fn marks_stand_in_the_events<D: Message + Drop, L: Message + Drop>()
     lines_go_as_one_call::<D, L>();
 }
 
-/// Where the log's device told no lie: whatever a crash at any moment of a script's run may have
-/// left has a log, and that is a beginning of the completion list of the recorder's events, with
+/// Where the log's device didn't lie: whatever a crash at any moment of a script's run may have
+/// left has a log, and that is a prefix of the completion list of the recorder's events, with
 /// all that was settled when the run began.
 pub fn crashes_of_a_run_leave_beginnings<D: Message + Drop, L: Message + Drop>()
     ensures { (names : List ScriptId) (body : List Command) (text : List ℕ)
@@ -135,7 +135,7 @@ pub fn crashes_of_a_run_leave_beginnings<D: Message + Drop, L: Message + Drop>()
 
 /// Where a script's run ends with recording closed and logging going on, also with lines after the
 /// Close, all of the completion list of the recorder's events is placed; and where the log's device
-/// told no lie, the log of its content is whole, and so is that of whatever a crash leaves.
+/// didn't lie, the log of its content is whole, and so is that of whatever a crash leaves.
 pub fn closed_runs_leave_whole_logs<D: Message + Drop, L: Message + Drop>()
     ensures placed { (names : List ScriptId) (body : List Command) (text : List ℕ)
         (old new : Running D L D.BlockDev L.BlockDev) →

@@ -18,7 +18,7 @@ use std::io::Write;
 // A sector's size in bytes.
 const SECTOR: usize = SECTOR_BYTES as usize;
 
-// Says what a submission came to, where there was no memory for the request.
+// Says what a submission came to, if there was no memory for the request.
 pub(crate) fn print_submission<O: Write>(
     name: &ScriptId,
     request: &Request,

@@ -92,14 +92,14 @@ fn kept_if<T: Drop>(ample: bool, made: T) -> Result<T, RunError>
     Ok(made)
 }
 
-// Whether logging ended for want of memory among these events.
+// Whether logging ended for lack of memory among these events.
 fn has_memory_stop(events: &[CoreEvent]) -> bool
     ensures { result ≡ list_any is_memory_stop events.now }
 {
     events.iter().any(|event| is_memory_stop(event))
 }
 
-// Whether an event says that logging ended for want of memory.
+// Whether an event says that logging ended for lack of memory.
 fn is_memory_stop(event: &CoreEvent) -> bool
     ensures { result ≡ is_memory_stop event.now }
 {

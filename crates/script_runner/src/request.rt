@@ -48,7 +48,7 @@ pub fn bio_of(data: &mut WriteData, submission: Submission) -> Result<Bio, Alloc
     }
 }
 
-// Whether each of these requests was asked: none of them failed for want of memory.
+// Whether each of these requests was asked: none of them failed for lack of memory.
 pub(crate) fn are_asked(requests: &[Request]) -> bool
     ensures { result ≡ list_all is_asked requests.now }
 {

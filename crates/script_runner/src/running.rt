@@ -194,7 +194,7 @@ impl<D: Message + Drop, L: Message + Drop> Running<D, L> {
         self.short |= is_memory_end(&turn);
     }
 
-    // Tells the recorder of a mark, and says so where there is no memory for it.
+    // Tells the recorder of a mark, and says so if there is no memory for it.
     fn mark<O: Write>(&mut self, text: &Bytes, out: &mut O) -> Result<(), StepError>
         requires { is_line_text text.now ≡ true }
         ensures keeps { StepKeeps self.old self.new }

@@ -13,7 +13,7 @@ pub(crate) fn is_starved(answer: &Result<Ms, DevError>) -> bool
     matches!(answer, Err(DevError::Memory))
 }
 
-// Whether a turn says that logging has ended for want of memory.
+// Whether a turn says that logging has ended for lack of memory.
 pub(crate) fn is_memory_end(turn: &Turn) -> bool
     ensures { result ≡ is_memory_end turn.now }
 {

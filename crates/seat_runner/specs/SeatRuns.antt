@@ -84,7 +84,7 @@ pub record HasRun (lines : List SeatCall) (tallies : List Tally) (given : List (
   pub ran : IsSeatRun lines number seat tally receipts
 
 -- A recorder of a device of so many sectors, whose log lies on this ground and has sectors of so
--- many bytes, was closed with these seats and receipts, and this is what it handed back.
+-- many bytes, was closed with these seats and receipts, and this is what it returned.
 pub record IsClosed (ground : Ground) (bytes sectors : ℕ) (seats : List Part)
     (receipts : List Receipt) (closed : Closed Stack Stack) : Type 0 where
   -- what the seats noted is one legal history, to which all

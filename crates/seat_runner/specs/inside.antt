@@ -1,2 +1,2 @@
--- The definitions of `seat_runner` that its proofs alone use: no other crate cites them.
+-- The definitions of `seat_runner` that only its proofs use: no other crate cites them.
 pub mod SeatWork

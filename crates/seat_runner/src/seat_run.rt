@@ -45,7 +45,7 @@ pub struct Ran {
 
 /// Runs a script on two disks in memory of the sizes that it names, each under its layers: each
 /// seat makes the calls of its lines in a thread of its own, then the recorder is closed. The log
-/// is handed over also where logging ended before the script did. Where no log can be made, the run
+/// is passed on also if logging ended before the script did. Where no log can be made, the run
 /// ends by the cause of that. No fault names a line.
 pub fn run_seats<H: Threads + Wait + Sync>(
     rt: &H,
@@ -133,7 +133,7 @@ fn start<R: Run + Names>(
     }
 }
 
-// Why both devices, which go, were handed back.
+// Why both devices, which go, were returned.
 fn end_of(refused: (Stack, Stack, End)) -> End
     ensures { result ≡ refused.2 }
 {

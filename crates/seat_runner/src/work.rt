@@ -92,7 +92,7 @@ impl<R: Run + Names> Work<R> {
         self.tally.count(outcome);
     }
 
-    // Makes a call. The room for its receipt is got first: where there is no memory for that the
+    // Makes a call. The room for its receipt is got first: if there is no memory for that the
     // call fails, or the mark is refused, and the recorder isn't asked.
     fn make<D: BlockDev + Drop, L: BlockDev + Drop, H: Wait>(
         &mut self,
@@ -109,7 +109,7 @@ impl<R: Run + Names> Work<R> {
         }
     }
 
-    // Submits a request. Where there is no memory for its
+    // Submits a request. If there is no memory for its
     // data it fails, and the recorder isn't asked.
     #[tactic(auto, using(crate::proofs::Seats::makes_request, crate::proofs::Seats::fails))]
     fn submit<D: BlockDev + Drop, L: BlockDev + Drop, H: Wait>(

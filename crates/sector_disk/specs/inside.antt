@@ -1,4 +1,4 @@
--- The definitions of `sector_disk` that its proofs alone use: no other crate cites them.
+-- The definitions of `sector_disk` that only its proofs use: no other crate cites them.
 pub mod Storage
 pub mod Choice
 pub mod CallTable

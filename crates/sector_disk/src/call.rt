@@ -106,7 +106,7 @@ fn read_place(calls: &[Call], place: usize, sector: u64, buffer: &mut [u8])
     }
 }
 
-// The place of a sector: the first call's where there is no table yet.
+// The place of a sector: the first call's if there is no table yet.
 fn place_of(places: &[usize], sector: usize) -> usize
     ensures { result ≡ place_of places.now sector }
 {
@@ -184,7 +184,7 @@ fn put_in(later: &[Call], places: &[usize], sectors: usize, image: &mut Vec<u8>)
 }
 
 /// The bytes of all sectors, each as the call at its place left it, in the bytes of the first call,
-/// which is a write of all of them. Want of memory is an error.
+/// which is a write of all of them. Lack of memory is an error.
 pub fn take_image(
     alloc: Global,
     calls: &mut [Call],
@@ -206,7 +206,7 @@ pub fn take_image(
     Ok(Vec::new(alloc))
 }
 
-/// The places of a range of sectors. Want of memory is an error.
+/// The places of a range of sectors. Lack of memory is an error.
 pub fn copy_places(
     alloc: Global,
     places: &[usize],
@@ -228,7 +228,7 @@ fn fill_places(places: &mut Vec<usize>, first: usize, count: usize, place: usize
 }
 
 /// Adds a call, which is then the newest of its sectors.
-/// Where there is no memory, nothing is changed.
+/// If there is no memory, nothing is changed.
 pub fn add_call(
     calls: &mut Vec<Call>,
     newest: &mut Vec<usize>,

@@ -92,8 +92,8 @@ impl FilledBytes {
         }
     }
 
-    /// The bytes of a slice. Takes memory for those up to the last that differs from the byte at the
-    /// end.
+    /// The bytes of a slice. Takes memory for those up to the last that differs from the byte at
+    /// the end.
     ///
     /// # Errors
     ///
@@ -105,7 +105,8 @@ impl FilledBytes {
         FilledBytes::from_filled(alloc, bytes, count_before(bytes, fill), fill)
     }
 
-    /// The bytes of a slice, of which those from `end` on are all `fill`. Takes memory for the others.
+    /// The bytes of a slice, of which those from `end` on are all `fill`. Takes memory for the
+    /// others.
     ///
     /// # Errors
     ///
@@ -147,7 +148,7 @@ impl FilledBytes {
         rest.fill(self.fill);
     }
 
-    /// Appends the bytes to a vector. If there is no memory, a beginning of them may be appended.
+    /// Appends the bytes to a vector. If there is no memory, a prefix of them may be appended.
     ///
     /// # Errors
     ///

@@ -5,8 +5,8 @@ use Rattle.lock_state.specs.History.{first_cause}
 use Rattle.lock_state.specs.PlacedItems.{IsNoneFrom, IsSettledAt, Log}
 use Rattle.lock_state.specs.Comparison.{Receipt}
 
--- An item of this id that is settled at this number or a later one; where there is none the store's
--- end, or else the cause by which those who wait were let go; and nothing where logging goes on.
+-- An item of this id that is settled at this number or a later one; if there is none the store's
+-- end, or else the cause by which those who wait were let go; and nothing if logging goes on.
 abbrev pub Finds : Log → ℕ → ℕ → Option (Result Receipt End) → Type 0
 Finds log id from (Some (Ok receipt)) =
     (receipt.id ≡ id) × ((from ≤ receipt.number) × IsSettledAt log id receipt.number)

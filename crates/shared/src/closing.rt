@@ -78,7 +78,7 @@ pub struct Ending<D: Drop, L: Drop, R: Run + Names> {
     pub found: Option<End>,
 }
 
-/// What is handed back where recording wasn't closed: all that was handed in.
+/// What is returned if recording wasn't closed: all that was passed in.
 #[derive(Drop)]
 pub struct Open<D: BlockDev + Drop, L: BlockDev + Drop, R: Run + Names> {
     pub recorder: Shared<D, L, R>,
@@ -87,8 +87,8 @@ pub struct Open<D: BlockDev + Drop, L: BlockDev + Drop, R: Run + Names> {
     pub receipts: Vec<Receipt<R>>,
 }
 
-/// What is handed back where what was handed in isn't the recorder's own: the recorder, taken
-/// apart, with nothing more written, what was posted of its log, and all that was handed in.
+/// What is returned where what was passed in isn't the recorder's own: the recorder, taken
+/// apart, with nothing more written, what was posted of its log, and all that was passed in.
 #[derive(Drop)]
 pub struct Strangers<D: Drop, L: Drop, R: Run + Names> {
     pub closed: Closed<D, L>,
@@ -100,7 +100,7 @@ pub struct Strangers<D: Drop, L: Drop, R: Run + Names> {
     pub receipts: Vec<Receipt<R>>,
 }
 
-/// Why a recorder wasn't closed, with what is handed back.
+/// Why a recorder wasn't closed, with what is returned.
 #[derive(Drop)]
 pub enum Unclosed<B, F> {
     /// `ask_close` hasn't succeeded.
@@ -112,7 +112,7 @@ pub enum Unclosed<B, F> {
 
 impl<D: BlockDev + Drop, L: BlockDev + Drop, R: Run + Names> Shared<D, L, R> {
     /// Closes the recorder, once `ask_close` has succeeded and all threads have left it. Compares
-    /// all that is handed in, and the placed items and the device's calls, with the history; then
+    /// all that is passed in, and the placed items and the device's calls, with the history; then
     /// writes what the writer left.
     pub fn close(
         self,
@@ -293,7 +293,7 @@ impl<D: BlockDev + Drop, L: BlockDev + Drop, R: Run + Names> Shared<D, L, R> {
         }))
     }
 
-    // What the locks guard, where recording was closed; else the recorder again.
+    // What the locks guard, if recording was closed; else the recorder again.
     fn leave_locks(self) -> Result<Held<D, L, R>, Shared<D, L, R>>
         ensures posted { IfOk result (λ held. ArePosted R.sector_bytes held.log.placed held.posts) }
         ensures latest { IfOk result (λ held. IsLatest R.sector_bytes held.log held.posts) }

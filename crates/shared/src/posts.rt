@@ -40,7 +40,7 @@ impl<R: Names> Posts<R> {
         self.writer.last()
     }
 
-    /// What a status seat has seen is a beginning of what was posted. So where each posted status
+    /// What a status seat has seen is a prefix of what was posted. So where each posted status
     /// is that of a prefix of some items, and none goes back, that is so of each that was seen.
     pub fn agree(&mut self, mine: &mut StatusSeat<R>)
         ensures begins { Begins mine.old self.old }

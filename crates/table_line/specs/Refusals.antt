@@ -74,7 +74,7 @@ abbrev pub has_feature : Option Name → List (List ℕ) → Bool
 has_feature (Some Flakey) words = is_feature (drop 7 words)
 has_feature name words = true
 
--- the delay of the set of words from this place on, or, where there is none, that of the set before
+-- the delay of the set of words from this place on, or, if there is none, that of the set before
 abbrev pub delay_at : List (List ℕ) → ℕ → ℕ → ℕ
 delay_at words place before =
     if is_none (slice_get words place) then before else number_value (word_in words (place + 2))

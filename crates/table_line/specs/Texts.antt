@@ -8,7 +8,7 @@ use Rattle.table_line.specs.declared.layer_spec.LayerSpec.{LayerSpec}
 use Rattle.table_line.specs.declared.layer_spec.Target.{Target}
 use Rattle.table_line.specs.declared.layer_spec.Target.TheVariants as targets
 
--- the words of a feature, with no count where there is none
+-- the words of a feature, with no count if there is none
 abbrev pub feature_words : Feature → List (List ℕ)
 feature_words features.None = []
 feature_words features.ErrorReads = codes "1" ∷ codes "error_reads" ∷ []

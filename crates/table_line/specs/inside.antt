@@ -1,4 +1,4 @@
--- The definitions of `table_line` that its proofs alone use: no other crate cites them.
+-- The definitions of `table_line` that only its proofs use: no other crate cites them.
 pub mod LineParser
 pub mod ParserSteps
 pub mod DelayLaws

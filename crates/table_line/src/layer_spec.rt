@@ -23,7 +23,7 @@ const MAX_BLOCK_BYTES: u64 = 1_073_741_824;
 pub struct LayerSpec {
     /// Its number of sectors, of 512 bytes each, 1 to 1,048,576.
     pub length: u64,
-    /// The sector of the device beneath that its first sector is; 0 for a target that maps none.
+    /// The sector of the lower device that its first sector is; 0 for a target that maps none.
     pub offset: u64,
     /// What it does.
     pub target: Target,

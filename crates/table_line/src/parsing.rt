@@ -78,7 +78,7 @@ fn spec_in(line: &[u8], name: Name) -> Result<LayerSpec, TableError>
     })
 }
 
-// The sector of the device beneath.
+// The sector of the lower device.
 fn offset_in(line: &[u8], name: Name) -> Result<u64, TableError>
     ensures { result ≡ offset_in name (words_of line.now) }
 {

@@ -11,8 +11,8 @@ use std::alloc::AllocError;
 
 /// Puts the one spelling of a layer behind a text, as `0 16 flakey disk 0 10 5 1 drop_writes`: no
 /// leading zeroes, one space between two words, `disk` for the device's word, and no count of
-/// features where there is none. `parse_line` reads it as that layer, where its values are in their
-/// ranges. Want of memory is an error.
+/// features if there is none. `parse_line` reads it as that layer, where its values are in their
+/// ranges. Lack of memory is an error.
 pub fn push_line(out: &mut Vec<u8>, spec: &LayerSpec) -> Result<(), AllocError>
     ensures { OnOk result (out.new.items ≡ out.old.items ++ line_text spec.now) }
 {

@@ -64,7 +64,7 @@ fn write_of(alloc: Global, first: u64, byte: u8) -> Result<Bio, AllocError> {
     })
 }
 
-// A recorder that wasn't asked to close is handed back with its seat. Once it was asked, the close
+// A recorder that wasn't asked to close is returned with its seat. Once it was asked, the close
 // itself writes all, with no writer's thread.
 fn unasked<R: Run + Names, H: Wait>(
     rt: &H,
@@ -115,7 +115,7 @@ fn unasked<R: Run + Names, H: Wait>(
 
 // A recorder whose seat writes, flushes and reads; once recording is closed the writer writes all,
 // and the close finds nothing left to write. Who looks sees the status of an empty log before, and
-// that of the whole log behind it; and what it saw is a beginning of what was posted.
+// that of the whole log behind it; and what it saw is a prefix of what was posted.
 fn recorded<R: Run + Names, H: Wait>(
     rt: &H,
     alloc: Global,

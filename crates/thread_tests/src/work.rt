@@ -20,7 +20,7 @@ pub enum Call {
     Mark { byte: u8 },
     /// Asks to close: done, or refused as busy.
     AskClose,
-    /// Ends logging for want of memory: done.
+    /// Ends logging for lack of memory: done.
     GiveUp,
 }
 
@@ -121,7 +121,7 @@ impl<R: Run + Names> Player<R> {
         }
     }
 
-    // Makes a call, and counts its answer. Want of memory
+    // Makes a call, and counts its answer. Lack of memory
     // of the test's own counts as a failed call.
     fn make<D: BlockDev + Drop, L: BlockDev + Drop, H: Wait>(
         &mut self,

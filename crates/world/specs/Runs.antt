@@ -30,7 +30,7 @@ abbrev pub calls_below : List CoreEvent → ℕ → List Step
 calls_below events zero = []
 calls_below events (suc place) = call_of place (slice_get events place) ++ calls_below events place
 
--- the values of the request of this place, where one was found
+-- the values of the request of this place, if one was found
 abbrev pub values_of_id : List CoreEvent → Option ℕ → Patch
 values_of_id events None = nothing
 values_of_id events (Some id) = values_at (slice_get events id)

@@ -1,3 +1,3 @@
--- The definitions of `world` that its proofs alone use: no other crate cites them.
+-- The definitions of `world` that only its proofs use: no other crate cites them.
 pub mod Plan
 pub mod StepTests

@@ -232,7 +232,7 @@ fn is_settled(cells: &[Cell], events: &[CoreEvent], event: &CoreEvent, id: u64) 
     }
 }
 
-// The same of the request of this place; it is so where there is none.
+// The same of the request of this place; it is so if there is none.
 fn is_settled_at(cells: &[Cell], events: &[CoreEvent], id: u64) -> bool
     requires { AllEnd events.now }
     ensures { result ≡ is_settled cells.now id (slice_get events.now id) }
@@ -267,7 +267,7 @@ fn ends_settled(cells: &[Cell], events: &[CoreEvent], calls: &[Step]) -> bool
     true
 }
 
-// The calls before the last submission of the request; none where there is no submission.
+// The calls before the last submission of the request; none if there is no submission.
 fn before_submit(calls: &[Step], id: u64) -> &[Step]
     ensures { reverse result.now ≡ before_submit id (reverse calls.now) }
 {
@@ -297,7 +297,7 @@ fn succeeds(
         && (!event.submits_flush() || ends_settled(cells, events, before_submit(calls, id)))
 }
 
-// The same of the request of this place; it may where there is none.
+// The same of the request of this place; it may if there is none.
 fn may_succeed(cells: &[Cell], calls: &[Step], events: &[CoreEvent], id: u64) -> bool
     requires { AllEnd events.now }
     ensures { result ≡ succeeds events.now cells.now (reverse calls.now) id

@@ -58,7 +58,7 @@ fn empty_cells(alloc: Global, sectors: usize) -> Result<Vec<Cell>, AllocError>
 
 impl World {
     /// A device before its first step, with these bytes, whole sectors of 512. Takes memory of the
-    /// bytes and of 40 for each sector. Want of memory is the only error.
+    /// bytes and of 40 for each sector. Lack of memory is the only error.
     pub fn new(alloc: Global, first: &[u8]) -> Result<World, AllocError>
         requires { length first.now % 512 ≡ 0 }
         ensures { IfOk result (IsFresh first.now) }
@@ -73,7 +73,7 @@ impl World {
     }
 
     /// Takes a step. `events` is a list that a recorder of the device may have recorded
-    /// (`is_lawful`), the same for all steps. `BadStep` comes just where the device has no such
+    /// (`is_lawful`), the same for all steps. `BadStep` comes exactly if the device has no such
     /// step then; after an error nothing has changed. Takes memory of 24 bytes for a submission or
     /// an end and of 8 for a landing, and time by the calls so far; an end with success takes time
     /// by the sectors of the requests that it asks for, and by what landed there.

@@ -10,7 +10,7 @@ ghost use Rattle.world.specs.Cells.{AllSteps, IsFresh, IsRun, WorldState};
 ghost use Rattle.world.specs.Runs.{IsReachable};
 
 /// The device could hold a content after the first `moment` of the
-/// events just where some run of the machine fits them and leaves it.
+/// events exactly if some run of the machine fits them and leaves it.
 /// That a run leaves only such contents holds for any list of events.
 pub fn possible_is_exact()
     ensures reachable { (events : List CoreEvent) (moment : ℕ) (first now : Content)

@@ -25,13 +25,13 @@ use judge::{Account, First, Verdict, beginning};
 use std::alloc::{AllocError, Global};
 
 /// A run of the machine that fits the first `moment` of the events and leaves the image, where
-/// `first` was on the device before the first event; none where there is no such run. `events` is a
+/// `first` was on the device before the first event; none if there is no such run. `events` is a
 /// list that a recorder of the device may have recorded (`is_lawful`), a later moment than its last
 /// counts as all of them; the image has the device's length in bytes, whole sectors of 512.
 ///
 /// Takes memory of 32 bytes for each sector, 16 for each event and what
 /// the run's steps take, two for each sector that a request covers at
-/// most; and time by the sum of these. Want of memory is the only error.
+/// most; and time by the sum of these. Lack of memory is the only error.
 pub fn reach(
     alloc: Global,
     events: &[CoreEvent],
@@ -54,7 +54,7 @@ pub fn reach(
     }
 }
 
-/// The same run; or, where there is none, the verdict that
+/// The same run; or, if there is none, the verdict that
 /// `could_hold` gives, of one account of the image.
 pub fn find(
     alloc: Global,

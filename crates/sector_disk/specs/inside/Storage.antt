@@ -64,7 +64,7 @@ steps_of calls begun (suc n) = step_after (slice_get calls (begun + n)) (steps_o
 abbrev pub past_of : List Call → ℕ → Bool → List Step
 past_of calls begun flushed = flushed_if flushed (steps_of calls begun (length calls - begun))
 
--- a sector's place; the first call's where there is no table yet
+-- a sector's place; the first call's if there is no table yet
 abbrev pub place_of : List ℕ → ℕ → ℕ
 place_of places sector = unwrap_or (slice_get places sector) 0
 

@@ -29,7 +29,7 @@ impl SectorDisk {
         Ok(())
     }
 
-    // Does a write or a discard, and keeps it. Where there is no memory, nothing is changed.
+    // Does a write or a discard, and keeps it. If there is no memory, nothing is changed.
     fn put(&mut self, first: u64, change: Change, fua: bool) -> Result<(), AllocError>
         requires { first + count_of change ≤ self.old.sectors }
         ensures ok { OnOk result

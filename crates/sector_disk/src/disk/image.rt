@@ -73,7 +73,7 @@ fn give_all(
 }
 
 impl SectorDisk {
-    /// A disk of so many sectors of zeroes, 1 to 1,048,576. Want of memory is an error.
+    /// A disk of so many sectors of zeroes, 1 to 1,048,576. Lack of memory is an error.
     pub fn new(alloc: Global, sectors: u64) -> Result<SectorDisk, AllocError>
         requires { IsDiskSize sectors }
         ensures { IfOk result (λ disk. Begins sectors (λ _. replicate 512 0) (shown_of disk)) }
@@ -82,7 +82,7 @@ impl SectorDisk {
     }
 
     /// The disk that an image is: its bytes are whole sectors, 1 to 1,048,576. They are taken as
-    /// they are, with no copy. Want of memory is an error.
+    /// they are, with no copy. Lack of memory is an error.
     pub fn from_bytes(alloc: Global, bytes: Vec<u8>) -> Result<SectorDisk, AllocError>
         requires { IsImageSize (length bytes.items) }
         ensures { IfOk result (λ disk.
@@ -91,8 +91,8 @@ impl SectorDisk {
         make(alloc, Change::Write(FilledBytes::from_vec(bytes)))
     }
 
-    /// A disk of the sectors of an image: 1 to 1,048,576 whole sectors. The image isn't copied. Want
-    /// of memory is an error.
+    /// A disk of the sectors of an image: 1 to 1,048,576 whole sectors. The image isn't copied.
+    /// Want of memory is an error.
     pub fn from_image(alloc: Global, image: Image) -> Result<SectorDisk, AllocError>
         requires { IsImageSize (length image) }
         ensures { IfOk result (λ disk.
@@ -101,7 +101,7 @@ impl SectorDisk {
         make(alloc, Change::Image(image))
     }
 
-    /// The image of the disk: the bytes of all its sectors. Want of memory is an error.
+    /// The image of the disk: the bytes of all its sectors. Lack of memory is an error.
     pub fn bytes(&self) -> Result<Vec<u8>, AllocError>
         ensures content { IfOk result (λ image.
             image.items ≡ gather (shown_of self.now).content 0 (shown_of self.now).size) }

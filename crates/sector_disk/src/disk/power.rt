@@ -29,7 +29,7 @@ fn widen(places: &mut Vec<usize>, count: usize)
 impl SectorDisk {
     /// Loses power. The n-th unsynced sector, in rising order, has k candidates: its durable value,
     /// and then the values that were written to it since, in order. It keeps candidate `picks[n]`
-    /// modulo k, and the durable value where there is no such pick. The past begins anew then: all
+    /// modulo k, and the durable value if there is no such pick. The past begins anew then: all
     /// that is left is durable.
     ///
     /// Takes no memory, and gives none back: the calls before stay stored.

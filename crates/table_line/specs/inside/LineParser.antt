@@ -40,7 +40,7 @@ name_in words = named_by (slice_get words 2)
 abbrev pub number_in : List (List ℕ) → ℕ → Result ℕ TableError
 number_in words place = or_error errors.BadNumber (number_of (word_in words place))
 
--- the sector of the device beneath
+-- the sector of the lower device
 abbrev pub offset_in : Name → List (List ℕ) → Result ℕ TableError
 offset_in names.Linear words = number_in words 4
 offset_in names.Error words = Ok 0
@@ -69,7 +69,7 @@ feature_by (Some count) (Some name) =
 abbrev pub feature_in : List (List ℕ) → Result Feature TableError
 feature_in words = feature_by (slice_get words 7) (slice_get words 8)
 
--- the delay of the set of words from this place on, or, where there is none, that of the set before
+-- the delay of the set of words from this place on, or, if there is none, that of the set before
 abbrev pub later_delay : List (List ℕ) → ℕ → ℕ → Result ℕ TableError
 later_delay words place before =
     if is_none (slice_get words place) then Ok before else

@@ -159,7 +159,7 @@ fn image_of(alloc: Global, fields: &str) -> Result<Vec<u8>, AllocError> {
     Ok(image)
 }
 
-// The number at a place; 0 where there is none.
+// The number at a place; 0 if there is none.
 fn number_at(numbers: &[u64], place: usize) -> u64 {
     numbers.get(place).copied().unwrap_or_default()
 }

@@ -1,4 +1,4 @@
--- What a list of events and an image come to, sector by sector.
+-- The account of a list of events and an image, sector by sector.
 use Rattle.std.specs.Prelude.{◌≡◌, ℕ, zero, suc, ◌<◌, Bool, false, not, ◌&&◌, Option, Some, None}
 use Rattle.std.specs.Prelude.{List, length, get_or, slice_get, if◌then◌else◌}
 use Rattle.std.specs.Str.{bytes_eq}
@@ -28,8 +28,9 @@ is_held_from events now sector id =
     not (is_replaced events sector id)
     && is_value (values_at (slice_get events id) sector) (now sector)
 
--- the account of a content of so many sectors after these events: where each request ended, and for
--- each sector the last durable request over it and the last one whose value it has and could hold
+-- the account of a content of this many sectors after these events: where each request ended, and
+-- for each sector the last durable request over it and the last one whose value it has and could
+-- hold
 pub record IsAccount (events : List CoreEvent) (now : Content) (sectors : ℕ)
     (account : Account) : Type 0 where
   pub last_size : length account.last.items ≡ sectors

@@ -4,7 +4,7 @@ use Rattle.bio.specs.Content.{Content, sector_of}
 use Rattle.judge.specs.declared.first.First.{First}
 use Rattle.judge.specs.declared.first.First.TheVariants.{Zeroes, Image}
 
--- the bytes of it, on a device of so many bytes
+-- the bytes of it, on a device of this many bytes
 abbrev pub first_bytes : First → ℕ → List ℕ
 first_bytes Zeroes count = replicate count 0
 first_bytes (Image bytes) count = bytes.now
@@ -13,6 +13,6 @@ first_bytes (Image bytes) count = bytes.now
 abbrev pub first_on : First → ℕ → Content
 first_on first count = sector_of (first_bytes first count)
 
--- it is that of a device of so many bytes
+-- it is that of a device of this many bytes
 abbrev pub IsFirstOf : ℕ → First → Type 0
 IsFirstOf count first = length (first_bytes first count) ≡ count

@@ -65,7 +65,7 @@ last_below-found test (suc n) p e = elim (bool_cases (test n)) [
       }
 ]
 
--- where no last place is found, none passes
+-- if no last place is found, none passes
 pub none_passes : (test : ℕ → Bool) (n : ℕ) → last_below test n ≡ None → any_below test n ≡ false
 none_passes test n none = any_below-last test n ∙ ap is_some none
 
@@ -118,7 +118,7 @@ stands_within events sector id value is = elim (option_cases (slice_get events i
   | inr some ↦ slice_get-within events id some.0 some.1
 ]
 
--- where a sector has a request's value, and could hold it,
+-- if a sector has a request's value, and could hold it,
 -- that is its value, and the request isn't replaced
 pub held-parts : (events : List CoreEvent) (now : Content) (sector id : ℕ)
     → is_held_from events now sector id ≡ true

@@ -12,7 +12,7 @@ pub record IsLastKept (events : List CoreEvent) (sector id : ℕ) : Type 0 where
   pub last : (later : ℕ) → is_kept events sector later ≡ true → later ≤ id
 
 -- what rules the sector's value out: the durable request over it that was submitted last; none
--- where no durable request covers it
+-- if no durable request covers it
 abbrev pub IsRuledOutBy : List CoreEvent → ℕ → Option ℕ → Type 0
 IsRuledOutBy events sector None = has_kept events sector ≡ false
 IsRuledOutBy events sector (Some id) = IsLastKept events sector id
@@ -25,7 +25,7 @@ pub record FailsAt (events : List CoreEvent) (first now : Content) (sectors sect
   pub lowest : (lower : ℕ) → lower < sector → PossibleAt events first now lower
   pub ruled_out : IsRuledOutBy events sector by
 
--- the verdict on an image of so many sectors after these events
+-- the verdict on an image of this many sectors after these events
 abbrev pub IsVerdict : ℕ → List CoreEvent → Content → Content → Verdict → Type 0
 IsVerdict sectors events first now Yes = Possible events first now
 IsVerdict sectors events first now (No sector by) = FailsAt events first now sectors sector by

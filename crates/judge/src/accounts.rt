@@ -1,4 +1,4 @@
-//! What events and an image come to, sector by sector, and the verdict on the image that follows
+//! The account of events and an image, sector by sector, and the verdict on the image that follows
 //! from it. `could_hold` makes one account and asks for its verdict.
 ghost use Rattle.std.specs.Prelude.{◌≡◌, ◌/◌, ◌%◌, ◌<◌, IfOk, List, length, true};
 ghost use Rattle.bio.specs.declared.event.CoreEvent.{CoreEvent};
@@ -18,7 +18,7 @@ use crate::verdict::Verdict;
 use bio::{CoreEvent, Id};
 use std::alloc::{AllocError, Global};
 
-/// What a list of events and an image come to. Places are those of events, counted from 0.
+/// The account of a list of events and an image. Places are those of events, counted from 0.
 #[derive(Debug, Drop)]
 pub struct Account {
     /// For each request, by the place of its submission, the place of its end.
@@ -44,8 +44,8 @@ impl Account {
         Ok(Account { ends, last, held })
     }
 
-    /// The verdict on the image that this is the account of, where `first` was on the device before
-    /// the first event. The image is whole sectors of 512 bytes, and `first` has as many.
+    /// Returns the verdict on the image of this account, if `first` was on the device before the
+    /// first event. The image is whole sectors of 512 bytes, and `first` has as many.
     pub fn verdict(&self, first: First, image: &[u8]) -> Verdict
         requires whole { length image.now % 512 ≡ 0 }
         requires same { IsFirstOf (length image.now) first }

@@ -21,7 +21,7 @@ pub fn ends_of(alloc: Global, events: &[CoreEvent]) -> Result<Vec<Option<usize>>
     Ok(ends)
 }
 
-// Notes where a request ended, where the event is its end.
+// Notes where a request ended, if the event is its end.
 fn note_event(ends: &mut Vec<Option<usize>>, event: &CoreEvent, place: usize)
     requires { place ≤ length ends.old.items }
     ensures size { length ends.new.items ≡ length ends.old.items }
@@ -34,7 +34,7 @@ fn note_event(ends: &mut Vec<Option<usize>>, event: &CoreEvent, place: usize)
     }
 }
 
-// Notes the end of a request, where it is the first one.
+// Notes the end of a request, if it is the first one.
 fn note_end(ends: &mut Vec<Option<usize>>, id: u64, place: usize)
     requires { place ≤ length ends.old.items }
     ensures size { length ends.new.items ≡ length ends.old.items }

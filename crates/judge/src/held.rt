@@ -83,8 +83,8 @@ fn has_value(event: &CoreEvent, sector: usize, value: &[u8]) -> bool
     }
 }
 
-// Whether the sector could hold the value that the event's request put there, where the request
-// ended at this place and this is the last durable request over the sector.
+// Whether the sector could hold the value that the event's request put there, if the request ended
+// at this place and this is the last durable request over the sector.
 fn fits(
     event: &CoreEvent,
     end: Option<usize>,

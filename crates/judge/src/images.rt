@@ -13,14 +13,14 @@ use std::alloc::{AllocError, Global};
 use std::cmp;
 
 /// Whether a device could have held the image, had power failed after the first `moment` of the
-/// events, where `first` was on it before the first event. `events` is a list that a recorder of
-/// the device may have recorded (`is_lawful`), a later moment than its last counts as all of them;
-/// the image has the device's length in bytes, whole sectors of 512.
+/// events, if `first` was on it before the first event. `events` is a list that a recorder of the
+/// device may have recorded (`is_lawful`); a later moment than its last counts as all of them. The
+/// image has the device's length in bytes, whole sectors of 512.
 ///
-/// A sector could hold its first value where no durable request covers it, and the value of a
-/// request that was submitted, unless that ended before the submission of a durable one over the
-/// sector. A request is durable where it ended with success, and has FUA or ended before the
-/// submission of a flush that ended with success. Takes memory of 32 bytes for each sector and 16
+/// A sector could hold its first value if no durable request covers it. It could hold the value of
+/// a submitted request, unless that ended before the submission of a durable one over the sector. A
+/// request is durable if it ended with success, and has FUA or ended before the submission of a
+/// flush that ended with success. Takes memory of 32 bytes for each sector and 16
 /// for each event, and time by the sum of the sectors that the requests cover. Lack of memory is
 /// the only error.
 pub fn could_hold(

@@ -43,8 +43,8 @@ fn is_durable(
     ended_ok(events, ends, place) && (event.submits_fua() || is_before(end_at(ends, place), flush))
 }
 
-/// The sectors that the event puts a value in, of the first
-/// so many: from the one to before the other.
+/// The sectors that the event puts a value in, among the
+/// first `sectors`: from the one to before the other.
 pub fn covered(event: &CoreEvent, sectors: usize) -> (usize, usize)
     ensures { AreCovered (Some event.now) sectors result.0 result.1 }
 {

@@ -8,7 +8,7 @@ ghost use Rattle.bio.specs.Places.{all_below};
 
 use bio::{CoreEvent, check};
 
-/// Whether the events are a list that a recorder of a device of so many sectors of 512 bytes may
+/// Whether the events are a list that a recorder of a device of `sectors` sectors of 512 bytes may
 /// have recorded. Takes no memory, so that its time grows with the square of the list's length.
 pub fn is_lawful(events: &[CoreEvent], sectors: u64) -> bool
     ensures { result ≡ is_lawful sectors events.now }
@@ -136,7 +136,7 @@ fn is_text(text: &[u8]) -> bool
     text.iter().all(|byte| *byte != 0)
 }
 
-// Whether each request passed `check` for a device of so many sectors.
+// Whether each request passed `check` for a device of this size.
 fn are_within(events: &[CoreEvent], sectors: u64) -> bool
     ensures { result ≡ all_below (λ place. is_within sectors (slice_get events.now place))
         (length events.now) }

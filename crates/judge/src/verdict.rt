@@ -14,7 +14,7 @@ pub enum Verdict {
     /// Each of its sectors holds a value that the device could hold then.
     Yes,
     /// The lowest sector that holds another value; and, of the durable requests that cover the
-    /// sector, the one that was submitted last, none where no durable request covers it.
+    /// sector, the one that was submitted last, none if no durable request covers it.
     No { sector: u64, by: Option<Id> },
 }
 

@@ -20,8 +20,8 @@ abbrev pub MarkEnteredBy : Part → List ℕ → EnteredMark → Part → Type 0
 MarkEnteredBy old text (marks.Recorded id taken) new = new ≡ noted old id (Mark text)
 MarkEnteredBy old text (marks.Stopped cause) new = Passed old (Some cause) new
 
--- a request of this seat is the queue's next event; or recording had ended, by the stop that stands
--- in the history, if one does, and nothing changes
+-- a request of this seat is the queue's next event; or recording had ended, by the stop in the
+-- history, if there is one, and nothing changes
 abbrev pub Enters : Queue → ℕ → Bio → Entered → Queue → Type 0
 Enters old seat bio (Recorded id) new =
     (is_recording old.core.events ≡ true)
@@ -29,7 +29,7 @@ Enters old seat bio (Recorded id) new =
 Enters old seat bio (Unrecorded stop) new =
     (is_recording old.core.events ≡ false) × ((stop ≡ stop_of old.core.events) × (new ≡ old))
 
--- a mark of this seat is the queue's next event, and so many entries had been taken; or recording
+-- a mark of this seat is the queue's next event, and this many entries had been taken; or recording
 -- had ended by a stop with this cause, and nothing changes
 abbrev pub MarkEnters : Queue → ℕ → List ℕ → EnteredMark → Queue → Type 0
 MarkEnters old seat text (marks.Recorded id taken) new =

@@ -5,13 +5,13 @@ use Rattle.bio.specs.declared.outcome.Status.{Status}
 use Rattle.board.specs.Posts.{opening}
 use Rattle.lock_state.specs.History.{Part, new_part}
 
--- There are so many, they have the numbers from 0 on, and none has had a call.
+-- There are `many` of them, with the numbers from 0 on, and none has had a call.
 pub record AreNewSeats (many : ℕ) (seats : List Part) : Type 0 where
   pub count : length seats ≡ many
   pub each : (number : ℕ) (seat : Part) → slice_get seats number ≡ Some seat → seat
       ≡ new_part number
 
--- There are so many status seats, and each has seen the status of an empty log alone.
+-- There are `many` status seats, and each has seen only the status of an empty log.
 pub record AreNewReaders (many : ℕ) (readers : List (List Status)) : Type 0 where
   pub count : length readers ≡ many
   pub each : AllByRecursion (λ seen. seen ≡ opening ∷ []) readers

@@ -10,13 +10,13 @@ pub enum Answer<C> {
     Done,
     /// A read: the bytes of its sectors.
     Read(Vec<u8>),
-    /// A write with FUA: it succeeded, and the receipt is of its entry. That stands in each log that
-    /// a crash leaves, as a close finds to which the receipt is handed.
+    /// A write with FUA: it succeeded, and the receipt is of its entry. A close that is passed the
+    /// receipt finds that the entry is in each log that a crash leaves.
     Logged(C),
     /// The device failed it, or there was no memory.
     Failed(DevError),
     /// A write with FUA: it succeeded, and logging ended by this cause before its entry was
-    /// durable. The entry may stand in the log.
+    /// durable. The entry may be in the log.
     NotLogged(End),
     /// It may not be sent to the device: nothing was recorded, and the device wasn't called.
     Refused(BadBio),
@@ -25,10 +25,10 @@ pub enum Answer<C> {
 /// What became of a mark. `C` is the `Receipt` of its recorder.
 #[derive(Debug, Drop)]
 pub enum MarkAnswer<C> {
-    /// The receipt is of its entry. That stands in each log that a crash leaves, as a close finds to
-    /// which the receipt is handed.
+    /// The receipt is of its entry. A close that is passed the receipt finds that the entry is in
+    /// each log that a crash leaves.
     Logged(C),
-    /// Logging ended by this cause before its entry was durable. The entry may stand in the log.
+    /// Logging ended by this cause before its entry was durable. The entry may be in the log.
     NotLogged(End),
     /// It isn't recorded.
     Refused(MarkRefusal),

@@ -50,7 +50,7 @@ pub struct Closed<D: Drop, L: Drop> {
     pub by: Vec<Option<u64>>,
     /// The first hazard, if there is one.
     pub hazard: Option<Hazard>,
-    /// The requests that were handed to the recorded
+    /// The requests that were passed to the recorded
     /// device, in order, also those that aren't recorded.
     pub done: Vec<Done>,
     /// The items that were placed in the log, in order.
@@ -70,7 +70,7 @@ pub struct Closed<D: Drop, L: Drop> {
 pub struct Ending<D: Drop, L: Drop, R: Run + Names> {
     pub closed: Closed<D, L>,
     pub posts: Posts<R>,
-    /// Why those who waited for the log were let go, where they were.
+    /// Why those who waited for the log were let go, if they were.
     pub released: Option<End>,
     /// How many items the writer had placed. The close placed the others.
     pub written: u64,
@@ -87,13 +87,13 @@ pub struct Open<D: BlockDev + Drop, L: BlockDev + Drop, R: Run + Names> {
     pub receipts: Vec<Receipt<R>>,
 }
 
-/// What is returned where what was passed in isn't the recorder's own: the recorder, taken
-/// apart, with nothing more written, what was posted of its log, and all that was passed in.
+/// What is returned if what was passed in isn't the recorder's own: the recorder, taken apart,
+/// with nothing more written, what was posted about its log, and all that was passed in.
 #[derive(Drop)]
 pub struct Strangers<D: Drop, L: Drop, R: Run + Names> {
     pub closed: Closed<D, L>,
     pub posts: Posts<R>,
-    /// Why those who waited for the log were let go, where they were.
+    /// Why those who waited for the log were let go, if they were.
     pub released: Option<End>,
     pub seats: Vec<Seat<R>>,
     pub writer: WriterSeat<R>,

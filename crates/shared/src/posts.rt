@@ -40,8 +40,8 @@ impl<R: Names> Posts<R> {
         self.writer.last()
     }
 
-    /// What a status seat has seen is a prefix of what was posted. So where each posted status
-    /// is that of a prefix of some items, and none goes back, that is so of each that was seen.
+    /// What a status seat has seen is a prefix of what was posted. So if each posted status is that
+    /// of a prefix of some items, and none goes back, so is each that was seen.
     pub fn agree(&mut self, mine: &mut StatusSeat<R>)
         ensures begins { Begins mine.old self.old }
         ensures seen { (bytes : ℕ) (placed : List Placing) → ArePosted bytes placed self.old

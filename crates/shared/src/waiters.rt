@@ -8,13 +8,13 @@ use std::sync::{Condvar, MutexGuard, Wait};
 // How many condition variables there are. No recorder has more seats.
 const ROWS: usize = 64;
 
-// A row of condition variables beside the log's lock: who waits for the entry of an id waits at that
-// of the id modulo 64, so a settle wakes no other seat but by chance.
+// A row of condition variables for the log's lock: a thread that waits for the entry of an id waits
+// at variable id modulo 64, so a settle wakes another seat only by chance.
 //
-// No wake-up is lost. What a waiter looks for changes under the log's lock alone, which it holds from
-// its look until it waits, and whoever changed it wakes it afterwards. Only writes with FUA and marks
-// are waited for, and each is settled as it is placed: a settle is news for the id in hand alone, and
-// an end for all.
+// No wake-up is lost. What a waiter looks for changes only under the log's lock, which it holds
+// from its look until it waits, and whoever changed it wakes it afterwards. Threads wait only for
+// writes with FUA and marks, and each is settled as it is placed: a settle is news only for the id
+// in hand, and an end for all.
 #[derive(Drop)]
 pub(crate) struct Waiters {
     row: [Condvar; ROWS],

@@ -21,7 +21,7 @@ pub enum CopyError {
     Store(End),
 }
 
-/// Why a copy of a log stopped, and after how many entries that stand in the new log.
+/// Why a copy of a log stopped, and after how many entries in the new log.
 #[derive(Clone, Copy, Debug, PartialEq, Eq)]
 pub struct CopyFault {
     pub applied: u64,

@@ -5,7 +5,7 @@ use Rattle.refusals.specs.declared.end.End.{End}
 use Rattle.refusals.specs.declared.end.End.TheVariants as ends
 use Rattle.bio.specs.declared.outcome.Status.{Status}
 
--- the status of an empty log, that stands first
+-- the status of an empty log, which is first
 abbrev pub opening : Status
 opening = record { entries = 0; sector = 0; end = None }
 

@@ -1,4 +1,4 @@
--- The rule of a board, and what each step tells.
+-- The rule of a board, and what a pass learns by each step.
 use Rattle.std.specs.Prelude.{◌≡◌, ℕ, List, [], ◌∷◌, ◌++◌, true, false}
 use mathlib.Core.Option.{some}
 use lib.ListN.{get_elem?}
@@ -29,7 +29,7 @@ writer_of seen = record { writes = true; seen = seen; told = [] }
 abbrev pub reader_of : List Status → Knows
 reader_of seen = record { writes = false; seen = seen; told = [] }
 
--- a pass that was told what another has seen
+-- a pass that has learned what another has seen
 abbrev pub told_by : Knows → Knows → Knows
 told_by pass other = record { writes = pass.writes; seen = pass.seen; told = other.seen }
 
@@ -50,17 +50,17 @@ Looks step before found after =
     Begins before.0.seen after.0.seen × IsRising after.0.seen
     × (after ≡ (reader_of after.0.seen, [])) × (found ≡ word_of (last_of after.0.seen))
 
--- the writer compares what it was told with what it posted
+-- the writer compares what it has learned with what it posted
 abbrev pub Compares : Step (Unit {0}) → Me (Unit {0}) Knows → ℕ → Me (Unit {0}) Knows → Type 0
 Compares step before found after =
     Begins before.0.told before.0.seen × (after ≡ (writer_of before.0.seen, []))
 
--- What the rule says of one pass, where the writer's stands
--- at this place and these statuses were posted.
+-- What the rule says of one pass, if the writer's is at this
+-- place and these statuses were posted.
 pub record Fits (place : ℕ) (statuses : List Status) (by : ℕ) (pass : Knows) : Type 0 where
   -- only one pass is the writer's, and it knows all that was posted
   pub writes : pass.writes ≡ true → (by ≡ place) × (pass.seen ≡ statuses)
-  -- what was seen, and what was told, is a prefix of that
+  -- what was seen, and what was learned, is a prefix of that
   pub seen : Begins pass.seen statuses
   pub told : Begins pass.told statuses
 

@@ -2,8 +2,8 @@
 //! and readers look at it. Nobody waits for anybody.
 //!
 //! A status is one number in one shared word, so a reader never sees half of one. What is proved of
-//! readers is said of lists: each reader has seen a prefix of what the writer posted, and a look
-//! makes that prefix longer or leaves it, and answers its last status. So no reader sees a
+//! readers is about lists: each reader has seen a prefix of what the writer posted, and a look
+//! makes that prefix longer or leaves it, and returns its last status. So no reader sees a
 //! status go back. No call waits, and none takes memory but the one that makes the board.
 #![tactic(auto)]
 
@@ -34,8 +34,8 @@ impl Names for Brand {
     ghost board = { no_table };
 }
 
-/// A board with its writer's seat, on which the status of an empty log stands, and which has no
-/// name yet. Contracts see it as its table.
+/// A board with its writer's seat, which has the status of an empty log, and no name yet. Contracts
+/// see it as its table.
 #[derive(Drop)]
 pub struct Blank {
     post: Post,
@@ -111,8 +111,8 @@ impl<N: Names> Model for StatusSeat<N> {
 }
 
 impl Blank {
-    /// A board with no reader, on which the status of an
-    /// empty log stands. `Err` if there is no memory.
+    /// A board with no reader, which has the status of an
+    /// empty log. `Err` if there is no memory.
     pub fn new(alloc: Global) -> Result<Blank, AllocError> {
         let (post, pass) = Post::of_words(alloc, &[0], &())?;
         Ok(Blank { post, pass })

@@ -5,8 +5,8 @@ use bio::Status;
 use std::alloc::Global;
 use std::collections::LinkedList;
 
-// What a pass knows: the statuses that it has seen, and those that another pass told it of; the
-// writer's has seen all. No value of it is made.
+// What a pass knows: the statuses that it has seen, and those that it has learned from another
+// pass; the writer's has seen all. No value of it is made.
 pub struct Knows {
     pub writes: bool,
     pub seen: LinkedList<Status>,
@@ -46,7 +46,7 @@ impl Play<(), Knows> for Look {
     ghost then = { Looks };
 }
 
-// The writer compares what it was told with what it posted.
+// The writer compares what it has learned with what it posted.
 pub struct Compare;
 
 impl Play<(), Knows> for Compare {
@@ -66,7 +66,7 @@ impl Split<Knows> for Copied {
     ghost right = { as_reader };
 }
 
-// A pass is told what another has seen.
+// A pass learns what another has seen.
 pub struct Told;
 
 impl Join<Knows> for Told {

@@ -1,4 +1,4 @@
--- What chains end as, where a `&mut` to one of their values is returned.
+-- What chains end as, if a `&mut` to one of their values is returned.
 use Rattle.std.specs.Prelude.{ℕ}
 use Rattle.std.specs.Borrow.{Fml, Lends, MutBor, RattleType}
 use Rattle.chains.specs.Edits.{with_first}

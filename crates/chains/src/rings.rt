@@ -59,7 +59,7 @@ pub fn put_first(links: &mut Links, chain: usize, row: usize)
     }
 }
 
-/// Puts a loose row behind the last of a chain: at most 3 changes.
+/// Appends a loose row to a chain: at most 3 changes.
 pub fn put_last(links: &mut Links, chain: usize, row: usize)
     requires { IsLoose links.old.next.items links.old.lasts.items chain row }
     ensures holds { (loose : List ℕ) (chains : List (List ℕ))
@@ -72,7 +72,7 @@ pub fn put_last(links: &mut Links, chain: usize, row: usize)
 }
 
 /// Takes the first row out of a chain, so that it's loose:
-/// at most 1 change. None where the chain has no rows.
+/// at most 1 change. None if the chain has no rows.
 pub fn take_first(links: &mut Links, chain: usize) -> Option<usize>
     requires kept { IsKept links.old.next.items links.old.lasts.items }
     requires within { chain < length links.old.lasts.items }
@@ -134,7 +134,7 @@ pub fn put_before(links: &mut Links, from: usize, onto: usize)
     put_ring(links, onto, moved);
 }
 
-/// Puts all rows of one chain behind the last of another: at most 4 changes.
+/// Appends all rows of one chain to another: at most 4 changes.
 pub fn join(links: &mut Links, from: usize, onto: usize)
     requires kept { IsKept links.old.next.items links.old.lasts.items }
     requires from { from < length links.old.lasts.items }

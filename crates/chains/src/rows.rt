@@ -15,7 +15,7 @@ use std::mem;
 pub const FREE: usize = 0;
 
 /// Gets a row for a value, so that it's loose: the first free
-/// one, or a new one where none is free. At most 1 change.
+/// one, or a new one if none is free. At most 1 change.
 pub fn open_row<T>(links: &mut Links, rows: &mut Vec<Option<T>>) -> usize
     requires { HasRow links.old rows.old.items (vec_capacity rows.old) }
     ensures opened { (chains : List (List ℕ))

@@ -124,8 +124,8 @@ impl<T: Drop> Chains<T> {
         self.links.begin();
     }
 
-    /// Puts a value behind the last of a chain, into a free row, where there is one. At most 4
-    /// links are changed. Takes no memory.
+    /// Appends a value to a chain, in a free row, if there is one. Changes at most 4 links. Takes
+    /// no memory.
     pub fn add_reserved(&mut self, chain: usize, value: T)
         requires rests { self.old.walked ≡ None }
         requires chain { 0 < chain × chain < length self.old.chains }
@@ -142,8 +142,8 @@ impl<T: Drop> Chains<T> {
         rings::put_last(&mut self.links, chain, row);
     }
 
-    /// Puts all of one chain behind the last of another: at
-    /// most 4 links are changed, and no value is moved.
+    /// Appends all of one chain to another. Changes at most 4
+    /// links, and moves no value.
     pub fn join(&mut self, from: usize, onto: usize)
         requires rests { self.old.walked ≡ None }
         requires from { 0 < from × from < length self.old.chains }
@@ -191,8 +191,8 @@ impl<T: Drop> Chains<T> {
         value
     }
 
-    /// Puts a value behind the last of a chain, into a free
-    /// row, where there is one. At most 4 links are changed.
+    /// Appends a value to a chain, in a free row, if there is
+    /// one. Changes at most 4 links.
     ///
     /// # Errors
     ///
@@ -213,8 +213,8 @@ impl<T: Drop> Chains<T> {
         Ok(())
     }
 
-    /// Begins a chain with one value, in a free row, where
-    /// there is one. At most 4 links are changed.
+    /// Begins a chain with one value, in a free row, if there
+    /// is one. Changes at most 4 links.
     ///
     /// # Errors
     ///

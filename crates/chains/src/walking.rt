@@ -92,7 +92,7 @@ impl<T: Drop> Chains<T> {
         });
     }
 
-    /// Ends the walk: 1 link is changed, where there was one. The chain stays as it is seen.
+    /// Ends the walk, and changes 1 link if there was one. The chain stays as it is seen.
     pub fn rest(&mut self)
         ensures chains { self.new.chains ≡ self.old.chains }
         ensures changed { ChangesFew self.old self.new 1 }

@@ -4,7 +4,7 @@ use Rattle.blockdev.specs.Calls.{Call, Discards, Flushes, Reads, Writes}
 use Rattle.blockdev.specs.View.{View}
 use Rattle.bio.specs.Content.{Content, moved}
 
--- the same call, so many sectors further on
+-- the same call, shifted by `offset` sectors
 abbrev pub call_from : ℕ → Call → Call
 call_from offset (Reads first before after) = Reads (offset + first) before after
 call_from offset (Writes first bytes fua) = Writes (offset + first) bytes fua

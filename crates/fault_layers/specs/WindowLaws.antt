@@ -23,13 +23,13 @@ discards-shifted : (offset first count : ℕ)
     → IsShifted offset (discards (offset + first) count) (discards first count)
 discards-shifted offset first count = over-shift offset first count (λ _. replicate 512 0)
 
--- what is put beneath is put in the range
+-- what is put below is put in the range
 put-shifted : (offset : ℕ) (below patch : Patch) (content : Content) → IsShifted offset below patch
     → (sector : ℕ) → put below content (offset + sector) ≡ put patch (moved offset content) sector
 put-shifted offset below patch content shifted sector =
     ap (λ (o : Option (List ℕ)). unwrap_or o (content (offset + sector))) (shifted sector)
 
--- what is patched beneath is patched in the range
+-- what is patched below is patched in the range
 patched-shifted : (offset : ℕ) (below patch : Patch) (old new : Content)
     → IsShifted offset below patch → Patched below old new
     → Patched patch (moved offset old) (moved offset new)
@@ -53,7 +53,7 @@ after-shifted offset below patch set left low shifted seen after = (
   ],
 )
 
--- where nothing is changed beneath, nothing is in a range
+-- if nothing is changed below, nothing is in a range
 pub unchanged_window : (v w : View) (offset length : ℕ) → Unchanged v w
     → Unchanged (window v offset length) (window w offset length)
 unchanged_window v w offset length same = record {
@@ -90,7 +90,7 @@ lawful_window v offset length fits lawful = record {
   lies = lawful.lies;
 }
 
--- where the lower device goes by the shifted call, the range goes by the call
+-- if the lower device goes by the shifted call, the range goes by the call
 goes_window : (offset length : ℕ) (below patch : Patch) (v w : View) → IsShifted offset below patch
     → DeviceFrame below v w
     → DeviceFrame patch (window v offset length) (window w offset length)
@@ -113,7 +113,7 @@ goes_window offset length below patch v w shifted goes = record {
   honest = goes.honest;
 }
 
--- what lands beneath lands in the range
+-- what lands below lands in the range
 lands_window : (offset length : ℕ) (below patch : Patch) (fua : Bool) (v w : View)
     → IsShifted offset below patch
     → (NoLie v w → WriteDone below fua v w)

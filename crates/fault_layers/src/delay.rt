@@ -5,8 +5,8 @@ use crate::gated::Gated;
 use bio::Ms;
 use blockdev::BlockDev;
 
-/// The gate that passes every call, later: a read, a write
-/// or discard, and a flush, each so many milliseconds.
+/// The gate that passes every call, later: a read, a write or
+/// discard, and a flush, each by its own number of milliseconds.
 #[derive(Clone, Copy, Debug, Drop, PartialEq, Eq)]
 pub struct DelayGate {
     read: Ms,

@@ -47,7 +47,7 @@ impl FlakeyGate {
 
     /// The gate that is up for `up` seconds from the moment `load` on,
     /// then down for `down` seconds, and so on; a moment before the load
-    /// counts as the load. The two come to 1 to 4294967295 seconds.
+    /// counts as the load. Their sum is 1 to 4294967295 seconds.
     pub fn new(up: u64, down: u64, feature: Feature, load: Ms) -> FlakeyGate
         requires { IsCycle up down }
         ensures { result ≡ record { up = up; down = down; feature = feature; load = load } }
@@ -110,8 +110,8 @@ impl<D: BlockDev + Drop> Flakey<D> {
     ghost use Rattle.std.specs.Prelude.{◌≡◌};
 
     /// The device over this one that is up for `up` seconds from the moment `load` on, then down
-    /// for `down` seconds, and so on; a moment before the load counts as the load. The two come to
-    /// 1 to 4294967295 seconds.
+    /// for `down` seconds, and so on; a moment before the load counts as the load. Their sum is 1
+    /// to 4294967295 seconds.
     pub fn new(lower: D, up: u64, down: u64, feature: Feature, load: Ms) -> Flakey<D>
         requires { IsCycle up down }
         ensures lower { result.lower ≡ lower }

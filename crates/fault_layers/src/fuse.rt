@@ -1,4 +1,4 @@
-//! The fuse layer: after so many writes, discards and flushes each later one fails.
+//! The fuse layer: after a number of writes, discards and flushes each later one fails.
 //! `layer_table` makes its gate of a `fuse` line.
 use crate::gate::{Gate, Kind, Verdict};
 use crate::gated::Gated;
@@ -6,8 +6,8 @@ use bio::Ms;
 use blockdev::BlockDev;
 use std::marker::Model;
 
-/// The gate that passes so many writes, discards and flushes, and fails each later one. Reads pass,
-/// and aren't counted. Contracts see how many it passes yet.
+/// The gate that passes a number of writes, discards and flushes, and fails each later one. Reads
+/// pass, and aren't counted. Contracts see how many more it passes.
 #[derive(Clone, Copy, Debug, Drop, PartialEq, Eq)]
 pub struct FuseGate {
     calls: u64,
@@ -64,7 +64,7 @@ impl Gate for FuseGate {
     ghost stays = { fuse_stays };
 }
 
-/// A device that fails after so many calls: a target of
+/// A device that fails after a number of calls: a target of
 /// this project's own, which the kernel doesn't have.
 pub type Fuse<D> = Gated<D, FuseGate>;
 

@@ -4,7 +4,7 @@ use crate::gate::{Gate, Kind, Verdict};
 use bio::{DevError, Ms};
 use blockdev::{BlockDev, Message, MessageError};
 
-/// A device of which a gate decides, call by call, whether the one beneath does it, and when.
+/// A device with a gate that decides, call by call, whether the lower device does it, and when.
 #[derive(Drop)]
 pub struct Gated<D: BlockDev + Drop, G: Gate + Drop> {
     lower: D,

@@ -9,8 +9,8 @@ ghost use Rattle.sector_disk.specs.DiskView.{Does};
 use crate::{DelayGate, Gated};
 use sector_disk::SectorDisk;
 
-/// A disk in memory ends each call at once, so over it a delayed call that ends well ends just as
-/// much later as its kind is delayed.
+/// A disk in memory ends each call at once, so over it a delayed call that ends well ends later by
+/// exactly the delay of its kind.
 #[tactic(auto, using(crate::specs::DelayRule::ends_later))]
 pub fn delayed_calls_of_a_disk_end_just_later()
     ensures { (old new : Gated SectorDisk DelayGate) (call : Call) (now end : ℕ) →

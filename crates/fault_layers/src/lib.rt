@@ -1,8 +1,8 @@
 //! Devices over another one, which map its sectors, make its calls later or make it fail.
 //!
 //! `Linear` is a part of the lower device it. Every other layer only
-//! decides: its gate (`Gate`) says for each call whether the device
-//! beneath does it, and when, and `Gated` is the one device over them all.
+//! decides: its gate (`Gate`) says for each call whether the lower
+//! device does it, and when, and `Gated` is the one device over them all.
 #![tactic(auto)]
 
 pub use delay::{Delay, DelayGate};

@@ -1,5 +1,5 @@
 //! The linear layer: a range of another device's sectors as a device of its own.
-//! `layer_table` puts one beneath each layer that it makes.
+//! `layer_table` puts one below each layer that it makes.
 ghost use Rattle.std.proofs.Props.{props};
 ghost use Rattle.blockdev.specs.Calls.{IsRange};
 
@@ -7,7 +7,7 @@ use bio::{DevError, Ms};
 use blockdev::{BlockDev, Message, MessageError};
 
 /// A range of another device's sectors, as a device of its own: its sector 0 is the sector `offset`
-/// beneath (Linux's Documentation/admin-guide/device-mapper/linear.rst).
+/// below (Linux's Documentation/admin-guide/device-mapper/linear.rst).
 #[derive(Drop)]
 pub struct Linear<D: BlockDev + Drop> {
     lower: D,

@@ -56,7 +56,7 @@ length-picks cache index (suc n) =
     one true = refl
     one false = refl
 
--- each unsynced sector's pick stands at its place
+-- each unsynced sector's pick is at its place
 pick-there : (cache : Cache) (index : ℕ → ℕ) (n sector : ℕ) → sector < n
     → 1 < length (cache.may sector)
     → slice_get (picks_for cache index n) (unsynced_below cache sector) ≡ Some (index sector)

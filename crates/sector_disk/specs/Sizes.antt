@@ -5,18 +5,18 @@ use Rattle.bio.specs.Content.{Content}
 use Rattle.blockdev.specs.Law.{FlushDone}
 use Rattle.blockdev.specs.View.{View}
 
--- a disk may have so many sectors
+-- a disk may have this many sectors
 pub record IsDiskSize (sectors : ℕ) : Type 0 where
   pub some : 0 < sectors
   pub few : sectors ≤ 1048576
 
--- so many bytes are the image of a disk: whole sectors, and as many as one may have
+-- this many bytes may be the image of a disk: whole sectors, and as many as a disk may have
 pub record IsImageSize (length : ℕ) : Type 0 where
   pub whole : length % 512 ≡ 0
   pub some : 0 < length
   pub few : length / 512 ≤ 1048576
 
--- The past of a device of this size begins with this content, which alone a crash leaves.
+-- The past of a device of this size begins with this content: a crash leaves only that.
 pub record Begins (sectors : ℕ) (start : Content) (v : View) : Type 0 where
   pub size : v.size ≡ sectors
   pub content : (sector : ℕ) → sector < sectors → v.content sector ≡ start sector

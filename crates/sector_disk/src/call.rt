@@ -25,7 +25,7 @@ pub enum Change {
     Write(FilledBytes),
     /// The bytes of an image in pieces: whole sectors.
     Image(Image),
-    /// Zeroes, in so many sectors.
+    /// Zeroes, in this many sectors.
     Discard(u64),
 }
 
@@ -83,7 +83,7 @@ fn read_image(image: &Image, first: u64, sector: u64, buffer: &mut [u8])
     image.read_sector((sector - first) as usize * SECTOR, buffer);
 }
 
-// Reads a sector as a call left it: zeroes where the call wrote nothing there.
+// Reads a sector as a call left it: zeroes if the call wrote nothing there.
 fn read_call(call: &Call, sector: u64, buffer: &mut [u8])
     requires { length buffer.old ≡ 512 }
     ensures { buffer.new ≡ value_in (Some call.now) sector }
@@ -132,7 +132,7 @@ pub fn read_places(calls: &[Call], places: &[usize], first: usize, buffer: &mut 
     }
 }
 
-/// Whether the first of these calls is a write of so many sectors, from the first sector on.
+/// Whether the first of these calls is a write of `sectors` sectors, from the first sector on.
 pub fn begins_with_image(calls: &[Call], sectors: usize) -> bool
     requires { sectors ≤ 1048576 }
     ensures { result ≡ is_image_in (slice_get calls.now 0) sectors }
@@ -143,7 +143,7 @@ pub fn begins_with_image(calls: &[Call], sectors: usize) -> bool
     }
 }
 
-// Whether a change is a write of so many sectors.
+// Whether a change is a write of `sectors` sectors.
 fn is_write_of(change: &Change, sectors: usize) -> bool
     requires { sectors ≤ 1048576 }
     ensures { result ≡ is_write_of change.now sectors }

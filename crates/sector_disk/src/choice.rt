@@ -23,7 +23,7 @@ fn count_candidates(calls: &[Call], synced: usize, sector: usize, newest: usize)
     1
 }
 
-// The place that is so many calls of a sector back.
+// Returns the place that is `steps` calls of a sector back.
 fn walk_back(calls: &[Call], sector: usize, newest: usize, steps: usize) -> usize
     ensures { result ≡ walk calls.now sector steps newest }
 {

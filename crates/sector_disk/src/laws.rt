@@ -1,5 +1,5 @@
-//! What a crash of a disk may leave: just what picks can name; unsynced sectors may
-//! be old, and calls tear.
+//! What a crash of a disk may leave: exactly what picks can name; unsynced sectors
+//! may be old, and calls tear.
 ghost use Rattle.std.specs.Prelude.{◌∷◌, ◌++◌, ◌≡◌, ◌+◌, ◌-◌, ◌/◌, ◌<◌, ◌≤◌, Bool, List, Ok, []};
 ghost use Rattle.std.specs.Prelude.{false, length, replicate, true, ℕ};
 ghost use Rattle.blockdev.specs.Calls.{Discards, Flushes, Writes};

@@ -2,7 +2,7 @@
 //!
 //! `SectorDisk` is a device that never fails and never lies. It keeps its past: what it started
 //! from, and each write and discard since, so that contracts know what a crash at any moment may
-//! leave, and `crash` leaves just what its picks name (`specs/Candidates`).
+//! leave, and `crash` leaves exactly what its picks name (`specs/Candidates`).
 #![tactic(auto)]
 
 pub use disk::SectorDisk;

@@ -71,7 +71,7 @@ pub record IsLike (a b : Machine) : Type 0 where
   pub calls : a.calls ≡ b.calls
   pub off : a.off ≡ b.off
 
--- the content with a call's value in one sector alone
+-- the content with a call's value in only one sector
 abbrev pub put_at : Patch → ℕ → Content → Content
 put_at patch at old sector = if sector == at then put patch old sector else old sector
 

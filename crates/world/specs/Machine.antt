@@ -80,15 +80,15 @@ abbrev pub before_submit : ℕ → List Step → List Step
 before_submit id [] = []
 before_submit id (call ∷ calls) = if is_submit id call then calls else before_submit id calls
 
--- where the step is an end with success, each sector of its
--- request was destaged after it had landed there
+-- if the step is an end with success, each sector of its
+-- request was destaged after the request had landed there
 abbrev pub settled_if_ended : List CoreEvent → Machine → Step → Bool
 settled_if_ended events m (End id ok) = not ok || has_settled events m id
 settled_if_ended events m _ = true
 
 -- The request may end with success: it has landed on all its sectors; with
--- FUA, each was destaged after that; and where it has a flush, the same
--- holds of each request that ended with success before its submission.
+-- FUA, each was destaged after that; and if it has a flush, the same holds
+-- for each request that ended with success before its submission.
 abbrev pub may_succeed : List CoreEvent → Machine → ℕ → Bool
 may_succeed events m id =
     has_landed events m id
@@ -98,7 +98,7 @@ may_succeed events m id =
 
 -- the step may be taken while power is there: a request is submitted once; one that is pending
 -- lands once on each of its sectors; a sector where some landed is destaged; a request that is
--- pending ends, with success where it may
+-- pending ends, with success if it may
 abbrev pub may_take : List CoreEvent → Machine → Step → Bool
 may_take events m (Submit id) =
     is_request (slice_get events id) && not (list_any (is_submit id) m.calls)

@@ -45,7 +45,7 @@ impl Model for World {
     ghost invariant = { λ world. length world.image.items ≡ 512 * length world.cells.items };
 }
 
-// So many sectors where nothing landed.
+// Makes `sectors` sectors where nothing landed.
 fn empty_cells(alloc: Global, sectors: usize) -> Result<Vec<Cell>, AllocError>
     ensures { IfOk result (λ cells. cells.items ≡ replicate sectors empty_cell) }
 {

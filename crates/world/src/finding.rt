@@ -9,6 +9,6 @@ pub enum Finding {
     /// A run of the cache machine that fits the events and leaves the image, in order.
     Run(Vec<Step>),
     /// There is none: the lowest sector that no run leaves so; and, of the durable requests that
-    /// cover the sector, the one that was submitted last, none where no durable request covers it.
+    /// cover the sector, the one that was submitted last, none if no durable request covers it.
     RuledOut { sector: u64, by: Option<Id> },
 }

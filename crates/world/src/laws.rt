@@ -1,4 +1,4 @@
-//! Laws of the cache machine, apart from the code: its runs leave just what a device could hold.
+//! Laws of the cache machine, apart from the code: its runs leave exactly what a device could hold.
 //! The judge's laws call `possible_is_exact`.
 ghost use Rattle.std.specs.Prelude.{◌≡◌, List, take, true, ℕ};
 ghost use Rattle.bio.specs.declared.event.CoreEvent.{CoreEvent};

@@ -1,6 +1,6 @@
 //! The steps of one request for its sectors, as the plan of a run has them.
 //!
-//! A request lands at its submission where another one's value is wanted, and else at its end.
+//! A request lands at its submission if another one's value is wanted, and else at its end.
 ghost use Rattle.std.specs.Prelude.{◌≡◌, ◌+◌, ◌^◌, ◌<◌, ◌++◌, OnOk, Some};
 ghost use Rattle.bio.specs.declared.event.CoreEvent.TheVariants as core_events;
 ghost use Rattle.bio.specs.Requests.{first_sector, sector_count};
@@ -33,7 +33,7 @@ fn is_upto(id: usize, last: Option<usize>) -> bool
     }
 }
 
-// The request lands on the sector, where it does, and that is destaged, where it is.
+// Writes that the request lands on the sector, if it does, and that this is destaged, if it is.
 fn touch(
     run: &mut Vec<Step>,
     lands: bool,
@@ -53,7 +53,7 @@ fn touch(
     Ok(())
 }
 
-// The steps of a request for a sector at its submission, where it has to land at all.
+// Writes the steps of a request for a sector at its submission, if it has to land at all.
 fn lands_early(
     run: &mut Vec<Step>,
     account: &Account,
@@ -84,8 +84,8 @@ fn lands_late(
     touch(run, lands, true, id, sector)
 }
 
-/// The steps of a request for all its sectors at its submission,
-/// where it has to land at all: it will end with success.
+/// Writes the steps of a request for all its sectors at its
+/// submission, if it has to land: it will end with success.
 pub fn land_early(
     run: &mut Vec<Step>,
     account: &Account,

@@ -8,7 +8,7 @@ ghost use Rattle.world.specs.Runs.{values_of_id};
 use bio::{Bio, CoreEvent, Id};
 use judge::{SECTOR, place_in, sector_bytes};
 
-/// Puts the value of the request of this place, where there is one.
+/// Puts the value of the request of this place, if there is one.
 pub fn put_newest(image: &mut [u8], events: &[CoreEvent], newest: Option<Id>, sector: usize)
     requires { sector < length image.old / 512 }
     ensures { IsPut (values_of_id events.now newest) sector image.old image.new }
@@ -65,7 +65,7 @@ fn put_written(image: &mut [u8], first: u64, bytes: &[u8], sector: usize)
     }
 }
 
-// Puts zeroes, where a discard covers the sector.
+// Puts zeroes, if a discard covers the sector.
 fn put_zeroes(image: &mut [u8], first: u64, count: u64, sector: usize)
     requires { sector < length image.old / 512 }
     ensures { IsPut (discards first count) sector image.old image.new }

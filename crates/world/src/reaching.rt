@@ -24,7 +24,7 @@ use bio::{CoreEvent, Id};
 use judge::{Account, First, Verdict, beginning};
 use std::alloc::{AllocError, Global};
 
-/// A run of the machine that fits the first `moment` of the events and leaves the image, where
+/// Makes a machine run that fits the first `moment` of the events and leaves the image, if
 /// `first` was on the device before the first event; none if there is no such run. `events` is a
 /// list that a recorder of the device may have recorded (`is_lawful`), a later moment than its last
 /// counts as all of them; the image has the device's length in bytes, whole sectors of 512.
@@ -146,7 +146,7 @@ fn ended_ok(events: &[CoreEvent], account: &Account, id: usize) -> bool
     }
 }
 
-// Whether an end with success stands at this place.
+// Whether an end with success is at this place.
 fn is_success_at(events: &[CoreEvent], place: usize) -> bool
     ensures { result ≡ is_success (slice_get events.now place) }
 {
@@ -206,7 +206,7 @@ fn finish(run: &mut Vec<Step>, events: &[CoreEvent], account: &Account) -> Resul
     Ok(())
 }
 
-// The steps of the request of this place, where it hasn't ended.
+// Writes the steps of the request of this place, if it hasn't ended.
 fn land_left(
     run: &mut Vec<Step>,
     events: &[CoreEvent],

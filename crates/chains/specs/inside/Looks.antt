@@ -3,7 +3,7 @@ use Rattle.std.specs.Prelude.{◌≡◌, ℕ, ◌<◌, ◌≤◌, List, [], leng
 use Rattle.chains.specs.inside.Rings.{times, Leads}
 use Rattle.chains.specs.inside.Tables.{filled, rows_from, value_at, values_of}
 
--- the rows that are left: behind this row, up to the last
+-- the rows that are left: after this row, up to the last
 abbrev pub rows_left : List ℕ → ℕ → Option ℕ → List ℕ
 rows_left next last None = []
 rows_left next last (Some row) = rows_from next last (length next) row

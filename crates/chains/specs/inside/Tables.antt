@@ -59,7 +59,7 @@ module _ {T : Type 0} where
   values_of rows [] = []
   values_of rows (row ∷ chain) = with_value (value_at rows row) (values_of rows chain)
 
-  -- 1 where there is a value
+  -- 1 if there is a value
   abbrev pub filled : Option T → ℕ
   filled None = 0
   filled (Some value) = 1

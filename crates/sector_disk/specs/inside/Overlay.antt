@@ -7,13 +7,13 @@ use Rattle.sector_disk.specs.declared.call.Change.{Change}
 use Rattle.sector_disk.specs.declared.call.Change.TheVariants.{Write, Image, Discard}
 use Rattle.sector_disk.specs.inside.Storage.{place_of, value_at}
 
--- the change is a write of so many sectors
+-- the change is a write of this many sectors
 abbrev pub is_write_of : Change → ℕ → Bool
 is_write_of (Write bytes) count = length bytes == count * 512
 is_write_of (Image bytes) count = false
 is_write_of (Discard n) count = false
 
--- the call is a write of so many sectors from the first one on
+-- the call is a write of this many sectors from the first one on
 abbrev pub is_image_in : Option Call → ℕ → Bool
 is_image_in None count = false
 is_image_in (Some call) count = (call.first == 0) && is_write_of call.change count

@@ -19,7 +19,7 @@ change_values first (Discard count) = discards first count
 abbrev pub values_of : Call → Patch
 values_of call = change_values call.first call.change
 
--- a sector's value by a call; zeroes where it has none
+-- a sector's value by a call; zeroes if it has none
 abbrev pub value_in : Option Call → Content
 value_in None sector = replicate 512 0
 value_in (Some call) sector = unwrap_or (values_of call sector) (replicate 512 0)
@@ -45,17 +45,17 @@ is_plain (Some call) = not call.fua
 abbrev pub is_open : List Call → ℕ → ℕ → Bool
 is_open calls synced place = nat_le synced place && is_plain (slice_get calls place)
 
--- a flush, where there was one
+-- a flush, if there was one
 abbrev pub flushed_if : Bool → List Step → List Step
 flushed_if true past = Flushes ∷ past
 flushed_if false past = past
 
--- the step of a call, after the flush before it where there was one
+-- the step of a call, after the flush before it if there was one
 abbrev pub step_after : Option Call → List Step → List Step
 step_after None past = past
 step_after (Some call) past = Puts (values_of call) call.fua ∷ flushed_if call.after_flush past
 
--- the steps of so many calls from a place on, the newest first
+-- the steps of n calls from a place on, the newest first
 abbrev pub steps_of : List Call → ℕ → ℕ → List Step
 steps_of calls begun zero = []
 steps_of calls begun (suc n) = step_after (slice_get calls (begun + n)) (steps_of calls begun n)
@@ -77,18 +77,18 @@ abbrev pub cache_of : List Call → List ℕ → ℕ → Bool → Cache
 cache_of calls base begun flushed =
     cache_after (content_at calls base) (past_of calls begun flushed)
 
--- the place that is so many calls back from a place
+-- the place that is n calls back from a place
 abbrev pub walk : List Call → ℕ → ℕ → ℕ → ℕ
 walk calls sector zero place = place
 walk calls sector (suc n) place = walk calls sector n (before_at calls place sector)
 
--- the last so many values of a sector up to a place, in order
+-- the last n values of a sector up to a place, in order
 abbrev pub back : List Call → ℕ → ℕ → ℕ → List (List ℕ)
 back calls sector zero place = []
 back calls sector (suc n) place =
     back calls sector n (before_at calls place sector) ++ value_at calls place sector ∷ []
 
--- so many calls back from a place stands the durable value, and all after it are open
+-- n calls back from a place is the durable value, and all after it are open
 abbrev pub is_chain : List Call → ℕ → ℕ → ℕ → ℕ → Bool
 is_chain calls synced sector zero place = false
 is_chain calls synced sector (suc zero) place =
@@ -106,7 +106,7 @@ pub record IsPlaced (calls : List Call) (synced sector place : ℕ) (now : List 
   pub chain : is_chain calls synced sector (length may) place ≡ true
   pub few : length may ≤ length calls
 
--- each of so many sectors of a disk has its newest call at its place
+-- each of the first `sectors` sectors of a disk has its newest call at its place
 pub record ArePlaced (calls : List Call) (synced sectors : ℕ) (newest : List ℕ)
     (cache : Cache) : Type 0 where
   pub each : (sector : ℕ) → sector < sectors
@@ -116,7 +116,7 @@ pub record ArePlaced (calls : List Call) (synced sectors : ℕ) (newest : List �
 pub record AreWithin (calls : List Call) (places : List ℕ) : Type 0 where
   pub each : (sector : ℕ) → place_of places sector < length calls
 
--- a table of so many places has one for each sector, or there is none yet
+-- a table of this many places has one for each sector, or there is none yet
 abbrev pub is_table : ℕ → ℕ → Bool
 is_table sectors zero = true
 is_table sectors (suc n) = suc n == sectors

@@ -51,8 +51,8 @@ fn read_all(calls: &[Call], places: &[usize], image: &mut Vec<u8>)
     read_places(calls, places, 0, image);
 }
 
-// Gives the bytes of all the sectors of a disk, which goes: in the bytes of its first call, where
-// that is a write of all sectors.
+// Returns the bytes of all the sectors of a disk, which is dropped: in the bytes of its first call,
+// if that is a write of all sectors.
 fn give_all(
     alloc: Global,
     calls: Vec<Call>,
@@ -73,7 +73,7 @@ fn give_all(
 }
 
 impl SectorDisk {
-    /// A disk of so many sectors of zeroes, 1 to 1,048,576. Lack of memory is an error.
+    /// A disk of `sectors` sectors of zeroes, 1 to 1,048,576. Lack of memory is an error.
     pub fn new(alloc: Global, sectors: u64) -> Result<SectorDisk, AllocError>
         requires { IsDiskSize sectors }
         ensures { IfOk result (λ disk. Begins sectors (λ _. replicate 512 0) (shown_of disk)) }

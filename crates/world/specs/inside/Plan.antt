@@ -23,13 +23,13 @@ abbrev pub touch : Bool → Bool → ℕ → ℕ → List Step
 touch lands settles id sector =
     if lands then Land id sector ∷ (if settles then Destage sector ∷ [] else []) else []
 
--- a request that isn't wanted in the sector lands there at its submission, where it has to land at
--- all; the sector is destaged where that has to be sure
+-- a request that isn't wanted in the sector lands there at its submission, if it has to land at
+-- all; the sector is destaged if that has to be sure
 abbrev pub lands_if : Bool → (ℕ → Option ℕ) → (ℕ → ℕ → Bool) → ℕ → ℕ → List Step
 lands_if has_to wanted sure id sector =
     touch (not (is_wanted (wanted sector) id) && has_to) (sure id sector) id sector
 
--- it has to land where it will end with success
+-- it has to land if it will end with success
 abbrev pub lands_early : List CoreEvent → (ℕ → Option ℕ) → (ℕ → ℕ → Bool) → ℕ → ℕ → List Step
 lands_early events wanted sure id = lands_if (ended_ok events id) wanted sure id
 
@@ -78,9 +78,9 @@ AllEnd events =
     (id : ℕ) (bio : Bio) → slice_get events id ≡ Some (core_events.Submit bio)
     → first_sector bio + sector_count bio < 2 ^ 64
 
--- A choice that a run can follow: in each sector a request whose value isn't replaced, or none
--- where no durable request covers it; and what has to be sure there are the durable requests, and
--- none that is later than all of them.
+-- A choice that a run can follow: in each sector a request whose value isn't replaced, or none if
+-- no durable request covers it; and what has to be sure there are the durable requests, and none
+-- that is later than all of them.
 pub record IsChoice (events : List CoreEvent) (wanted : ℕ → Option ℕ)
     (sure : ℕ → ℕ → Bool) : Type 0 where
   pub covers : (sector id : ℕ) → wanted sector ≡ Some id

@@ -21,7 +21,7 @@ abbrev pub is_settled : List CellState → ℕ → Option CoreEvent → Bool
 is_settled cells id event =
     each_sector (λ sector. is_among (settled_of (slice_get cells sector)) id) event
 
--- where the call is an end with success, its request is settled
+-- if the call is an end with success, its request is settled
 abbrev pub end_settled : List CoreEvent → List CellState → Step → Bool
 end_settled events cells (End id ok) = not ok || is_settled cells id (slice_get events id)
 end_settled events cells _ = true

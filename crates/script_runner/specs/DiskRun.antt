@@ -1,4 +1,4 @@
--- What recording a script on two disks in memory, each under its layers, comes to.
+-- The result of recording a script on two disks in memory, each under its layers.
 use Rattle.std.specs.Prelude.{◌≡◌, ℕ, ◌*◌, ◌+◌, ◌<◌, false, List, [], length, replicate, Option}
 use Rattle.std.specs.Prelude.{None, Some}
 use Rattle.std.specs.Io.KnownBytes.{Keeps}
@@ -49,21 +49,21 @@ stack_answering = answering StackAnswers StackAnswers
 abbrev pub zeroes : Content
 zeroes sector = replicate 512 0
 
--- What a script says of a disk stands: over a disk of zeroes its layers, the first of them lowest,
--- each loaded at moment 0 and not called yet.
+-- A stack is the disk that a script asks for: its layers over a disk of zeroes, the first of them
+-- lowest, each loaded at time 0 and not called yet.
 pub record IsStackOf (disk : Disk) (stack : Stack) : Type 0 where
   pub blank : Begins disk.sectors zeroes (shown_of (disk_of stack))
   pub layers : layers_of stack ≡ layers_under disk.layers 0 []
   pub over : AreOver disk.layers (shown_of (disk_of stack)) (stack_shown stack)
 
--- Nothing is recorded yet, and a log of no entries, with sectors of so many bytes, was made on the
+-- Nothing is recorded yet, and a log of no entries, with sectors of `bytes` bytes, was made on the
 -- top of a disk of zeroes and its layers.
 pub record IsNew (bytes : ℕ) (disk : Disk) (recorder : DiskRecorder) : Type 0 where
   pub stack : Stack
   pub blank : IsStackOf disk stack
   pub begun : IsNewOn bytes stack recorder
 
--- No log with sectors of so many bytes could be made on the top of a disk of zeroes and its layers.
+-- No log with sectors of `bytes` bytes could be made on the top of a disk of zeroes and its layers.
 pub record IsUnmade (bytes : ℕ) (disk : Disk) (fault : RunError) : Type 0 where
   pub stack : Stack
   pub blank : IsStackOf disk stack
@@ -79,12 +79,12 @@ pub record Starts (plan : ScriptValue) (run : DiskRun) : Type 0 where
   pub moment : run.moment ≡ 0
   pub short : run.short ≡ false
 
--- what is on a disk: its content; or where its power failed, what these picks leave
+-- what is on a disk: its content; or if its power failed, what these picks leave
 abbrev pub left_on : Option (List ℕ) → SectorDisk → Content
 left_on None disk = (shown_of disk).content
 left_on (Some picks) disk = left_by (cache_of disk) picks
 
--- The status tells how many entries are placed, the highest sector of 512 bytes that they use (0
+-- The status has the number of placed entries, the highest sector of 512 bytes that they use (0
 -- if there are none), and the cause that ended logging.
 pub record IsCounted (status : Status) (recorder : DiskRecorder) : Type 0 where
   pub entries : status.entries ≡ recorder.store.placed
@@ -98,8 +98,8 @@ pub record IsCounted (status : Status) (recorder : DiskRecorder) : Type 0 where
 abbrev pub seen_on : Disk → List ℕ → Content
 seen_on disk image = moved (top_origin 0 disk.layers) (sector_of image)
 
--- A script was recorded: its lines ran and printed this, the log has come so far, so many calls
--- were dropped and told as done, and the bytes are those of the log's disk; where the script ends
+-- A script was recorded: its lines ran and printed this, the log has this status, this many calls
+-- were dropped and reported as done, and the bytes are those of the log's disk; if the script ends
 -- by a crash, those that its picks leave.
 pub record IsRecorded (plan : ScriptValue) (text : List ℕ) (status : Status) (lies : Lies)
     (image : List ℕ) : Type 0 where
@@ -117,7 +117,7 @@ pub record IsRecorded (plan : ScriptValue) (text : List ℕ) (status : Status) (
   pub size : length image ≡ 512 * plan.log_disk.sectors
   pub bytes : AgreeBelow plan.log_disk.sectors
       (left_on plan.ending (disk_of last.recorder.store.device)) (sector_of image)
-  -- where none of the log's layers may drop writes, none of them lied
+  -- if none of the log's layers may drop writes, none of them lied
   pub honest : some_drops plan.log_disk.layers ≡ false → lies.log_disk ≡ 0
   -- unless the log's device lied, the status is that of what is placed
   pub tells : lies.log_disk ≡ 0
@@ -125,11 +125,11 @@ pub record IsRecorded (plan : ScriptValue) (text : List ℕ) (status : Status) (
       (entries_of (store_of last.recorder.store)) last.recorder.end
   -- unless it lied, the bytes have a log, as seen through its layers, which is a prefix of the
   -- completion list of the recorder's events with all that is settled and all that is acknowledged;
-  -- each beginning of it replays to what the recorded device could hold
+  -- each prefix of it replays to what the recorded device could hold
   pub beginning : lies.log_disk ≡ 0 →
       ReplaysToWhatCouldBe (recorder_view last.recorder) (recorder_view last.recorder)
       (seen_on plan.log_disk image)
-  -- where the script closed and logging goes on, it is the whole list
+  -- if the script closed and logging goes on, it is the whole list
   pub whole : lies.log_disk ≡ 0 → has_no_close (core_of last.recorder).events ≡ false
       → last.recorder.end ≡ None →
       IsLogOf (top_of plan.log_disk) (seen_on plan.log_disk image) (bytes_of plan.log_size)

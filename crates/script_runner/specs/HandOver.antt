@@ -1,4 +1,4 @@
--- What handing a request over to the data device comes to.
+-- What passing a request to the data device does.
 use Rattle.std.specs.Prelude.{List, Option, ◌≡◌, ◌⊎◌, ℕ, true, false, Result, Some, None, Ok, Err}
 use Rattle.std.specs.Prelude.{◌*◌, length}
 use Rattle.bio.specs.declared.outcome.DevError.{DevError}
@@ -11,14 +11,14 @@ use Rattle.blockdev.specs.Calls.{Call, Discards, Flushes, Writes, Reads}
 abbrev pub Deeds : Type 0 → Type 1
 Deeds D = D → Call → ℕ → Result ℕ DevError → D → Type 0
 
--- a flush, and then a call, where the flush succeeded; the answer is that of the last of them
+-- a flush, and then a call, if the flush succeeded; the answer is that of the last of them
 abbrev pub FlushesFirst : {D : Type 0} → Deeds D → ℕ → Call → Result ℕ DevError → D → D → Type 0
 FlushesFirst {D} does now call answer old new =
     ((error : DevError) × (answer ≡ Err error) × does old Flushes now answer new)
     ⊎ ((mid : D) × (end : ℕ) × does old Flushes now (Ok end) mid × does mid call now answer new)
 
 -- A request is passed on at this moment, and the device gives this answer: a write with flush is
--- passed on as a flush, and then as the write where the flush succeeded.
+-- passed on as a flush, and then as the write if the flush succeeded.
 abbrev pub HandsOver : {D : Type 0} → Deeds D → ℕ → Bio → Result ℕ DevError → D → D → Type 0
 HandsOver does now (bios.Write first bytes true fua meta) answer old new =
     FlushesFirst does now (Writes first bytes fua) answer old new

@@ -98,7 +98,7 @@ pub record SubmitsNext {D L : Type 0} {d : Ghosts D} {l : Ghosts L} (names : Lis
   pub short : new.short ≡ old.short
   pub prints : text ≡ submission_text (name_at names (length old.requests.items)) request
 
--- how the recorder hears of the end of a request that it follows by this id, or passed
+-- how the end of a request is recorded that the recorder follows by this id, or passed
 abbrev pub HearsEnd : {L : Type 0} {l : Ghosts L} → Option ℕ → Bool → Recorder L l → Recorder L l
     → Type 0
 HearsEnd (Some id) ok old new = (reply : Reply) × Completes id ok reply old new
@@ -160,7 +160,7 @@ pub record GivesTurn {D L : Type 0} {d : Ghosts D} {l : Ghosts L} (text : List �
   pub turns : Turns turn old.recorder new.recorder
   pub short : new.short ≡ (old.short || is_memory_end turn)
 
--- what the line of a mark prints by the recorder's reply: nothing where the mark is queued or
+-- what the line of a mark prints by the recorder's reply: nothing if the mark is queued or
 -- passed; and that it failed if there is no memory for it, which is the only refusal
 abbrev pub PrintsMark : Reply → List ℕ → Type 0
 PrintsMark (replies.Queued id) printed = printed ≡ []
@@ -168,8 +168,8 @@ PrintsMark replies.Passed printed = printed ≡ []
 PrintsMark (replies.Refused refusal) printed = (refusal ≡ refusals.Memory) × (printed ≡ mark_failed)
 PrintsMark _ printed = ⊥
 
--- A line sets the moment, at which the calls of both devices
--- begin from then on; the recorder hears of nothing.
+-- A line sets the time at which the calls of both devices
+-- begin from then on; nothing is recorded.
 pub record SetsMoment {D L : Type 0} {d : Ghosts D} {l : Ghosts L} (moment : ℕ) (text : List ℕ)
     (old new : Running D L d l) : Type 0 where
   pub keeps : KeepsData text old new
@@ -180,8 +180,8 @@ pub record SetsMoment {D L : Type 0} {d : Ghosts D} {l : Ghosts L} (moment : ℕ
   pub log_moment : new.recorder.store.moment ≡ moment
   pub short : new.short ≡ old.short
 
--- A line tells the recorder of a mark; the data device isn't called.
--- A mark is refused for lack of memory alone.
+-- A line records a mark; the data device isn't called. A mark
+-- is refused only for lack of memory.
 pub record TellsMark {D L : Type 0} {d : Ghosts D} {l : Ghosts L} (mark text : List ℕ)
     (old new : Running D L d l) : Type 0 where
   pub device : new.disk ≡ old.disk
@@ -281,15 +281,15 @@ PrintsLine m names command before after old new =
 abbrev pub count_of : Command → ℕ
 count_of command = if is_submission command then 1 else 0
 
--- what a line covers is within a data device of so many
--- sectors, and aligned to a log's sectors of so many bytes
+-- what a line covers is within a data device of `sectors`
+-- sectors, and aligned to a log's sectors of `bytes` bytes
 abbrev pub FitsDevice : (bytes sectors : ℕ) → Command → Type 0
 FitsDevice bytes sectors (commands.Submit submission) =
     submission_answer bytes sectors submission ≡ Ok tt
 FitsDevice bytes sectors (commands.Complete request) = Unit {0}
 FitsDevice bytes sectors (commands.Step step) = step_answer bytes sectors step ≡ Ok tt
 
--- a mark's text may stand in a line of a script
+-- a mark's text may be in a line of a script
 abbrev pub HasScriptText : Command → Type 0
 HasScriptText (commands.Submit submission) = Unit {0}
 HasScriptText (commands.Complete request) = Unit {0}
@@ -330,7 +330,7 @@ StopsLine m command before after old stop =
     StopsForFile stop ⊎ (StopsAtClose command before after stop old.recorder
     ⊎ StopsAtMessage m command before after stop old)
 
--- the request that a line ends is one of so many
+-- the request that a line ends is one of the first `requests`
 abbrev pub EndsSubmitted : ℕ → Command → Type 0
 EndsSubmitted requests (commands.Submit submission) = Unit {0}
 EndsSubmitted requests (commands.Complete request) = request < requests

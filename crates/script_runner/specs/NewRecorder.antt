@@ -16,8 +16,8 @@ use Rattle.refusals.specs.declared.run_error.RunError.{RunError}
 use Rattle.refusals.specs.declared.run_error.RunError.TheVariants.{LoggingEnded}
 use Rattle.recorder.specs.Fields.{core_of}
 
--- Nothing is recorded yet, and a log of no entries, with sectors of so many bytes, was made on this
--- device: unless it lied, a crash leaves just that.
+-- Nothing is recorded yet, and a log of no entries, with sectors of `bytes` bytes, was made on this
+-- device: unless it lied, a crash leaves exactly that.
 pub record IsNewOn {L : Type 0} {l : Ghosts L} (bytes : ℕ) (device : L)
     (recorder : Recorder L l) : Type 0 where
   pub core : core_of recorder ≡ sized_state bytes
@@ -30,7 +30,7 @@ pub record IsNewOn {L : Type 0} {l : Ghosts L} (bytes : ℕ) (device : L)
       → (l.shown recorder.store.device).crash left →
       IsLogOf (l.shown recorder.store.device).size left bytes []
 
--- No log with sectors of so many bytes could be made on this device: the write of its super block
+-- No log with sectors of `bytes` bytes could be made on this device: the write of its super block
 -- was answered by this error, and that is the cause.
 pub record IsUnmadeOn {L : Type 0} (l : Ghosts L) (bytes : ℕ) (device : L)
     (fault : RunError) : Type 0 where

@@ -1,4 +1,4 @@
--- What rehearsing a script comes to: it runs on two disks in memory as a recording does, and only
+-- The result of rehearsing a script: it runs on two disks in memory as a recording does, and only
 -- the recorder's events are kept.
 use Rattle.std.specs.Prelude.{◌≡◌, ◌⊎◌, ℕ, Bool, true, false, List, None}
 use Rattle.std.specs.List.{list_all, list_any}
@@ -46,7 +46,7 @@ pub record CameShort (plan : ScriptValue) : Type 0 where
       ⊎ (list_any is_memory_stop (core_of last.recorder).events ≡ true))
 
 -- rehearsing a script, which was read from a text, fails as recording it does, with a writer of
--- which nothing is known; and where its lines ran but came short, with Memory, at no line
+-- which nothing is known; and if its lines ran but came short, with Memory, at no line
 abbrev pub FailsRehearsal : List ℕ → ScriptValue → RunError → Type 0
 FailsRehearsal text plan fault =
     FailsOnDisks text plan None None fault ⊎ (CameShort plan × (fault ≡ memory_error))

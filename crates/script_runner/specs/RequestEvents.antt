@@ -1,4 +1,4 @@
--- Which events the requests of a script's run stand for.
+-- Which events the requests of a script's run are.
 use Rattle.std.specs.Prelude.{◌≡◌, ℕ, List, [], ◌∷◌, Some, slice_get}
 use Rattle.bio.specs.declared.event.CoreEvent.TheVariants as core_events
 use Rattle.bio.specs.declared.request.Bio.{Bio}
@@ -12,7 +12,7 @@ use Rattle.script_runner.specs.declared.running.Running.{Running}
 use Rattle.script_runner.specs.Submissions.{bio_of}
 use Rattle.recorder.specs.Fields.{core_of}
 
--- each request that the recorder follows stands in its events at its id, as it was asked
+-- each request that the recorder follows is in its events at its id, as it was asked
 abbrev pub IsFollowed : {D L : Type 0} {d : Ghosts D} {l : Ghosts L} → Running D L d l → Type 0
 IsFollowed run =
     (place : ℕ) (bio : Bio) (id : ℕ)

@@ -1,4 +1,4 @@
--- What the lines of a script come to, one after another.
+-- What the lines of a script do, one after another.
 use Rattle.std.specs.Prelude.{◌≡◌, ◌+◌, ℕ, List, [], ◌∷◌, ◌++◌, Option, length}
 use Rattle.std.specs.Io.KnownBytes.{Appends}
 use Rattle.blockdev.specs.declared.device.BlockDev.{Ghosts}
@@ -21,7 +21,7 @@ use Rattle.script_runner.specs.declared.running.Running.{Running}
 use Rattle.refusals.specs.Errors.{IsFileError}
 use Rattle.script_runner.specs.Lines.{Answering, RefusesMessage, RunsLine}
 
--- steps one after another, from one state to another; what they print stands one after another
+-- steps one after another, from one state to another; they print one after another
 abbrev pub Chain : {C S : Type 0} → (C → List ℕ → S → S → Type 0) → List C → List ℕ → S → S → Type 0
 Chain Step [] text old new = (text ≡ []) × (new ≡ old)
 Chain {S = S} Step (c ∷ cs) text old new =

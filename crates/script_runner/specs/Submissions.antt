@@ -16,7 +16,7 @@ bio_of (submits.Write first count byte options) =
 bio_of submits.Flush = bios.Flush
 bio_of (submits.Discard first count) = bios.Discard first count
 
--- the request passes the test of a device of so many sectors
+-- the request passes the test of a device of this many sectors
 abbrev pub fits_device : ℕ → Request → Bool
 fits_device sectors (requests.Asked bio id) = is_ok (check_answer bio sectors)
 fits_device sectors requests.NotAsked = true

@@ -15,7 +15,7 @@ outcome_word false = codes "failed"
 abbrev pub outcome_line : ScriptId → Bool → List ℕ
 outcome_line name ok = letters_of name ++ codes " " ++ outcome_word ok ++ codes "\n"
 
--- the first byte of each of so many sectors, as two hexadecimal digits
+-- the first byte of each of `count` sectors, as two hexadecimal digits
 abbrev pub first_bytes : ℕ → List ℕ → List ℕ
 first_bytes count bytes =
     collect (λ sector. byte_text (slice_index_or bytes (sector * 512) 0)) count

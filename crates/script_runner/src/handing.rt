@@ -11,8 +11,8 @@ use std::alloc::Global;
 // A sector's size in bytes.
 const SECTOR: usize = SECTOR_BYTES as usize;
 
-// Hands a request over to a device: a write with flush as a flush, and then the write where the
-// flush succeeded. Answers as the device did to the last call.
+// Passes a request to a device: a write with flush as a flush, and then the write if the flush
+// succeeded. Returns the device's answer to the last call.
 pub(crate) fn do_request<D: BlockDev>(device: &mut D, now: Ms, bio: &Bio) -> Result<Ms, DevError>
     requires { IsTrue (is_ok (check_answer bio.now (D.shown device.old).size)) }
     ensures does { HandsOver D.does now bio.now result device.old device.new }
@@ -64,7 +64,7 @@ fn write<D: BlockDev>(
     device.write(now, first, bytes, fua)
 }
 
-// Reads so many sectors from a device; none if there is no memory for them or the read fails.
+// Reads sectors from a device; none if there is no memory for them or the read fails.
 pub(crate) fn read_sectors<D: BlockDev>(
     device: &mut D,
     alloc: Global,

@@ -31,19 +31,18 @@ use blockdev::Message;
 use layer_table::Stack;
 
 /// After any list of submissions, completions, marks and writer's turns, whatever calls the layers
-/// fail, and a crash at any moment, inside a log write too, the reopened log is a prefix of the
+/// fail, and a crash at any moment, inside a log write too, the reopened log is a beginning of the
 /// completion list and holds every mark and FUA write acknowledged as logged; replaying any
 /// beginning of it gives a content that the recorded device could hold had power failed there.
 ///
 /// `old` is the recorder over a stack of layers before some of its calls, and `new` after them:
-/// `RecorderFrame` holds of each call and of several (`recorder::laws::several_calls_go_as_one`).
-/// `left` is what a crash at any moment since `old` may have left of the log's device. Of five
-/// premises one is asked for, that no layer of the log told a lie. That the log was created with
-/// success is of the type: a recorder is made over no other. That the log's device keeps the law of
-/// a device is proved of each stack. The first content may be any. And no device need answer when
-/// the log is reopened and replayed: both are definitions here, to which `log_reader::LogReader`
-/// and `replay::replay` come where the devices answer Ok, without a new lie, and memory isn't
-/// refused.
+/// `RecorderFrame` holds for each call and for several (`recorder::laws::several_calls_go_as_one`).
+/// `left` is what a crash at any moment since `old` may have left of the log's device. The only
+/// premise is that no layer of the log lied. Four others aren't needed. The type says that the log
+/// was created with success: a recorder is made over no other. Each stack is proved to keep the law
+/// of a device. The first content may be any. And no device need answer when the log is reopened
+/// and replayed: both are definitions here. `log_reader::LogReader` and `replay::replay` compute
+/// them if the devices answer Ok, without a new lie, and memory isn't refused.
 pub fn headline()
     ensures { (old new : DiskRecorder) (left : Content)
         → RecorderFrame (recorder_view old) (recorder_view new) →
@@ -74,9 +73,9 @@ pub fn lines_go_as_one_call<D: Message + Drop, L: Message + Drop>()
     recorder::laws::several_calls_go_as_one::<L>();
 }
 
-/// The calls of both devices begin at one moment: at 0 before the first
-/// line of a script, and after some lines where they did before them.
-/// So each line calls its device at the moment that the last `at` said.
+/// The calls of both devices begin at one time: at 0 before the first
+/// line of a script, and after some lines if they did before them. So
+/// each line calls its device at the time that the last `at` set.
 pub fn both_devices_are_called_at_one_moment<D: Message + Drop, L: Message + Drop>()
     ensures start { (plan : ScriptValue) (run : DiskRun) → Starts plan run
         → run.recorder.store.moment ≡ run.moment }
@@ -87,9 +86,9 @@ pub fn both_devices_are_called_at_one_moment<D: Message + Drop, L: Message + Dro
         new.recorder.store.moment ≡ new.moment }
 {}
 
-/// Each line that submits asks the recorder of the request that it says, in the order of the lines,
-/// unless there is no memory for it. And each request that the recorder follows stands in its
-/// events, at its id, as it was asked.
+/// Each line that submits passes its request to the recorder, in the order of the lines, unless
+/// there is no memory for it. And each request that the recorder follows is in its events, at its
+/// id, as it was asked.
 pub fn requests_stand_in_the_events<D: Message + Drop, L: Message + Drop>()
     ensures asked { (names : List ScriptId) (body : List Command) (text : List ℕ)
         (old new : Running D L D.BlockDev L.BlockDev) →
@@ -102,7 +101,7 @@ pub fn requests_stand_in_the_events<D: Message + Drop, L: Message + Drop>()
         → IsFollowed new }
 {}
 
-/// A mark that a line has queued stands in the recorder's events, at its place and with its text,
+/// A mark that a line has queued is in the recorder's events, at its place and with its text,
 /// whatever lines run after it.
 pub fn marks_stand_in_the_events<D: Message + Drop, L: Message + Drop>()
     ensures { (names : List ScriptId) (body : List Command) (mark text more : List ℕ) (id : ℕ)
@@ -133,9 +132,9 @@ pub fn crashes_of_a_run_leave_beginnings<D: Message + Drop, L: Message + Drop>()
     recorder::laws::crashes_leave_beginnings::<L>();
 }
 
-/// Where a script's run ends with recording closed and logging going on, also with lines after the
-/// Close, all of the completion list of the recorder's events is placed; and where the log's device
-/// didn't lie, the log of its content is whole, and so is that of whatever a crash leaves.
+/// If a script's run ends with recording closed and logging going on, also with lines after the
+/// Close, all of the completion list of the recorder's events is placed. If the log's device didn't
+/// lie either, the log of its content is whole, and so is that of whatever a crash leaves.
 pub fn closed_runs_leave_whole_logs<D: Message + Drop, L: Message + Drop>()
     ensures placed { (names : List ScriptId) (body : List Command) (text : List ℕ)
         (old new : Running D L D.BlockDev L.BlockDev) →

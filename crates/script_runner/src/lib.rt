@@ -4,7 +4,7 @@
 //! `Running` is a script's run so far: the recorder over the log's device, the data device, and the
 //! requests that were submitted. `run` runs the lines of a script one after another. `specs/Lines`
 //! says what each line does and prints, in one case for each kind of line, and `specs/Runs` what
-//! all lines come to.
+//! all lines do.
 #![tactic(auto)]
 
 pub use playing::new_stack;

@@ -25,7 +25,7 @@ use std::io::Write;
 // What a script's run left.
 #[derive(Drop)]
 pub(crate) struct Played<L: BlockDev + Drop> {
-    // The recorder, as it stands.
+    // Returns the recorder as it is.
     pub(crate) recorder: Recorder<L>,
     // How often the layers over the data device have lied.
     pub(crate) data_lies: u64,
@@ -50,7 +50,7 @@ pub(crate) fn play_on_disks<O: Write>(
     play_beside(alloc, text, script, log, out)
 }
 
-// The same, where the log's disk stands under its layers.
+// As above, over the log's disk under its layers.
 fn play_beside<L: Message + Drop, O: Write>(
     alloc: Global,
     text: &[u8],
@@ -109,7 +109,7 @@ fn play<D: Message + Drop, L: Message + Drop, O: Write>(
 }
 
 // A run before its first line, over a new log with such sectors on one device and over another
-// device, with room for so many requests.
+// device, with room for this many requests.
 fn start_on<D: BlockDev + Drop, L: BlockDev + Drop>(
     alloc: Global,
     log: L,

@@ -50,7 +50,7 @@ pub(crate) fn print_outcome<O: Write>(
     Ok(writeln!(out, "{name} {word}")?)
 }
 
-// Says that there was no memory for a mark, where the recorder refused it.
+// Prints that there was no memory for a mark, if the recorder refused it.
 pub(crate) fn print_mark<O: Write>(reply: Reply, out: &mut O) -> Result<(), StepError>
     ensures output { OnOk result
         (Appends (O.contents out.old) (O.contents out.new) (mark_outcome reply)) }
@@ -85,7 +85,7 @@ pub(crate) fn print_read<O: Write>(
     }
 }
 
-// Prints the first byte of each of so many sectors.
+// Prints the first byte of each of `count` sectors.
 fn print_first_bytes<O: Write>(count: u64, bytes: &[u8], out: &mut O) -> Result<(), StepError>
     requires { length bytes.now ≡ count * 512 }
     ensures output { OnOk result

@@ -18,7 +18,7 @@ use sector_disk::SectorDisk;
 use std::alloc::Global;
 use std::io::Write;
 
-/// How many calls the layers of a disk have dropped and told as done; each stops at 2^64 - 1.
+/// How many calls the layers of a disk have dropped and reported as done; each stops at 2^64 - 1.
 #[derive(Clone, Copy, Debug, PartialEq, Eq)]
 pub struct Lies {
     /// Those over the data disk.
@@ -30,7 +30,7 @@ pub struct Lies {
 /// What recording a script left.
 #[derive(Debug, Drop)]
 pub struct RunResult {
-    /// The log's disk, beneath its layers.
+    /// The log's disk, below its layers.
     pub disk: SectorDisk,
     /// How far the log has come.
     pub status: Status,
@@ -75,7 +75,7 @@ pub fn record<O: Write>(
     Ok(RunResult { disk, status, lies })
 }
 
-// The log's disk; where its power fails, after that.
+// Returns the log's disk; if its power fails, after that.
 fn left_disk(log: Stack, picks: Option<&[u64]>) -> SectorDisk
     ensures size { (shown_of result).size ≡ (shown_of (disk_of log)).size }
     ensures content { AgreeBelow (shown_of (disk_of log)).size

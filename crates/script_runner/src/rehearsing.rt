@@ -1,4 +1,4 @@
-//! Runs a script for its events alone: `events_of_run` is what a judge asks for.
+//! Runs a script only for its events: a judge calls `events_of_run`.
 ghost use Rattle.std.specs.Prelude.{◌≡◌, ◌&&◌, IfErr, IfOk, false, not, true};
 ghost use Rattle.std.specs.List.{list_any};
 ghost use Rattle.bio.specs.Lawful.{all_aligned, is_lawful};
@@ -45,9 +45,9 @@ impl Rehearsed {
 }
 
 /// Runs a script, which was read from `text`, as `record` does, on two disks in memory, and keeps
-/// the recorder's events alone: what its lines print is dropped, and so is the log. Where logging
-/// ends before the script does, the run goes on. It fails as `record` does. And where the run went
-/// on though something in it found no memory, so that its events may be others than those with
+/// only the recorder's events: what its lines print is dropped, and so is the log. If logging ends
+/// before the script does, the run goes on. It fails as `record` does. And if the run went on
+/// though something in it found no memory, so that its events may be others than those with
 /// enough, it is refused with Memory, at no line. A read that finds none is no matter: what reads
 /// print is dropped.
 pub fn events_of_run(alloc: Global, text: &[u8], script: &Script) -> Result<Rehearsed, RunError>
@@ -80,8 +80,8 @@ fn is_ample(asked: bool, events: &[CoreEvent]) -> bool
     asked && !has_memory_stop(events)
 }
 
-// What was made, where there was memory enough for all of it.
-// Of any type, so that what it may drop isn't looked into.
+// Returns what was made, if there was enough memory for all of
+// it. It is generic, so that the prover needn't look into a drop.
 fn kept_if<T: Drop>(ample: bool, made: T) -> Result<T, RunError>
     ensures kept { IfOk result (λ it. (it ≡ made) × (ample ≡ true)) }
     ensures refused { IfErr result (λ fault. (fault ≡ memory_error) × (ample ≡ false)) }

@@ -40,7 +40,7 @@ impl<D: BlockDev + Drop, L: BlockDev + Drop> Running<D, L> {
     ghost use Rattle.std.specs.Prelude.{◌≡◌, IfOk, [], false};
     ghost use Rattle.script_runner.specs.Lines.{is_ample};
 
-    /// The run of a script before its first line, at moment 0, with room for so many requests.
+    /// The run of a script before its first line, at time 0, with room for `requests` requests.
     pub fn new(
         alloc: Global,
         recorder: Recorder<L>,
@@ -77,7 +77,7 @@ impl<D: BlockDev + Drop, L: BlockDev + Drop> Running<D, L> {
         !self.short && are_asked(self.requests.as_slice())
     }
 
-    /// The recorder and the data device, as they stand.
+    /// Returns the recorder and the data device as they are.
     pub fn into_parts(self) -> (Recorder<L>, D)
         ensures recorder { result.0 ≡ self.recorder }
         ensures device { result.1 ≡ self.disk }

@@ -27,7 +27,7 @@ pub(crate) fn is_refusal(reply: &Reply) -> bool
     matches!(reply, Reply::Refused(_))
 }
 
-// The turn that tells such a result of a drain.
+// The last turn of a drain with this result.
 pub(crate) fn last_turn(ended: Result<(), End>) -> Turn
     ensures { result ≡ last_turn ended }
 {

@@ -1,4 +1,4 @@
--- What a run of several seats comes to.
+-- The result of a run of several seats.
 use Rattle.std.specs.Prelude.{◌≡◌, ◌==◌, ◌⊎◌, ℕ, ◌*◌, false, List, [], ◌∷◌, length, slice_get, Some}
 use Rattle.std.specs.Prelude.{if◌then◌else◌}
 use Rattle.refusals.specs.declared.end.End.{End}
@@ -65,8 +65,8 @@ calls_of number [] = []
 calls_of number (line ∷ lines) =
     if line.seat == number then line.call ∷ calls_of number lines else calls_of number lines
 
--- A new seat of this number made the calls of its lines, one after the other, so many of them came
--- to what, and these are the receipts that it was given.
+-- A new seat of this number made the calls of its lines, one after the other; the tally counts
+-- their answers, and these are the receipts that it was given.
 pub record IsSeatRun (lines : List SeatCall) (number : ℕ) (seat : Part) (tally : Tally)
     (receipts : List Receipt) : Type 0 where
   pub calls : List Came
@@ -83,8 +83,8 @@ pub record HasRun (lines : List SeatCall) (tallies : List Tally) (given : List (
   pub kept : slice_get given number ≡ Some receipts
   pub ran : IsSeatRun lines number seat tally receipts
 
--- A recorder of a device of so many sectors, whose log lies on this ground and has sectors of so
--- many bytes, was closed with these seats and receipts, and this is what it returned.
+-- A recorder of a device of `sectors` sectors, whose log is on this ground and has sectors of
+-- `bytes` bytes, was closed with these seats and receipts, and this is what it returned.
 pub record IsClosed (ground : Ground) (bytes sectors : ℕ) (seats : List Part)
     (receipts : List Receipt) (closed : Closed Stack Stack) : Type 0 where
   -- what the seats noted is one legal history, to which all
@@ -147,9 +147,9 @@ pub record IsRun (plan : RunPlan) (tallies : List Tally) (status : Status) (lies
     data_disk = (stack_shown closed.device).lies;
     log_disk = (stack_shown closed.log).lies;
   }
-  -- where none of the log's layers may drop writes, none of them lied
+  -- if none of the log's layers may drop writes, none of them lied
   pub honest : some_drops plan.log_disk.layers ≡ false → lies.log_disk ≡ 0
-  -- the bytes are those of the disk beneath the log's layers, and as many as the script says
+  -- the bytes are those of the disk below the log's layers, and as many as the script says
   pub bytes : image ≡ gather (shown_of (disk_of closed.log)).content 0
       (shown_of (disk_of closed.log)).size
   pub size : length image ≡ 512 * plan.log_disk.sectors
@@ -159,7 +159,7 @@ pub record IsRun (plan : RunPlan) (tallies : List Tally) (status : Status) (lies
       (top_of plan.log_disk) closed.settled closed.core.state closed.end
       (seen_on plan.log_disk image)
 
--- Calls aren't made, or the writer isn't told to end, for one of these: there is no memory, a
+-- Calls aren't made, or the writer isn't asked to end, for one of these: there is no memory, a
 -- request is open, or the writer has no thread.
 abbrev pub IsUnplayed : Refusal → Type 0
 IsUnplayed refusal =

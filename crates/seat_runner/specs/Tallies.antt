@@ -57,7 +57,7 @@ abbrev pub receipts_of : List Came → List Receipt
 receipts_of [] = []
 receipts_of (came ∷ others) = and_kept [] came.receipt ++ receipts_of others
 
--- all of several lists of receipts, one list behind the other
+-- all of several lists of receipts, one list after the other
 abbrev pub joined : List (List Receipt) → List Receipt
 joined [] = []
 joined (receipts ∷ others) = receipts ++ joined others
@@ -110,7 +110,7 @@ counted tally Failed = record tally { failed = tally.failed + 1 }
 counted tally NotLogged = record tally { not_logged = tally.not_logged + 1 }
 counted tally Refused = record tally { refused = tally.refused + 1 }
 
--- One call more may be counted, whatever it comes to.
+-- One call more may be counted, whatever its answer.
 pub record HasRoom (tally : Tally) : Type 0 where
   pub done : tally.done < 2 ^ 64 - 1
   pub logged : tally.logged < 2 ^ 64 - 1

@@ -1,8 +1,8 @@
 //! Runs a script of `dmlw run`: a thread for each seat makes the calls of its lines in order, at
 //! moment 0, and one more writes the log.
 //!
-//! `run_seats` runs a script on two disks in memory, closes the recorder, and hands over each
-//! seat's tally and the log's disk. `specs/SeatRuns` says what a run comes to.
+//! `run_seats` runs a script on two disks in memory, closes the recorder, and returns each seat's
+//! tally and the log's disk. `specs/SeatRuns` has the result of a run.
 #![tactic(auto)]
 
 pub use seat_run::{Ran, run_seats};

@@ -18,7 +18,7 @@ use std::thread::Threads;
 
 // Starts the writer, makes all calls, a thread for each seat, and
 // asks to close. A seat whose thread can't be started makes its
-// calls on this one; where the writer has no thread no call is made.
+// calls on this one; if the writer has no thread, no call is made.
 pub(crate) fn run_all<
     D: BlockDev + Drop + Send,
     L: BlockDev + Drop + Send,

@@ -35,7 +35,7 @@ use std::thread::Threads;
 pub struct Ran {
     /// What each seat's calls came to, in the order of the seats.
     pub tallies: Vec<Tally>,
-    /// The log's disk, beneath its layers.
+    /// The log's disk, below its layers.
     pub disk: SectorDisk,
     /// How far the log has come.
     pub status: Status,
@@ -140,7 +140,7 @@ fn end_of(refused: (Stack, Stack, End)) -> End
     refused.2
 }
 
-// The seats, of which there are so many, before their first calls.
+// Makes the works of all seats, before their first calls.
 fn works_of<R: Run + Names>(
     alloc: Global,
     seats: Vec<Seat<R>>,

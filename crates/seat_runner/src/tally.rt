@@ -10,7 +10,7 @@ use shared::{Answer, MarkAnswer};
 pub enum Outcome {
     /// It succeeded.
     Done,
-    /// It succeeded, and its entry stands in each log that a crash leaves.
+    /// It succeeded, and its entry is in each log that a crash leaves.
     Logged,
     /// The device failed it, or there was no memory.
     Failed,

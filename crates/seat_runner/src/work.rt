@@ -75,7 +75,7 @@ impl<R: Run + Names> Work<R> {
         }
     }
 
-    // Makes the call of a line, where it is the seat's own.
+    // Makes the call of a line, if it is the seat's own.
     fn run_line<D: BlockDev + Drop, L: BlockDev + Drop, H: Wait>(
         &mut self,
         rt: &H,

@@ -1,4 +1,4 @@
--- What playing a script comes to, on any data device and a new log on any other device.
+-- What playing a script does, on any data device and a new log on any other device.
 use Rattle.std.specs.Prelude.{◌≡◌, ℕ, Bool, false, List, [], Option}
 use Rattle.std.specs.Io.KnownBytes.{Appends, Keeps}
 use Rattle.blockdev.specs.declared.device.BlockDev.{Ghosts}
@@ -14,8 +14,8 @@ use Rattle.layer_table.specs.Layers.{on_stack}
 use Rattle.script_runner.specs.DiskRun.{IsStackOf}
 use Rattle.script_runner.specs.Runs.{EndsRun, RunsLines}
 
--- A script's run before its first line, at moment 0: on this data device, and on a new log on this
--- device, with sectors of so many bytes.
+-- A script's run before its first line, at time 0: on this data device, and on a new log on this
+-- device, with sectors of `bytes` bytes.
 pub record StartsOn {D L : Type 0} {d : Ghosts D} {l : Ghosts L} (bytes : ℕ) (disk : D) (log : L)
     (run : Running D L d l) : Type 0 where
   pub disk_is : run.disk ≡ disk
@@ -34,8 +34,8 @@ pub record StartsBeside {L : Type 0} {l : Ghosts L} (bytes : ℕ) (data_disk : D
   pub short : run.short ≡ false
 
 -- A script was played from such a start: its lines ran, what they print was added to what a writer
--- holds, and it left this recorder and so many calls of the data device that were dropped and told
--- as done; and it is said whether it found memory.
+-- holds, and it left this recorder and this many calls of the data device that were dropped and
+-- reported as done; and whether it found memory.
 pub record IsPlayed {D L : Type 0} {d : Ghosts D} {l : Ghosts L} (m : Answering D L)
     (plan : ScriptValue) (Start : Running D L d l → Type 0) (before after : Option (List ℕ))
     (recorder : Recorder L l) (lies : ℕ) (ample : Bool) : Type 0 where

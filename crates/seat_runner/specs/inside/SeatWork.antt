@@ -26,8 +26,8 @@ abbrev pub new_player : ℕ → Player
 new_player number =
     record { number = number; part = new_part number; tally = no_calls; receipts = [] }
 
--- The script is one for a recorder of a device of so many
--- sectors, whose log has sectors of so many bytes.
+-- The script is one for a recorder of a device of `sectors`
+-- sectors, whose log has sectors of `bytes` bytes.
 pub record FitsRecorder (bytes sectors : ℕ) (plan : RunPlan) : Type 0 where
   pub log_size : bytes_of plan.log_size ≡ bytes
   pub data_size : top_of plan.data_disk ≡ sectors
@@ -37,8 +37,8 @@ pub record CanMake (bytes sectors : ℕ) (call : Call) : Type 0 where
   pub tested : call_answer bytes sectors call ≡ Ok tt
   pub spelled : FitsLine call
 
--- A seat makes a call, which comes to this outcome; it
--- keeps the receipt that it was given, if there is one.
+-- A seat makes a call with this outcome; it keeps the
+-- receipt that it was given, if there is one.
 pub record Makes (call : Call) (old : Player) (outcome : Outcome) (new : Player) : Type 0 where
   pub came : Came
   pub made : IsMade old.part call came new.part
@@ -47,7 +47,7 @@ pub record Makes (call : Call) (old : Player) (outcome : Outcome) (new : Player)
   pub number : new.number ≡ old.number
   pub tally : new.tally ≡ old.tally
 
--- A line is done: where it is the seat's own its call was made, and counted.
+-- A line is done: if it is the seat's own, its call was made, and counted.
 pub record DoesLine (line : SeatCall) (old new : Player) : Type 0 where
   pub number : new.number ≡ old.number
   pub ran : (before : List SeatCall) → length before < 2 ^ 64 - 1

@@ -1,4 +1,4 @@
--- What a command line comes to.
+-- The result of a command line.
 use Rattle.std.specs.Prelude.{◌≡◌, ◌≤◌, ◌⊎◌, ◌++◌, ℕ, Bool, true, false, Err, IfErr, List}
 use Rattle.std.specs.Prelude.{MatchResult, Option, Result, codes}
 use Rattle.std.specs.declared.io.ErrorKind.{ErrorKind as IoErrorKind}
@@ -64,7 +64,7 @@ abbrev pub AsksForOne : Option (List Write) → Option (List Write) → Type 0
 AsksForOne old new = (name : List ℕ) × AsksFor name old new
 
 -- How every command line ends: with a status from 0 to 3, and it has asked for one file at most to
--- be written, and for none where the status is 2.
+-- be written, and for none if the status is 2.
 pub record EndsCommand (old new : Option (List Write)) (status : ℕ) : Type 0 where
   pub known : status ≤ 3
   pub once : (new ≡ old) ⊎ AsksForOne old new
@@ -114,7 +114,7 @@ abbrev pub LeavesReplayed : List ℕ → Option (List ℕ) → Option (List ℕ)
 LeavesReplayed what log_file first_file written =
     (upto : Upto) × IsWhat what upto × HoldsReplayed log_file first_file upto written
 
--- the argument that such a word stands for, the forms that are possible there, and where help is
+-- the argument of such a word, the forms that are possible there, and where help is
 abbrev pub flaw_forms : Flaw → List ℕ
 flaw_forms flaws.What =
     codes
@@ -126,12 +126,12 @@ flaw_forms flaws.Moment =
     codes
     "'<M>'\n  [possible values: a number of 1 to 20 digits, below 2^64]\n\nFor more information, try 'dmlw help judge'."
 
--- what a user is told of a word that is none of those that stand in its place
+-- what a user reads about a word that isn't one of those that are possible in its place
 abbrev pub flaw_text : Flaw → List ℕ → List ℕ
 flaw_text flaw word =
     codes "error: invalid value '" ++ (word ++ (codes "' for " ++ (flaw_forms flaw ++ codes "\n")))
 
--- How a command line ends that has such a word: as a usage fault, of which the text was told.
+-- How a command line ends that has such a word: as a usage fault, whose text was printed.
 -- Nothing was printed on the output, and no file was asked to be written.
 pub record EndsFlawed (flaw : Flaw) (word : List ℕ) (writes_old writes_new : Option (List Write))
     (old new : Option (List ℕ)) (t : ErrStream) (ended : Ended) : Type 0 where
@@ -175,8 +175,8 @@ EndsTask (tasks.Show error) contents writes_old writes_new old new t ended =
 EndsTask (tasks.Flawed flaw word) contents writes_old writes_new old new t ended =
     EndsFlawed flaw word.now writes_old writes_new old new t ended
 
--- What a recording or a run leaves in its log's file, by how it ends: what `holds` says of it where
--- it is done; so it does where logging ended, unless each file holds what it held.
+-- What a recording or a run leaves in its log's file, by how it ends: what `holds` says of it, if
+-- it is done; also if logging ended, unless each file holds what it held.
 pub record LeavesBy (holds : Exit → Option (List ℕ) → Type 0) (log : List ℕ)
     (contents later : List ℕ → Option (List ℕ)) (exit : Exit) : Type 0 where
   pub done : exit ≡ Done → holds Done (later log)

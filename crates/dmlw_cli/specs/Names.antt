@@ -22,7 +22,7 @@ name_text names.Copy = codes "copy"
 name_text names.Judge = codes "judge"
 name_text names.Path = codes "path"
 
--- the command, where the word is its name; else what the word is otherwise
+-- the command, if the word is its name; else what the word is otherwise
 abbrev pub named_or : Name → List ℕ → Option Name → Option Name
 named_or name word other = if is_same word (name_text name) then Some name else other
 

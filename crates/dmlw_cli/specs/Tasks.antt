@@ -21,8 +21,8 @@ use Rattle.refusals.specs.Words.{IsNumber, is_number}
 abbrev pub IsWord : List Row → Text → Text → Type 0
 IsWord rows argument word = first_of argument rows ≡ Some word
 
--- The task is what a command asks for with the words of these rows: by a WHAT, a SECTORS or an M
--- that is none, to tell so; or there was no memory to read the command line.
+-- The task is what a command asks for with the words of these rows. If a WHAT, a SECTORS or an M
+-- isn't one, the task reports that; or there was no memory to parse the command line.
 abbrev pub AsksBy : Name → List Row → Task → Type 0
 AsksBy names.Record rows (tasks.Record script log) =
     IsWord rows (codes "SCRIPT") script.now × IsWord rows (codes "LOG") log.now

@@ -1,4 +1,4 @@
--- What a copy comes to on disks in memory: a reader of the old log, and a store of the new one.
+-- A copy on disks in memory: a reader of the old log, and a store of the new one.
 use Rattle.std.specs.Prelude.{◌≡◌, ◌⊎◌, ℕ, ◌/◌, false, IsTrue, List, length, map, None}
 use Rattle.std.specs.List.{list_all}
 use Rattle.bio.specs.Content.{AgreeBelow, sector_of}
@@ -15,7 +15,7 @@ use Rattle.refusals.specs.declared.run_error.RunError.{RunError}
 use Rattle.refusals.specs.Errors.{memory_error}
 use Rattle.dmlw_commands.specs.Lists.{RefusesImage}
 
--- a reader stands before the first entry of the log that an image has, and hasn't refused
+-- a reader is before the first entry of the log in an image, and hasn't refused
 pub record IsOpened (log : List ℕ) (reader : Reader) : Type 0 where
   pub size : reader.device.size ≡ length log / 512
   pub content : AgreeBelow (length log / 512) reader.device.content (sector_of log)
@@ -27,14 +27,14 @@ pub record IsOpened (log : List ℕ) (reader : Reader) : Type 0 where
 abbrev pub RefusesOpen : List ℕ → RunError → Type 0
 RefusesOpen log fault = (fault ≡ memory_error) ⊎ RefusesImage log fault
 
--- a store is a new log with sectors of 4,096 bytes and no entries, on a disk of so many sectors
+-- a store is a new log with sectors of 4,096 bytes and no entries, on a disk of `sectors` sectors
 pub record IsBegun (sectors : ℕ) (store : Store) : Type 0 where
   pub size : store.device.size ≡ sectors
   pub sector_bytes : store.sector_bytes ≡ 4096
   pub placed : store.placed ≡ 0
   pub end : store.end ≡ None
 
--- the log of an image was copied, with so many entries, to a new log on this disk
+-- the log of an image was copied, with `count` entries, to a new log on this disk
 pub record IsCopiedOn (log : List ℕ) (count sectors : ℕ) (v : View) : Type 0 where
   pub head : Super
   pub entries : List Entry

@@ -16,8 +16,8 @@ use Rattle.dmlw_commands.specs.Replays.{replay_stopped}
 use Rattle.replay.specs.declared.upto.Upto.{Upto}
 use Rattle.replay.specs.Replays.{IsUpto, entries_from}
 
--- the entries of a log up to the one that is named, which are so many, were replayed on a first
--- image, and left this device
+-- the entries of a log up to the named one, `count` in number, were replayed on a first image, and
+-- left this device
 pub record IsReplayedOn (log first : List ℕ) (upto : Upto) (count : ℕ) (v : View) : Type 0 where
   pub head : Super
   pub entries : List Entry

@@ -1,11 +1,11 @@
--- A law of what is told, for the proofs of the crates above too.
+-- A law of what is reported, for the proofs of the crates above too.
 use Rattle.std.specs.Prelude.{◌≡◌, ℕ, true, false, List, [], ◌++◌}
 use Rattle.std.specs.Io.KnownBytes.{Appends}
 use Rattle.dmlw_commands.specs.declared.ending.Ended.{Ended}
 use Rattle.dmlw_commands.specs.declared.exit.Exit.{Exit}
 use Rattle.dmlw_commands.specs.Ends.{ErrStream, TellsLine}
 
--- what is told of how a command ends, where there is more to tell only if it explains itself
+-- what is reported of how a command ends, if there is more to report only when it explains itself
 pub ends_told : (t : ErrStream) (more : List ℕ) (exit : Exit) (line : List ℕ) (ended : Ended)
     → (t.explains ≡ false → more ≡ [])
     → ended.exit ≡ exit → (line ≡ [] → more ≡ [] → t.after ≡ t.before)

@@ -19,15 +19,15 @@ pub record ErrStream : Type 0 where
 abbrev pub err_stream : Bool → Option (List ℕ) → Option (List ℕ) → ErrStream
 err_stream explains before after = record { explains = explains; before = before; after = after }
 
--- What a command has told on the error stream that ends so, with this line to tell: that line and,
--- where it explains itself, perhaps more behind it; nothing if there is no line, and it doesn't.
+-- What a command with this end has written to the error stream, with this line to report: that line
+-- and, if it explains itself, perhaps more after it; nothing if there is no line, and it doesn't.
 pub record TellsLine (t : ErrStream) (exit : Exit) (line : List ℕ) (ended : Ended) : Type 0 where
   pub exits : ended.exit ≡ exit
   pub told : ended.err_taken ≡ true
       → (more : List ℕ) × (t.explains ≡ false → more ≡ []) × Appends t.before t.after (line ++ more)
   pub quiet : t.explains ≡ false → line ≡ [] → t.after ≡ t.before
 
--- what a command has told that did this: the one line of its fault, or none if it is done
+-- what a command with this result has reported: the one line of its fault, or none if it is done
 abbrev pub Tells : {T : Type 0} → ErrStream → Result T RunError → Ended → Type 0
 Tells t done ended = TellsLine t (exit_by done) (told_line done) ended
 

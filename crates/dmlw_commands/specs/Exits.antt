@@ -1,4 +1,4 @@
--- The exit status of the program, by how a command ends, and the lines that a user is told.
+-- The exit status of the program, by how a command ends, and the lines that a user reads.
 -- The replay, copy and record commands state their ends with it.
 use Rattle.std.specs.Prelude.{◌⊎◌, ◌≡◌, ℕ, List, [], ◌++◌, None, Option, Result, Ok, Err, Some}
 use Rattle.std.specs.Prelude.{codes}
@@ -44,11 +44,11 @@ exit_after (Err fault) = exit_of fault
 abbrev pub IsRefusal : Exit → Type 0
 IsRefusal exit = (exit ≡ Refused) ⊎ (exit ≡ Usage) ⊎ (exit ≡ RuledOut)
 
--- the line that a user is told of a fault
+-- the line that a user reads of a fault
 abbrev pub fault_line : RunError → List ℕ
 fault_line fault = codes "dmlw: " ++ error_text fault ++ codes "\n"
 
--- the line that a user is told who did this: of a fault, or none
+-- the line that a user reads after this result: of a fault, or none
 abbrev pub told_line : {T : Type 0} → Result T RunError → List ℕ
 told_line (Ok done) = []
 told_line (Err fault) = fault_line fault

@@ -1,4 +1,4 @@
--- What answering a question on an image by the script in a file comes to, and what judging it does.
+-- The result of a question about an image by the script in a file, and of judging it.
 use Rattle.std.specs.Prelude.{◌≡◌, ◌⊎◌, ◌<◌, ◌≤◌, ◌*◌, ℕ, true, List, ◌++◌, Option, Some, Result}
 use Rattle.std.specs.Prelude.{Ok, Err, codes, length, replicate, take}
 use Rattle.std.specs.Io.KnownBytes.{Appends, Keeps}
@@ -30,11 +30,11 @@ use Rattle.dmlw_files.specs.Files.{IsWithin, MatchesContents, Write}
 use Rattle.dmlw_files.specs.Images.{HoldsImage, IsImage}
 use Rattle.dmlw_commands.specs.Records.{IsNoScript}
 
--- an image of so many bytes that are zero
+-- an image of `size` zero bytes
 abbrev pub blank : ℕ → Content
 blank count = sector_of (replicate count 0)
 
--- the number is a moment of these events, and the image is one of a device of so many sectors
+-- the number is a moment of these events, and the image is one of a device of this many sectors
 abbrev pub CanJudge : ℕ → List CoreEvent → ℕ → List ℕ → Type 0
 CanJudge sectors events moment image =
     (moment ≤ last_moment events) × (length image ≡ 512 * sectors)
@@ -44,7 +44,7 @@ abbrev pub CannotJudge : ℕ → List CoreEvent → ℕ → List ℕ → Type 0
 CannotJudge sectors events moment image =
     (last_moment events < moment) ⊎ (length image ≡ 512 * sectors → ⊥)
 
--- What a kind of answer comes to: what it says of an image, by the
+-- The meaning of a kind of answer: what it says about an image, by the
 -- sectors of the device, the events, the content at first and that
 -- of the image; what is printed of it; and how it ends the command.
 pub record Meaning (A : Type 0) : Type 1 where
@@ -52,7 +52,7 @@ pub record Meaning (A : Type 0) : Type 1 where
   pub printed : A → List ℕ
   pub ends : A → Exit
 
--- The answer on an image, after so many events of a script's run, over
+-- The answer about an image, after this many events of a script's run, over
 -- zeroes; they are events of a device of the size of the data disk's
 -- top, and the requests among them are aligned to the log's sectors.
 pub record IsAnswered {A : Type 0} (meaning : Meaning A) (plan : ScriptValue) (moment : ℕ)
@@ -97,8 +97,9 @@ abbrev pub AreUsable : Question → Type 0
 AreUsable asked = IsWithin 4194304 asked.script × HoldsImage asked.image
 
 -- Why there is no answer: a file can't be read, or is too long or no image, or there is no memory,
--- which alone it is where both files are known to be usable; the text is no script's, of which the first line at fault is named; its run fails; or the moment
--- is none of its moments, or the image is of another size.
+-- which is the only cause if both files are known to be usable; the text is no script's, of which
+-- the first line at fault is named; its run fails; or the moment is none of its moments, or the
+-- image is of another size.
 pub data HasNoVerdict (asked : Question) : RunError → Type 0 where
   file : (fault : RunError) → IsFileError fault → (AreUsable asked → fault ≡ memory_error)
       → HasNoVerdict asked fault
@@ -114,7 +115,7 @@ pub data HasNoVerdict (asked : Question) : RunError → Type 0 where
       → IsRehearsed plan events → CannotJudge (top_of plan.data_disk) events asked.moment image
       → HasNoVerdict asked (refused_by refusals.BadMoment)
 
--- What a question comes to: the answer, which was printed; or why there is none, and nothing was
+-- The result of a question: the answer, which was printed; or why there is none, and nothing was
 -- printed; or there is one, and the output can't be written.
 abbrev pub Answers : {A : Type 0} → Meaning A → Question → Option (List ℕ) → Option (List ℕ)
     → Result A RunError → Type 0
@@ -147,11 +148,11 @@ abbrev pub exit_by_verdict : Verdict → Exit
 exit_by_verdict verdicts.Yes = exits.Done
 exit_by_verdict (verdicts.No sector by) = exits.RuledOut
 
--- what a verdict comes to
+-- what a verdict means
 abbrev pub verdict_meaning : Meaning Verdict
 verdict_meaning = record { says = IsVerdict; printed = verdict_line; ends = exit_by_verdict }
 
--- the verdict on an image, after so many events of a script's run, over zeroes
+-- the verdict on an image, after this many events of a script's run, over zeroes
 abbrev pub IsJudged : ScriptValue → ℕ → List ℕ → Verdict → Type 0
 IsJudged plan count image verdict = IsAnswered verdict_meaning plan count image verdict
 
@@ -159,7 +160,7 @@ IsJudged plan count image verdict = IsAnswered verdict_meaning plan count image 
 abbrev pub HasVerdict : Question → Verdict → Type 0
 HasVerdict asked verdict = HasAnswer verdict_meaning asked verdict
 
--- what judging comes to: the verdict, which was printed, or why there is none
+-- the result of judging: the verdict, which was printed, or why there is none
 abbrev pub Judges : Question → Option (List ℕ) → Option (List ℕ) → Result Verdict RunError → Type 0
 Judges asked before after done = Answers verdict_meaning asked before after done
 

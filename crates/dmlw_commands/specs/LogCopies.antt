@@ -1,5 +1,5 @@
--- What copying the log in a file to a new log with sectors
--- of 4,096 bytes comes to. A disk has sectors of 512 bytes.
+-- The result of copying the log in a file to a new log with
+-- sectors of 4,096 bytes. A disk has sectors of 512 bytes.
 use Rattle.std.specs.Prelude.{◌≡◌, ◌⊎◌, ℕ, ◌+◌, ◌*◌, ◌≤◌, IsTrue, List, ◌++◌, Option, None}
 use Rattle.std.specs.Prelude.{Some, Result, Ok, Err, codes, length, map, slice_get, take}
 use Rattle.std.specs.Fmt.{decimal}
@@ -33,8 +33,8 @@ use Rattle.dmlw_files.specs.Images.{IsImage}
 abbrev pub copied_line : ℕ → List ℕ
 copied_line count = codes "copied " ++ (decimal count ++ codes "\n")
 
--- the log of an image, of so many entries and without a fault, was copied: another image, of a disk
--- of so many sectors, has the log of the same entries in sectors of 4,096 bytes, each with its
+-- the log of an image, of `count` entries and without a fault, was copied: another image, of a disk
+-- of `sectors` sectors, has the log of the same entries in sectors of 4,096 bytes, each with its
 -- flags, its body, and its place and length in bytes
 pub record IsCopied (log : List ℕ) (count sectors : ℕ) (image : List ℕ) : Type 0 where
   pub head : Super
@@ -46,15 +46,15 @@ pub record IsCopied (log : List ℕ) (count sectors : ℕ) (image : List ℕ) : 
   pub copied : IsLogOf sectors (sector_of image) 4096 (map (resized head.sectorsize 4096) entries)
 
 -- the entry at this place of a log with sectors of `from` bytes doesn't fit a log with sectors of
--- 4,096 bytes on a disk of so many sectors, after those that are before it
+-- 4,096 bytes on a disk of `sectors` sectors, after those that are before it
 pub record LacksRoom (from : ℕ) (es : List Entry) (place sectors : ℕ) : Type 0 where
   pub next : Entry
   pub there : slice_get es place ≡ Some next
   pub full : log_sectors 4096 sectors ≤ next_sector
       (map (resized from 4096) (take place es)) + sectors_of (resized from 4096 next)
 
--- the cause by which a copy to a disk of so many sectors stopped after so many entries, of a log
--- with this super block, these entries and this fault
+-- the cause by which a copy of a log with this super block, these entries and this fault stopped,
+-- to a disk of this many sectors and after this many entries
 abbrev pub HasStopCause : Super → List Entry → Option LogFault → ℕ → ℕ → CopyError → Type 0
 HasStopCause head es fault sectors applied (copies.Log (reads.Log found)) =
     (fault ≡ Some found) × (applied ≡ length es)
@@ -66,7 +66,7 @@ HasStopCause head es fault sectors applied (copies.Store ends.Full) =
 HasStopCause head es fault sectors applied (copies.Store ends.Memory) = Unit {0}
 HasStopCause head es fault sectors applied other = ⊥
 
--- a copy of this log to a disk of so many sectors stopped so
+-- a copy of this log to a disk of `sectors` sectors stopped with this fault
 pub record StopsCopy (log : List ℕ) (sectors : ℕ) (stop : CopyFault) : Type 0 where
   pub head : Super
   pub entries : List Entry
@@ -96,7 +96,7 @@ pub data FailsCopy (log_file : Option (List ℕ)) (sectors : ℕ) : RunError →
   of_image : (log : List ℕ) (stop : RunError) → MatchesContents log_file log → IsImage log
       → FailsOnImage log sectors stop → FailsCopy log_file sectors stop
 
--- the log in a file was copied, with so many entries, and this image came of it
+-- the log in a file was copied, with `count` entries, and this image is the result
 pub record IsCopiedFrom (log_file : Option (List ℕ)) (count sectors : ℕ)
     (image : List ℕ) : Type 0 where
   pub log : List ℕ
@@ -122,7 +122,7 @@ pub record PrintsCopy (log_file : Option (List ℕ)) (name : List ℕ) (sectors 
   pub printed : Appends old new (copied_line count)
   pub asked : writes_new ≡ one_more writes_old name image
 
--- What copying comes to: it was done; or it fails, nothing was printed, and no file was asked to be
+-- The result of copying: it was done; or it fails, nothing was printed, and no file was asked to be
 -- written; or the output can't be written, and no file was asked to be; or the image can't be
 -- written, after the printing.
 abbrev pub Copies : Option (List ℕ) → List ℕ → ℕ → Option (List Write) → Option (List Write)
@@ -135,8 +135,8 @@ Copies log_file name sectors writes_old writes_new old new (Err stop) =
     ⊎ (IsFileError stop × (count : ℕ)
     × PrintsCopy log_file name sectors writes_old writes_new old new count)
 
--- How the copy of the log in a file to a disk of so many sectors ends, whose image goes into the
--- file of this name: as what it did has it.
+-- How the copy of the log in a file to a disk of `sectors` sectors ends, whose image goes into the
+-- file of this name: by its result.
 pub record EndsCopying (log_file : Option (List ℕ)) (name : List ℕ) (sectors : ℕ)
     (writes_old writes_new : Option (List Write)) (old new : Option (List ℕ))
     (t : ErrStream) (ended : Ended) : Type 0 where

@@ -1,4 +1,4 @@
--- What running the seats of the script in a file comes to.
+-- The result of running the seats of the script in a file.
 use Rattle.std.specs.Prelude.{◌≡◌, ◌⊎◌, ℕ, suc, List, [], ◌∷◌, ◌++◌, decimal, Option, Result, Some}
 use Rattle.std.specs.Prelude.{MatchResult, Ok, Err, codes}
 use Rattle.std.specs.Io.KnownBytes.{Appends, Keeps}
@@ -101,9 +101,9 @@ pub data FailsRunning (contents : Option (List ℕ)) (before after : Option (Lis
       → IsRunText bytes script
       → FailsRun script fault → Keeps before after → FailsRunning contents before after fault
 
--- What running a script over a log of this name comes to, from what a writer held to what it holds:
--- where it succeeds it has printed what it came to and how far the log has come; if it fails,
--- why, and what was printed before that.
+-- The result of running a script over a log of this name, from what a writer held to what it holds:
+-- if it succeeds, it has printed a line for each seat and the log's status; if it fails, why, and
+-- what was printed before that.
 abbrev pub Runs : Option (List ℕ) → List ℕ → Option (List Write) → Option (List Write)
     → Option (List ℕ) → Option (List ℕ) → Result Status RunError → Type 0
 Runs contents name writes_old writes_new old new (Ok status) =

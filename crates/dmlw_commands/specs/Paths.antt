@@ -18,7 +18,7 @@ use Rattle.world.specs.declared.finding.Finding.TheVariants.{Run, RuledOut}
 use Rattle.dmlw_commands.specs.Judgements.{EndsAnswering, IsAnswered, Meaning, Question}
 use Rattle.dmlw_commands.specs.Judgements.{verdict_line}
 
--- the verdict that a finding has: yes where there is a run, and else its no
+-- the verdict of a finding: yes if there is a run, and else its no
 abbrev pub verdict_of : Finding → Verdict
 verdict_of (Run run) = verdicts.Yes
 verdict_of (RuledOut sector by) = verdicts.No sector by
@@ -37,11 +37,11 @@ abbrev pub exit_by_finding : Finding → Exit
 exit_by_finding (Run run) = exits.Done
 exit_by_finding (RuledOut sector by) = exits.RuledOut
 
--- what a finding comes to
+-- what a finding means
 abbrev pub finding_meaning : Meaning Finding
 finding_meaning = record { says = IsFinding; printed = finding_text; ends = exit_by_finding }
 
--- the finding on an image, after so many events of a script's run, over zeroes
+-- the finding about an image, after this many events of a script's run, over zeroes
 abbrev pub IsFound : ScriptValue → ℕ → List ℕ → Finding → Type 0
 IsFound plan moment image finding = IsAnswered finding_meaning plan moment image finding
 

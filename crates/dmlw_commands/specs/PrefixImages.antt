@@ -8,8 +8,8 @@ use Rattle.pending.specs.CompletionList.{completion_list, dm_log_writes}
 use Rattle.pending.specs.Moments.{last_moment}
 use Rattle.dmlw_commands.specs.Judgements.{blank}
 
--- what replaying so many first entries of the log of these events, with sectors of so many bytes,
--- leaves of an image of zero bytes
+-- what is left of an image of zero bytes by replaying the first `count` entries of the log of these
+-- events, with sectors of this many bytes
 abbrev pub replayed_first : ℕ → List CoreEvent → ℕ → ℕ → Content
 replayed_first size events count bytes =
     replay size (entries_of (take count (completion_list (dm_log_writes size) events)))

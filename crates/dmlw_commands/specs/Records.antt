@@ -1,4 +1,4 @@
--- What recording the script in a file comes to.
+-- The result of recording the script in a file.
 use Rattle.std.specs.Prelude.{◌≡◌, ◌⊎◌, ℕ, Bool, ◌&&◌, List, [], ◌++◌, decimal, nat_eq}
 use Rattle.std.specs.Prelude.{if◌then◌else◌, Option, Result, Some, MatchResult, Ok, Err, codes}
 use Rattle.std.specs.Io.KnownBytes.{Appends, Keeps}
@@ -97,9 +97,9 @@ pub data FailsRecording (contents : Option (List ℕ)) (before after : Option (L
       → IsTextOf bytes script
       → FailsOnDisks bytes script before after fault → FailsRecording contents before after fault
 
--- What recording a script in a log of this name comes to, from what a writer held to what it holds:
--- where it succeeds it has printed what happened and how far the log has come; if it fails, why,
--- and what happened before that.
+-- The result of recording a script in a log of this name, from what a writer held to what it holds:
+-- if it succeeds, it has printed the lines' output and the log's status; if it fails, why, and what
+-- was printed before that.
 abbrev pub Records : Option (List ℕ) → List ℕ → Option (List Write) → Option (List Write)
     → Option (List ℕ) → Option (List ℕ) → Result Status RunError → Type 0
 Records contents name writes_old writes_new old new (Ok status) =

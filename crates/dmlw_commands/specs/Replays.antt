@@ -1,4 +1,4 @@
--- What replaying the log in a file on the image in another one comes to.
+-- The result of replaying the log in a file on the image in another one.
 use Rattle.std.specs.Prelude.{◌≡◌, ◌⊎◌, ℕ, ◌/◌, ◌<◌, ◌≤◌, List, ◌++◌, Option, None, Some}
 use Rattle.std.specs.Prelude.{Result, Ok, Err, codes, length}
 use Rattle.std.specs.Fmt.{decimal}
@@ -40,8 +40,8 @@ pub record AreImages (log_file first_file : Option (List ℕ)) (log first : List
   pub first_read : MatchesContents first_file first
   pub first_image : IsImage first
 
--- the entries of a log up to the one that is named, which are so many, were replayed on a first
--- image, and left this one
+-- the entries of a log up to the named one, `count` in number, were replayed on a first image, and
+-- left this one
 pub record IsReplayed (log first : List ℕ) (upto : Upto) (count : ℕ) (image : List ℕ) : Type 0 where
   pub head : Super
   pub entries : List Entry
@@ -53,8 +53,8 @@ pub record IsReplayed (log first : List ℕ) (upto : Upto) (count : ℕ) (image 
   pub content : AgreeBelow (length first / 512)
       (replay head.sectorsize (entries_from entries 0 count) (sector_of first)) (sector_of image)
 
--- the cause by which a replay on an image of so many sectors stopped after so many entries, of a
--- log with this super block, these entries and this fault; its reader has not refused before
+-- the cause by which a replay of a log with this super block, these entries and this fault stopped,
+-- on an image of this many sectors and after this many entries; its reader has not refused before
 abbrev pub HasStopCause : Upto → Super → List Entry → Option LogFault → ℕ → ℕ → ReplayError → Type 0
 HasStopCause upto head es fault disk applied replays.PastEntries =
     (applied ≡ 0) × AsksTooMany upto head.count 0
@@ -92,8 +92,9 @@ pub data FailsOnImages (log first : List ℕ) (upto : Upto) : RunError → Type 
   stopped : (stop : ReplayFault) → StopsReplay log first upto stop
       → FailsOnImages log first upto (replay_stopped stop)
 
--- Why the log in a file isn't replayed: a file can't be used, or there is no memory, which alone it
--- is where both files are known to hold images; or so it is of the images in the files.
+-- Why the log in a file isn't replayed: a file can't be used, or there is no memory, which is the
+-- only cause if both files are known to hold images; or the replay of the images in the files
+-- fails.
 pub data FailsReplay (log_file first_file : Option (List ℕ)) (upto : Upto) : RunError → Type 0 where
   file : (fault : RunError) → IsFileError fault
       → (HoldsImage log_file → HoldsImage first_file → fault ≡ memory_error)
@@ -102,7 +103,7 @@ pub data FailsReplay (log_file first_file : Option (List ℕ)) (upto : Upto) : R
       → FailsOnImages log first upto stop
       → FailsReplay log_file first_file upto stop
 
--- the log in a file was replayed, and so many entries and this image came of it
+-- the log in a file was replayed, with `count` entries, and this image is the result
 pub record IsReplayedFrom (log_file first_file : Option (List ℕ)) (upto : Upto) (count : ℕ)
     (image : List ℕ) : Type 0 where
   pub log : List ℕ
@@ -129,7 +130,7 @@ pub record PrintsReplay (log_file first_file : Option (List ℕ)) (name : List �
   pub printed : Appends old new (replayed_line count)
   pub asked : writes_new ≡ one_more writes_old name image
 
--- What replaying comes to, into a file of this name that holds this: it was done; or it fails,
+-- The result of replaying, into a file of this name that holds this: it was done; or it fails,
 -- nothing was printed, and no file was asked to be written; or that file is the log's, and so it is
 -- too; or the log was replayed, the output can't be written, and no file was asked to be; or the
 -- image can't be written, after the printing.

@@ -4,8 +4,8 @@ use Rattle.refusals.specs.Words.{IsNumber}
 use Rattle.replay.specs.declared.upto.Upto.{Upto}
 use Rattle.replay.specs.declared.upto.Upto.TheVariants as uptos
 
--- the word names this end of a replay: so many entries, the
--- first mark of a text, or the first flush
+-- the word names this end of a replay: a number of entries,
+-- the first mark of a text, or the first flush
 abbrev pub IsWhat : List ℕ → Upto → Type 0
 IsWhat word (uptos.Count n) =
     (digits : List ℕ) × (word ≡ codes "entries:" ++ digits) × IsNumber digits n

@@ -1,4 +1,4 @@
-//! What is told of a line that isn't one of a script's, or isn't in its place: the usual cause, the
+//! Explains a line that isn't one of a script's, or isn't in its place: by the usual cause, the
 //! first word that doesn't fit, or what its place asks for.
 use crate::explain::places::write_place;
 use crate::explain::script_text::{Grammar, Numbered, is_space};
@@ -6,8 +6,8 @@ use refusals::number_of;
 use std::fmt;
 use std::fmt::Write;
 
-// The lines that a script can have; what stands in angle brackets is a word of that kind, and in
-// square ones a word that may be left out.
+// The lines that a script can have; angle brackets have the kind of a word, and square ones a word
+// that may be left out.
 const RECORDER_FORMS: [&str; 15] = [
     "data <sectors>",
     "log <sectors> [4096]",
@@ -47,9 +47,9 @@ const PICK: &[u8] = b"<pick> ..";
 // The most bytes of a line that are shown.
 const SHOWN_BYTES: usize = 100;
 
-/// Writes what is seen of a line of a script's text that isn't one of a script's, or isn't in its
-/// place: the usual cause where there is one, or else the first word that doesn't fit the form that
-/// its first word has, or what its place asks for.
+/// Explains a line of a script's text that isn't one of a script's, or isn't in its place: writes
+/// the usual cause if there is one, or else the first word that doesn't fit the form of its first
+/// word, or what its place asks for.
 pub(crate) fn explain_line<W: Write>(
     grammar: Grammar,
     text: &[u8],
@@ -122,7 +122,7 @@ fn forms_of(grammar: Grammar) -> &'static [&'static str] {
     }
 }
 
-/// Bytes of a script, shown in printable ones alone, and cut after 100.
+/// Bytes of a script, shown by printable ones, and cut after 100.
 #[derive(Clone, Copy)]
 pub(crate) struct Shown<'a>(pub(crate) &'a [u8]);
 
@@ -165,8 +165,8 @@ fn cause_of(line: &[u8]) -> Option<&'static str> {
     None
 }
 
-// The text of a mark or a message is taken as it stands, and the words of a layer's table line are
-// its own.
+// The text of a mark or a message is taken as it is, and the words of a layer's table line are its
+// own.
 fn has_own_words(line: &[u8]) -> bool {
     line.starts_with(b"mark ".as_slice())
         || line.starts_with(b"message ".as_slice())
@@ -195,8 +195,8 @@ fn begins_as(form: &[u8], line: &[u8]) -> bool {
     first != SEAT || words.next() == wanted.next()
 }
 
-// Writes which word of a line is the first that doesn't fit a form; where all do, what its place
-// asks for.
+// Writes which word of a line is the first that doesn't fit a form; if all do, what its place asks
+// for.
 fn write_flaw<W: Write>(
     grammar: Grammar,
     text: &[u8],
@@ -232,9 +232,9 @@ enum Flaw<'a> {
     None,
     // A word of this kind isn't there.
     Missing(&'a [u8]),
-    // In the place of a word of this kind stands this one.
+    // In the place of a word of this kind is this one.
     Misfit(&'a [u8], &'a [u8]),
-    // This word stands behind all that the form has.
+    // This word is after all that the form has.
     TooMany(&'a [u8]),
 }
 
@@ -247,7 +247,7 @@ fn flaw_of<'a>(line: &'a [u8], form: &'a [u8]) -> Flaw<'a> {
     let mut next = words.next();
     for wanted in form.split(is_space) {
         match next {
-            // What stands behind is one text, or has a grammar of its own.
+            // What follows is one text, or has a grammar of its own.
             Some(_) if wanted == b"<text>".as_slice() || wanted == b"0".as_slice() =>
                 return Flaw::None,
             Some(word) if fits(wanted, word) => next = words.next(),

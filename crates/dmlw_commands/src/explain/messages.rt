@@ -1,5 +1,5 @@
-//! What is told of a message that a layer refused: whether the layer is there and takes messages,
-//! or what is known of the block.
+//! Explains a message that a layer refused: whether the layer is there and takes messages, or what
+//! is known of the block.
 use crate::explain::counted::Counted;
 use crate::explain::line::Shown;
 use crate::explain::script_text::{Numbered, count_of, nth_of, number_at, word_at};

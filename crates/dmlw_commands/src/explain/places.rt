@@ -1,4 +1,4 @@
-//! What the place of a script's line asks for, if its words alone are right.
+//! What the place of a script's line asks for, if its words are right.
 use crate::explain::line::Shown;
 use crate::explain::script_text::{
     Grammar, Numbered, begins_with, count_of, first_of_body, line_of, number_at, word_at,

@@ -179,7 +179,7 @@ fn write_busy<W: Write>(text: &[u8], line: Numbered, to: &mut W) -> fmt::Result 
     )
 }
 
-// Writes that a layer ends past what is beneath it, if it does, and else that one of its numbers is
+// Writes that a layer ends past what is below it, if it does, and else that one of its numbers is
 // out of range.
 fn write_out_of_range<W: Write>(text: &[u8], line: Numbered, to: &mut W) -> fmt::Result {
     let beneath = match word_at(line.text, 0) {
@@ -198,8 +198,8 @@ fn write_out_of_range<W: Write>(text: &[u8], line: Numbered, to: &mut W) -> fmt:
     }
 }
 
-// The place on what is beneath a layer at which it begins, and its length, if its line has both. An
-// error layer begins at 0.
+// Returns the place on what is below at which a layer begins, and its length, if its line has both.
+// An error layer begins at 0.
 fn layer_range(line: &[u8]) -> Option<(u64, u64)> {
     let length = number_at(line, 2)?;
     match word_at(line, 5) {

@@ -26,7 +26,7 @@ pub(crate) fn is_space(byte: &u8) -> bool {
     *byte == b' '
 }
 
-/// The line of this number, where a text has it.
+/// Returns the line of this number, if a text has it.
 pub(crate) fn line_at(text: &[u8], number: u64) -> Option<&[u8]> {
     text.split(is_line_end)
         .nth(number.saturating_sub(1) as usize)
@@ -118,8 +118,8 @@ pub(crate) fn nth_of<'a>(
     None
 }
 
-/// The first line before a number that stands behind the head: no comment, no empty line, and none
-/// of the head's lines.
+/// Returns the first line before a number that is after the head: no comment, no empty line, and
+/// none of the head's lines.
 pub(crate) fn first_of_body(text: &[u8], before: u64) -> Option<Numbered<'_>> {
     let mut number: u64 = 0;
     for line in text.split(is_line_end) {
@@ -134,7 +134,7 @@ pub(crate) fn first_of_body(text: &[u8], before: u64) -> Option<Numbered<'_>> {
     None
 }
 
-// Whether a line is skipped, or stands in a script's head.
+// Whether a line is skipped, or is in a script's head.
 fn is_of_head(line: &[u8]) -> bool {
     let first = line.split(is_space).next().unwrap_or_default();
     match first {

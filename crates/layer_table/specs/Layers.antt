@@ -188,8 +188,8 @@ pub record IsPartlyUnder (specs : List LayerSpec) (load : ℕ) (old back : Stack
   pub refused : ((stack_shown back).size < next.offset + next.length)
       ⊎ (length (layers_of back) ≡ 4)
 
--- w is the view of a part of the disk with view v: the sectors at its place. A crash now, or since
--- any reading of the disk's clock, may leave of it exactly the parts of what it may leave of the
+-- w is the view of a part of the disk with view v: the sectors at its place. What a crash now, or
+-- since any reading of the disk's clock, may leave of it is the part of what it may leave of the
 -- disk.
 pub record IsPartOf (v w : View) : Type 0 where
   pub disk : w.place.disk ≡ v.size

@@ -27,8 +27,8 @@ pub fn stacks_show_their_layers()
         → IsSeenAs (layers_over (layers_of stack) (shown_of (disk_of stack))) (stack_shown stack) }
 {}
 
-/// A stack is a part of the disk below it. It has the disk's content from its origin on. A crash,
-/// even during a call, may leave of it exactly the parts of what it may leave of the disk.
+/// A stack is a part of the disk below it. It has the disk's content from its origin on. What a
+/// crash, even during a call, may have left of it is the part of what it may have left of the disk.
 pub fn stacks_are_parts_of_their_disks()
     ensures { (stack : Stack) → IsPartOf (shown_of (disk_of stack)) (stack_shown stack) }
 {}

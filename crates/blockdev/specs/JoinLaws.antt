@@ -96,7 +96,7 @@ pub goes_cut : (end : ℕ) (patch : Patch) (v w : View) → DeviceFrame (below e
     → DeviceFrame patch v w
 goes_cut end patch v w = goes_part (below end patch) patch v w (below-part end patch)
 
--- the next part of a call, after all parts before it, satisfies the frame of the whole one
+-- the next part of a call, after all parts before it, satisfies the frame of the call up to its end
 pub goes_next : (from to : ℕ) (patch piece : Patch) (u v w : View) → from ≤ to
     → SameValues piece (between from to patch)
     → DeviceFrame (below from patch) u v → DeviceFrame piece v w → DeviceFrame (below to patch) u w
@@ -146,7 +146,7 @@ lands_joined first second whole fua u v w joins before after = record {
       );
 }
 
--- a call is done up to a later sector after its next part is done
+-- a call is done up to the end of its next part after that part is done
 pub lands_next : (from to : ℕ) (patch piece : Patch) (fua : Bool) (u v w : View) → from ≤ to
     → SameValues piece (between from to patch)
     → WriteDone (below from patch) fua u v → WriteDone piece fua v w

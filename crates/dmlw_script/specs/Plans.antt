@@ -33,8 +33,8 @@ pub record Disk : Type 0 where
   pub layers : List LayerSpec
 
 -- the value of a script: its disks, the size of its log's sectors, the ids of its requests in the
--- order of their submissions, the lines of its body, and the picks of the crash of the log disk
--- that ends it, if one does
+-- order of their submissions, and the lines of its body. If a crash of the log disk ends it, the
+-- value also has the picks of this crash
 pub record ScriptValue : Type 0 where
   pub data_disk : Disk
   pub log_disk : Disk
@@ -177,9 +177,9 @@ IsInTime moment (steps.At later) = moment ≤ later
 IsInTime moment (steps.Message over layer text) = Unit {0}
 
 -- the command may come after these, for a log with sectors of `bytes` bytes and a data disk of
--- `sectors` sectors: the sectors that it covers pass their test, a write writes a byte, the text of
--- a mark or of a message may be in a line, no time decreases, and an end is that of a request that
--- was submitted and hasn't ended
+-- `sectors` sectors. The sectors that it covers pass their test, a write writes a byte, and the
+-- text of a mark or of a message may be in a line. No time decreases, and an end is that of a
+-- request that was submitted and hasn't ended
 abbrev pub CanFollow : (bytes sectors : ℕ) → List Command → Command → Type 0
 CanFollow bytes sectors before (commands.Submit submission) =
     (submission_answer bytes sectors submission ≡ Ok tt) × WritesByte submission
@@ -201,9 +201,9 @@ abbrev pub ArePicks : Option (List ℕ) → Type 0
 ArePicks None = Unit {0}
 ArePicks (Some picks) = AllByRecursion (λ pick. pick < 2 ^ 64) picks
 
--- a script of the grammar: its disks are disks of the grammar, the top of the log disk has room for
--- a sector of the log, its ids are ids and differ, each submission has one, its commands are
--- well-formed over the top of the data disk, and the picks of its crash are numbers
+-- a script of the grammar: its disks are disks of the grammar, and the top of the log disk has room
+-- for a sector of the log. Its ids are ids and differ, and each submission has one. Its commands
+-- are well-formed over the top of the data disk, and the picks of its crash are numbers
 pub record IsPlan (plan : ScriptValue) : Type 0 where
   pub data_disk : IsDisk plan.data_disk
   pub log_disk : IsDisk plan.log_disk
@@ -270,8 +270,9 @@ data_line sectors = parsed_lines.Head (head_lines.Data sectors)
 abbrev pub log_line : ℕ → SectorSize → LineMeaning
 log_line sectors size = parsed_lines.Head (head_lines.Log sectors size)
 
--- the meaning of the lines of a head: the sectors of the data disk, those of the log disk and the
--- size of the log's sectors, then the layers of the data disk, and then those of the log disk
+-- the meaning of the lines of a head: first the sectors of the data disk, then those of the log
+-- disk and the size of the log's sectors. Then come the layers of the data disk, and then those of
+-- the log disk
 abbrev pub head_of : Disk → Disk → SectorSize → List LineMeaning
 head_of data_disk log_disk log_size =
     data_line data_disk.sectors ∷ log_line log_disk.sectors log_size

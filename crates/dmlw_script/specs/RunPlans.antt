@@ -42,8 +42,8 @@ pub record CanStand (bytes sectors seats : ℕ) (line : SeatCall) : Type 0 where
   pub tested : call_answer bytes sectors line.call ≡ Ok tt
   pub spelled : FitsLine line.call
 
--- a script of the grammar: its disks are disks of the grammar, the top of the log disk has room for
--- a sector of the log, there are 1 to 64 seats, and each line of its body is one of theirs
+-- a script of the grammar: its disks are disks of the grammar, and the top of the log disk has room
+-- for a sector of the log. There are 1 to 64 seats, and each line of its body is one of theirs
 pub record IsRunPlan (plan : RunPlan) : Type 0 where
   pub data_disk : IsDisk plan.data_disk
   pub log_disk : IsDisk plan.log_disk
@@ -60,9 +60,9 @@ data_layer spec = Head (head_lines.Layer disks.Data (Ok spec))
 abbrev pub log_layer : LayerSpec → RunLine
 log_layer spec = Head (head_lines.Layer disks.Log (Ok spec))
 
--- the meaning of the lines of a run's head: the sectors of the data disk, those of the log disk and
--- the size of the log's sectors, the number of seats, then the layers of the data disk, and then
--- those of the log disk
+-- the meaning of the lines of a run's head: first the sectors of the data disk, then those of the
+-- log disk and the size of the log's sectors, then the number of seats. Then come the layers of the
+-- data disk, and then those of the log disk
 abbrev pub run_head : RunPlan → List RunLine
 run_head plan =
     Head (head_lines.Data plan.data_disk.sectors) ∷ Head

@@ -17,8 +17,8 @@ pub struct WriteOptions {
 #[derive(Clone, Copy, Debug)]
 pub enum Submission {
     /// A write of `count` sectors of `byte` from sector `first` on. In a script it covers 1 to
-    /// 2,048 sectors, all of them within the top of the data disk, and both numbers are multiples
-    /// of the sectors of 512 bytes in one of the log's.
+    /// 2,048 sectors, all of them within the top of the data disk. Both numbers are multiples of
+    /// the sectors of 512 bytes in one of the log's.
     Write {
         first: u64,
         count: u64,
@@ -40,8 +40,8 @@ pub enum Step {
     /// Ends the recording.
     Close,
     /// A read of `count` sectors from sector `first` on. In a script it covers 1 to 2,048 sectors,
-    /// all of them within the top of the data disk, and both numbers are multiples of the sectors
-    /// of 512 bytes in one of the log's.
+    /// all of them within the top of the data disk. Both numbers are multiples of the sectors of
+    /// 512 bytes in one of the log's.
     Read {
         first: u64,
         count: u64,

@@ -93,7 +93,8 @@ impl Reader {
         }
     }
 
-    // As above, if the line is no crash, no mark and no message.
+    // Reads a line that isn't skipped and is no crash, no mark and no message, and was already
+    // split.
     fn read_plain(&mut self, verb: &[u8], words: Option<&[u8]>) -> Result<(), LineError>
         requires { IsReader self.old }
         ensures reader { OnOk result (IsReader self.new) }

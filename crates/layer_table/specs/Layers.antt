@@ -115,7 +115,7 @@ layer_asked spec load =
       lies = 0;
     }
 
--- layers over others, the top first, where these lines ask for them, the lowest first
+-- layers over others, the top first, as these lines ask for them, the lowest first
 abbrev pub layers_under : List LayerSpec → ℕ → List Layer → List Layer
 layers_under [] load layers = layers
 layers_under (spec ∷ specs) load layers = layers_under specs load (layer_asked spec load ∷ layers)

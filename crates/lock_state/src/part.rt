@@ -12,9 +12,9 @@ use std::marker::{Model, PhantomData};
 use std::mem::swap;
 use std::sync::ledger::Share;
 
-/// A seat's part: its number, its recorded events with their places, the places at which its passed
-/// calls found that recording had ended, the causes that were reported to it, and its request that
-/// is under way.
+/// A seat's part: its number, its recorded events with their places, and its request that is under
+/// way. It also has the places at which its passed calls found that recording had ended, and the
+/// causes that were reported to it.
 #[derive(Drop)]
 pub struct SeatPart<R: Run> {
     pub(crate) number: u64,

@@ -5,9 +5,9 @@ use std::sync::ledger::Ledger;
 
 /// The name of one shared recorder, with the ledger of its seats, and three tables. On one its
 /// queue and seats agree, on one its queue and log about the first stop, and on one about the log's
-/// end. It also has the number of 512-byte sectors of the recorded device and of bytes in a log
-/// sector. The last field is the properties of the log's device before the log was begun. So the
-/// type refuses a seat of another recorder.
+/// end. It also has the number of 512-byte sectors of the recorded device, the number of bytes in a
+/// log sector, and the properties of the log's device before the log was begun. So the type refuses
+/// a seat of another recorder.
 pub trait Run: Ledger + Whose {
     ghost use Rattle.std.specs.Prelude.{ℕ};
     ghost use Rattle.lock_state.specs.PlacedItems.{Ground};

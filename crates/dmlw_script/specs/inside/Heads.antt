@@ -59,7 +59,7 @@ with_data read log_disk size = read >>= λ data_disk. Ok (heads.Whole data_disk 
 abbrev pub with_log : Disk → Result Disk Refusal → SectorSize → Result Stage Refusal
 with_log data_disk read size = read >>= λ log_disk. Ok (heads.Whole data_disk log_disk size)
 
--- a layer over the data disk, after which the log disk has none
+-- a layer over the data disk, if the log disk has none yet
 abbrev pub data_layer : List LayerSpec → Disk → Disk → SectorSize → Result LayerSpec TableError
     → Result Stage Refusal
 data_layer [] data_disk log_disk size asked =

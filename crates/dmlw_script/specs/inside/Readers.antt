@@ -122,15 +122,15 @@ abbrev pub and_then : {A B : Type 0} → Result A Fault → (A → Result B Faul
 and_then (Ok x) f = f x
 and_then (Err fault) f = Err fault
 
--- the result of reading these lines, if `number` is that of the first, by this step for a line and
--- this one for the end of the text
+-- the result of reading these lines by one step for each line and one for the end of the text;
+-- `number` is that of the first line
 abbrev pub read_by : {S A : Type 0} → (S → List ℕ → Result S Refusal) → (S → Result A Refusal) → S
     → ℕ → List (List ℕ) → Result A Fault
 read_by step finish s number [] = at_line number (finish s)
 read_by step finish s number (line ∷ lines) =
     and_then (at_line number (step s line)) (λ t. read_by step finish t (number + 1) lines)
 
--- the result of reading these lines, if `number` is that of the first
+-- the result of reading these lines; `number` is that of the first
 abbrev pub read_lines : Progress → ℕ → List (List ℕ) → Result ScriptValue Fault
 read_lines p number lines = read_by line_step finish_step p number lines
 

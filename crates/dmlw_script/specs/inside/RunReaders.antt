@@ -98,7 +98,7 @@ run_finish_step p = finished_run p.head p.seats p.calls
 abbrev pub nothing_read : RunProgress
 nothing_read = record { head = heads.Empty; seats = None; calls = [] }
 
--- the result of reading these lines, if `number` is that of the first
+-- the result of reading these lines; `number` is that of the first
 abbrev pub read_run_lines : RunProgress → ℕ → List (List ℕ) → Result RunPlan Fault
 read_run_lines p number lines = read_by run_line_step run_finish_step p number lines
 

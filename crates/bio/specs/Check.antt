@@ -1,5 +1,5 @@
--- Whether a request may be sent to a device of so many sectors, and else the first reason against
--- it: what `check` and `check_sized` answer.
+-- The result of `check` and `check_sized`: whether a request may be sent to a device of `sectors`
+-- sectors, or else the first reason against it.
 use Rattle.std.specs.Prelude.{ℕ, ◌+◌, ◌/◌, ◌%◌, ◌==◌, length, Bool, Result, Ok, Err, nat_lt}
 use Rattle.std.specs.Prelude.{if◌then◌else◌}
 use Rattle.bio.specs.declared.request.Bio.{Bio}
@@ -8,7 +8,7 @@ use Rattle.bio.specs.declared.request.BadBio.{BadBio}
 use Rattle.bio.specs.declared.request.BadBio.TheVariants.{NotWhole, TooLong, PastEnd, Unaligned}
 use Rattle.bio.specs.Requests.{is_aligned}
 
--- the answer for whole sectors: at least one, at most 2,048, and all within the device
+-- the result for whole sectors: at least one, at most 2,048, and all within the device
 abbrev pub range_answer : ℕ → ℕ → ℕ → Result (Unit {0}) BadBio
 range_answer first count sectors =
     if count == 0 then Err NotWhole
@@ -16,8 +16,8 @@ range_answer first count sectors =
     else if nat_lt sectors (first + count) then Err PastEnd
     else Ok tt
 
--- whether a request may be sent to a device of so many
--- sectors, and else the first reason against it
+-- whether a request may be sent to a device of `sectors` sectors, or else the first reason against
+-- it
 abbrev pub check_answer : Bio → ℕ → Result (Unit {0}) BadBio
 check_answer (Write first bytes flush fua meta) sectors =
     if length bytes % 512 == 0 then range_answer first
@@ -26,14 +26,14 @@ check_answer Flush sectors = Ok tt
 check_answer (Discard first count) sectors = range_answer first count sectors
 check_answer (Read first count) sectors = range_answer first count sectors
 
--- an answer that is Ok stays where a test passes, and is Unaligned where it doesn't; a reason
+-- the result after the alignment test: Ok becomes Unaligned if that fails; an earlier reason
 -- against the request stays
 abbrev pub unless_unaligned : Bool → Result (Unit {0}) BadBio → Result (Unit {0}) BadBio
 unless_unaligned aligned (Ok tt) = if aligned then Ok tt else Err Unaligned
 unless_unaligned aligned (Err bad) = Err bad
 
--- whether a request may be sent to a device of so many sectors and recorded in a log with sectors
--- of so many bytes, and else the first reason against it
+-- whether a request may be sent to a device of `sectors` sectors, and recorded in log sectors of
+-- `size` bytes, or else the first reason against it
 abbrev pub check_sized_answer : ℕ → Bio → ℕ → Result (Unit {0}) BadBio
 check_sized_answer size bio sectors =
     unless_unaligned (is_aligned size bio) (check_answer bio sectors)

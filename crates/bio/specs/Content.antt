@@ -1,11 +1,11 @@
--- What a device has in each sector, and the values that a write or a discard puts there.
--- The law of block devices and the replay of logs are said in these words.
+-- The content of a device's sectors, and the values that a write or a discard puts there. The law
+-- of block devices and the replay of logs are stated with them.
 use Rattle.std.specs.Prelude.{◌≡◌, ℕ, ◌+◌, ◌-◌, ◌*◌, ◌/◌, ◌<◌, ◌≤◌, ◌&&◌, nat_le, nat_lt, Option}
 use Rattle.std.specs.Prelude.{Some, None, unwrap_or, List, length, take, drop, replicate, ◌⊎◌}
 use Rattle.std.specs.Prelude.{if◌then◌else◌}
 use Rattle.bio.specs.Places.{collect}
 
--- what a device has in each sector of 512 bytes
+-- the content of each sector of 512 bytes of a device
 abbrev pub Content : Type 0
 Content = ℕ → List ℕ
 
@@ -17,16 +17,16 @@ sector_of bytes sector = take 512 (drop (512 * sector) bytes)
 abbrev pub gather : Content → ℕ → ℕ → List ℕ
 gather content first count = collect (λ place. content (first + place)) count
 
--- the whole sectors of these bytes stand in the content from this sector on
+-- the content has the whole sectors of these bytes from this sector on
 abbrev pub HasBytes : Content → ℕ → List ℕ → Type 0
 HasBytes content first bytes =
     (sector : ℕ) → sector < length bytes / 512 → content (first + sector) ≡ sector_of bytes sector
 
--- the contents are one below this sector
+-- the contents are equal below this sector
 abbrev pub AgreeBelow : ℕ → Content → Content → Type 0
 AgreeBelow end old new = (sector : ℕ) → sector < end → new sector ≡ old sector
 
--- the contents are one from the first of these sectors to before the second
+-- the contents are equal from the first of these sectors to before the second
 abbrev pub AgreeWithin : ℕ → ℕ → Content → Content → Type 0
 AgreeWithin from to old new = (sector : ℕ) → from ≤ sector → sector < to → new sector ≡ old sector
 

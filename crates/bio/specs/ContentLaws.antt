@@ -1,4 +1,5 @@
--- What a patch over a range gives, which is the interface of `over`, and what a patch leaves.
+-- The values of a patch over a range, which is the interface of `over`, and the content after a
+-- patch.
 use Rattle.std.proofs.Common.{◌≡◌, ℕ, ◌+◌, ◌-◌, ◌*◌, ◌/◌, ◌<◌, ◌≤◌, false, ◌&&◌, Option, Some, None}
 use Rattle.std.proofs.Common.{List, length, drop, replicate, refl, ap, sym, ◌∙◌, inl, inr, arith}
 use Rattle.std.proofs.lemmas.Bool.{cases_lt, lt-ltb, le-ltb, le-leb, leb-true}
@@ -21,7 +22,7 @@ over-in first count value k h =
     (lt-ltb (first + k) (first + count) (omega arith))
     ∙ ap (λ n. Some (value n)) (omega arith)
 
--- a sector before the range has none
+-- the patch has no value for a sector before the range
 pub over-before : (first count : ℕ) (value : ℕ → List ℕ) (sector : ℕ) → sector < first
     → over first count value sector ≡ None
 unfolding over
@@ -35,7 +36,7 @@ over-before first count value sector h =
       | inr other ↦ other
     ]
 
--- a sector after the range has none
+-- the patch has no value for a sector after the range
 pub over-after : (first count : ℕ) (value : ℕ → List ℕ) (sector : ℕ) → first + count ≤ sector
     → over first count value sector ≡ None
 unfolding over
@@ -44,7 +45,7 @@ over-after first count value sector h =
     (le-ltb sector (first + count) h)
     ∙ ap (λ b. if b then Some (value (sector - first)) else None) (and-false (nat_le first sector))
 
--- a sector is one of the range, or the patch has none for it
+-- a sector is in the range, or the patch has no value for it
 pub over_cases : (first count : ℕ) (value : ℕ → List ℕ) (sector : ℕ)
     → ((k : ℕ) × (k < count) × (sector ≡ first + k)) ⊎ (over first count value sector ≡ None)
 over_cases first count value sector = elim (cases_lt sector first) [
@@ -74,7 +75,7 @@ range_cases first count sector = elim (cases_lt sector first) [
   ]
 ]
 
--- a range that is moved has the same values at its moved sectors
+-- a moved range has the same values at its moved sectors
 pub over-shift : (offset first count : ℕ) (value : ℕ → List ℕ) (sector : ℕ)
     → over (offset + first) count value (offset + sector) ≡ over first count value sector
 over-shift offset first count value sector = elim (range_cases first count sector) [
@@ -94,13 +95,13 @@ over-shift offset first count value sector = elim (range_cases first count secto
   ]
 ]
 
--- a sector for which the call has a value has it
+-- a sector for which the call has a value gets it
 pub put-some : (patch : Patch) (content : Content) (sector : ℕ) (value : List ℕ)
     → patch sector ≡ Some value → put patch content sector ≡ value
 put-some patch content sector value is =
     ap (λ (o : Option (List ℕ)). unwrap_or o (content sector)) is
 
--- a sector for which the call has none stays as it was
+-- a sector for which the call has no value stays as it was
 pub put-none : (patch : Patch) (content : Content) (sector : ℕ) → patch sector ≡ None
     → put patch content sector ≡ content sector
 put-none patch content sector is = ap (λ (o : Option (List ℕ)). unwrap_or o (content sector)) is
@@ -111,7 +112,7 @@ pub put-in : (first count : ℕ) (value : ℕ → List ℕ) (content : Content) 
 put-in first count value content k h =
     put-some (over first count value) content (first + k) (value k) (over-in first count value k h)
 
--- after a write its bytes stand in the content
+-- after a write the content has its bytes
 pub HasBytes-put : (first : ℕ) (bytes : List ℕ) (content : Content)
     → HasBytes (put (writes first bytes) content) first bytes
 HasBytes-put first bytes content = put-in first (length bytes / 512) (sector_of bytes) content
@@ -168,16 +169,16 @@ writes-whole first bytes =
     length-drop (512 * k) bytes in length-take-le 512 (drop (512 * k) bytes) (omega arith) in
     over-whole first (length bytes / 512) (sector_of bytes) whole
 
--- so has a discard
+-- a discard has whole values
 pub discards-whole : (first count : ℕ) → HasWholeValues (discards first count)
 discards-whole first count =
     over-whole first count (λ _. replicate 512 0) (λ k h. length-replicate {A = ℕ} 512 0)
 
--- and a call that changes nothing
+-- a call that changes nothing has whole values
 pub nothing-whole : HasWholeValues nothing
 nothing-whole sector value is = cc
 
--- what a write leaves in its range: its bytes
+-- a sector in the range of a write gets its bytes
 pub put-writes : (first : ℕ) (bytes : List ℕ) (content : Content) (sector : ℕ) → first ≤ sector
     → sector < first + length bytes / 512
     → put (writes first bytes) content sector ≡ sector_of bytes (sector - first)
@@ -185,7 +186,7 @@ put-writes first bytes content sector low high =
     ap (put (writes first bytes) content) (omega arith)
     ∙ put-in first (length bytes / 512) (sector_of bytes) content (sector - first) (omega arith)
 
--- what a discard leaves in its range: zeroes
+-- a sector in the range of a discard gets zeroes
 pub put-discards : (first count : ℕ) (content : Content) (sector : ℕ) → first ≤ sector
     → sector < first + count
     → put (discards first count) content sector ≡ replicate 512 0
@@ -193,7 +194,7 @@ put-discards first count content sector low high =
     ap (put (discards first count) content) (omega arith)
     ∙ discards-zeroes first count content (sector - first) (omega arith)
 
--- what a call over a range leaves outside it: what was there
+-- a call over a range leaves a sector outside it as it was
 pub put-outside : (first count : ℕ) (value : ℕ → List ℕ) (content : Content) (sector : ℕ)
     → (sector < first) ⊎ (first + count ≤ sector)
     → put (over first count value) content sector ≡ content sector
@@ -203,10 +204,10 @@ put-outside first count value content sector outside =
       | inr after ↦ over-after first count value sector after
     ])
 
--- a content with none of a call's values is patched by it
+-- a content is patched by a call if it gets none of the call's values
 pub patched-same : (patch : Patch) (content : Content) → Patched patch content content
 patched-same patch content = λ sector. inl refl
 
--- and so is a content with all of them
+-- a content is patched by a call if it gets all of the call's values
 pub patched-whole : (patch : Patch) (content : Content) → Patched patch content (put patch content)
 patched-whole patch content = λ sector. inr refl

@@ -1,7 +1,7 @@
--- What `Ms::later_by` answers: a later moment, but never one past 2^64 - 1. Layers
--- that delay cite it.
+-- The result of `Ms::later_by`: a later time, but never one past 2^64 - 1. Layers that delay cite
+-- it.
 use Rattle.std.specs.Prelude.{ℕ, ◌+◌, ◌-◌, ◌^◌, min}
 
--- the moment that comes so much later, and the last moment where that is past it
+-- the time `now` plus `delay`, or the last time if that is past it
 abbrev pub later_by : ℕ → ℕ → ℕ
 later_by now delay = min (now + delay) (2 ^ 64 - 1)

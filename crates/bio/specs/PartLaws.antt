@@ -1,4 +1,4 @@
--- Parts of a call's values: what they leave, one after another.
+-- Parts of a call's values, and the content after one part and then another.
 use Rattle.std.proofs.Common.{◌≡◌, ℕ, ◌+◌, ◌-◌, ◌*◌, ◌/◌, ◌<◌, ◌≤◌, true, false, ◌&&◌, Option, Some}
 use Rattle.std.proofs.Common.{None, List, length, take, drop, replicate, refl, ap, sym, ◌∙◌, inl}
 use Rattle.std.proofs.Common.{inr, arith}
@@ -51,7 +51,7 @@ below_all end patch none = λ sector. elim (cases_lt sector end) [
   | inr past ↦ below-out end patch sector past ∙ sym (none sector past)
 ]
 
--- none of it is below its first sector
+-- no value of a call is below its first sector
 pub below_none : (end : ℕ) (patch : Patch) → HasNoneBelow end patch → (sector : ℕ)
     → below end patch sector ≡ None
 below_none end patch none sector = elim (cases_lt sector end) [
@@ -66,7 +66,7 @@ below-part end patch = λ sector. elim (cases_lt sector end) [
   | inr past ↦ inl (below-out end patch sector past)
 ]
 
--- and of the one cut at a later sector
+-- a call cut at a sector is a part of the call cut at a later sector
 pub below_more : (end more : ℕ) (patch : Patch) → end ≤ more
     → IsPart (below end patch) (below more patch)
 below_more end more patch h = λ sector. elim (cases_lt sector end) [
@@ -75,7 +75,7 @@ below_more end more patch h = λ sector. elim (cases_lt sector end) [
   | inr past ↦ inl (below-out end patch sector past)
 ]
 
--- what a call has between two sectors is a part of what it has below the second
+-- the values of a call between two sectors are a part of its values below the second
 pub between-part : (from to : ℕ) (patch : Patch) → IsPart (between from to patch) (below to patch)
 between-part from to patch = λ sector. elim (cases_lt sector from) [
   | inl before ↦ inl (between-before from to patch sector before)
@@ -86,8 +86,8 @@ between-part from to patch = λ sector. elim (cases_lt sector from) [
   ]
 ]
 
--- what a call has below a sector, and then what it has from
--- there to another one, is what it has below that one
+-- the values of a call below one sector, and then those from there to another, are its values below
+-- the second
 pub below-joins : (from to : ℕ) (patch : Patch) → from ≤ to
     → Joins (below from patch) (between from to patch) (below to patch)
 below-joins from to patch h = λ sector. elim (cases_lt sector from) [
@@ -155,7 +155,7 @@ patched_cases patch old new patched sector = elim (patched sector) [
   ]
 ]
 
--- a patched content has what it had where the call has no value
+-- a patched sector is as it was if the call has no value for it
 pub patched-none : (patch : Patch) (old new : Content) → Patched patch old new → (sector : ℕ)
     → patch sector ≡ None → new sector ≡ old sector
 patched-none patch old new patched sector none = elim (patched sector) [
@@ -163,13 +163,13 @@ patched-none patch old new patched sector none = elim (patched sector) [
   | inr there ↦ there ∙ put-none patch old sector none
 ]
 
--- calls with the same values put the same
+-- calls with the same values put the same content
 pub put-same : (patch other : Patch) (content : Content) → SameValues patch other → (sector : ℕ)
     → put patch content sector ≡ put other content sector
 put-same patch other content same sector =
     ap (λ (o : Option (List ℕ)). unwrap_or o (content sector)) (same sector)
 
--- two calls, one after the other, put what the whole one puts
+-- two calls, one after the other, put the values of the whole call
 pub put-joined : (first second whole : Patch) (old mid : Content) (sector : ℕ)
     → Joins first second whole → mid sector ≡ put first old sector
     → put second mid sector ≡ put whole old sector
@@ -207,7 +207,7 @@ over-between first count k n value piece within same =
       ]
     ]
 
--- a sector of a part of an image
+-- a sector of a part of an image is one of the image
 pub sector_of-part : (bytes : List ℕ) (k n i : ℕ) → i < n → 512 * (k + n) ≤ length bytes
     → sector_of (take (512 * n) (drop (512 * k) bytes)) i ≡ sector_of bytes (k + i)
 sector_of-part bytes k n i h within =
@@ -234,7 +234,7 @@ writes-between first k n bytes within =
     (sector_of (take (512 * n) (drop (512 * k) bytes))) (omega arith)
     (λ i h. sector_of-part bytes k n i h within) sector
 
--- so has a discard of a part of the sectors
+-- a discard of a part of the sectors has the values of that part
 pub discards-between : (first count k n : ℕ) → k + n ≤ count
     → SameValues (discards (first + k) n)
     (between (first + k) (first + k + n) (discards first count))

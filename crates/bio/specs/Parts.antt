@@ -1,5 +1,5 @@
 -- Parts of the values of a call: below a sector, between two, and two parts that join to a whole.
--- Calls that a layer does block by block, and the writes of a log, are proved by them.
+-- They serve to prove calls that a layer does block by block, and the writes of a log.
 use Rattle.std.specs.Prelude.{◌≡◌, ℕ, ◌≤◌, ◌&&◌, nat_le, nat_lt, Some, None, List, ◌⊎◌}
 use Rattle.std.specs.Prelude.{if◌then◌else◌}
 use Rattle.bio.specs.Content.{Patch}

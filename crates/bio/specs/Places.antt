@@ -1,14 +1,14 @@
 -- Tests and lists over the places below a number: the first that passes, all, any, and a join.
--- `Content` gathers sectors with `collect`; the laws of these words are in `PlaceLaws`.
+-- `Content` gathers sectors with `collect`; the laws of these definitions are in `PlaceLaws`.
 use Rattle.std.specs.Prelude.{ℕ, zero, suc, Bool, true, false, ◌&&◌, ◌||◌, Option, Some, None, List}
 use Rattle.std.specs.Prelude.{[], ◌++◌}
 
--- the lists that f gives for the places below n, one after another
+-- the lists that f gives for the places below n, joined
 abbrev pub collect : {A : Type 0} → (ℕ → List A) → ℕ → List A
 collect f zero = []
 collect f (suc n) = collect f n ++ f n
 
--- a place that was found, or else this one, where the test holds here
+-- a place that was found, or else this one, if the test holds here
 abbrev pub or_here : Option ℕ → Bool → ℕ → Option ℕ
 or_here (Some found) here n = Some found
 or_here None true n = Some n

@@ -1,5 +1,5 @@
--- What a device that was sent these requests could hold,
--- had power failed after the last of the events.
+-- The contents that a device could hold after these requests, had power failed after the last of
+-- the events.
 use Rattle.std.specs.Prelude.{◌≡◌, ◌⊎◌, ℕ, Bool, false, ◌&&◌, ◌||◌, Option, Some, None, List}
 use Rattle.std.specs.Prelude.{length, slice_get}
 use Rattle.bio.specs.Places.{any_below}
@@ -11,12 +11,12 @@ use Rattle.bio.specs.declared.event.CoreEvent.TheVariants.{Submit, Complete}
 use Rattle.bio.specs.Requests.{covers, has_fua}
 use Rattle.bio.specs.Events.{end_of, is_before, is_flush_submit, submits}
 
--- the event is an end with success
+-- the event ends a request with success
 abbrev pub is_success : Option CoreEvent → Bool
 is_success (Some (Complete id ok)) = ok
 is_success _ = false
 
--- an end with success stands at the place that was found
+-- the event at the place that was found is an end with success
 abbrev pub is_success_at : List CoreEvent → Option ℕ → Bool
 is_success_at events None = false
 is_success_at events (Some end) = is_success (slice_get events end)
@@ -31,8 +31,8 @@ is_flushed events id =
     any_below (λ flush. is_flush_submit (slice_get events flush)
     && (ended_ok events flush && is_before events id flush)) (length events)
 
--- the request is durable: it ended with success, and it is FUA, or a flush that was submitted after
--- its end ended with success
+-- the request is durable: it ended with success, and it has FUA, or a flush that was submitted
+-- after its end ended with success
 abbrev pub is_durable : List CoreEvent → ℕ → Bool
 is_durable events id =
     ended_ok events id && (submits has_fua (slice_get events id) || is_flushed events id)
@@ -61,20 +61,20 @@ values_of Flush = nothing
 values_of (Discard first count) = discards first count
 values_of (Read first count) = nothing
 
--- the values that the request which this event submits puts in sectors
+-- the values that the request of this event puts in sectors
 abbrev pub values_at : Option CoreEvent → Patch
 values_at (Some (Submit bio)) = values_of bio
 values_at _ = nothing
 
--- Could the sector hold what `now` has there, where `first` was there before the first event: that
--- value, where no durable request covers the sector, or the value of a request that was submitted,
--- where it didn't end before a durable one over the sector was submitted.
+-- Could the sector hold its value in `now`, if it was `first` before the first event? Either it has
+-- the first value, and no durable request covers it; or it has the value of a submitted request
+-- that didn't end before a durable one over the sector was submitted.
 abbrev pub PossibleAt : List CoreEvent → Content → Content → ℕ → Type 0
 PossibleAt events first now sector =
     ((now sector ≡ first sector) × (has_kept events sector ≡ false))
     ⊎ ((id : ℕ) × (values_at (slice_get events id) sector ≡ Some (now sector))
     × (is_replaced events sector id ≡ false))
 
--- could the device hold this content: each sector for itself
+-- could the device hold this content: each sector independently
 abbrev pub Possible : List CoreEvent → Content → Content → Type 0
 Possible events first now = (sector : ℕ) → PossibleAt events first now sector

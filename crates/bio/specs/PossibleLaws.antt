@@ -1,4 +1,4 @@
--- Which sectors a request has values for: just those that it covers.
+-- The sectors for which a request has values: exactly those that it covers.
 use Rattle.std.proofs.Common.{◌≡◌, ℕ, ◌-◌, true, false, Option, Some, None, List, replicate, refl}
 use Rattle.std.proofs.Common.{ap, sym, ◌∙◌, inl, inr, arith}
 use Rattle.std.specs.Prelude.{if◌then◌else◌}
@@ -23,7 +23,7 @@ request_uncovered (Discard first count) sector passes =
     ap (λ b. if b then Some (replicate 512 0) else None) passes
 request_uncovered (Read first count) sector passes = refl
 
--- nor has any event
+-- an event has no value for a sector that it doesn't cover
 pub uncovered_value : (event : Option CoreEvent) (sector : ℕ) → covers_at sector event ≡ false
     → values_at event sector ≡ None
 uncovered_value (Some (Submit bio)) sector passes = request_uncovered bio sector passes

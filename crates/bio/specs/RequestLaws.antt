@@ -1,4 +1,4 @@
--- What the words of requests and events come to in numbers.
+-- The definitions of requests and events, stated in numbers.
 use Rattle.std.proofs.Common.{◌≡◌, ◌↔◌, ℕ, zero, suc, ◌+◌, ◌/◌, ◌%◌, ◌==◌, ◌<◌, ◌≤◌, ◌≢◌, Bool}
 use Rattle.std.proofs.Common.{true, false, not, ◌&&◌, Option, Some, None, List, [], ◌∷◌, length}
 use Rattle.std.proofs.Common.{get_or, Result, Ok, Err, refl, ap, sym, ◌∙◌, inl, inr, arith}
@@ -33,7 +33,7 @@ covers-parts bio sector h =
       ltb-true sector (first_sector bio + sector_count bio) outer.1,
     )
 
--- a request that is followed covers the sectors of its range
+-- a tracked request covers the sectors of its range
 pub covers-within : (bio : Bio) (sector : ℕ) → is_tracked bio ≡ true → first_sector bio ≤ sector
     → sector < first_sector bio + sector_count bio
     → covers bio sector ≡ true
@@ -44,7 +44,7 @@ covers-within bio sector tracked from to =
     (le-leb (first_sector bio) sector from)
     ∙ lt-ltb sector (first_sector bio + sector_count bio) to
 
--- it covers just these
+-- a tracked request covers exactly the sectors of its range
 pub covers-range : (bio : Bio) (sector : ℕ) → is_tracked bio ≡ true
     → (covers bio sector ≡ true)
     ↔ ((first_sector bio ≤ sector) × (sector < first_sector bio + sector_count bio))
@@ -62,7 +62,7 @@ pub record Overlap (a b : Bio) : Type 0 where
   pub below : first_sector a < first_sector b + sector_count b
   pub above : first_sector b < first_sector a + sector_count a
 
--- they hold
+-- two requests that overlap pass these tests
 pub overlaps-parts : (a b : Bio) → overlaps a b ≡ true → Overlap a b
 overlaps-parts a b h =
     let both = is_tracked a && is_tracked b in
@@ -83,7 +83,7 @@ overlaps-parts a b h =
       above = ltb-true (first_sector b) (first_sector a + sector_count a) h5.1;
     }
 
--- tests that hold are all that an overlap wants
+-- six tests that hold are all that an overlap needs
 six_hold : (a b c d e f : Bool) → a ≡ true → b ≡ true → c ≡ true → d ≡ true → e ≡ true → f ≡ true
     → (a && b && c && d && e && f) ≡ true
 six_hold true true true true true true ha hb hc hd he hf = refl
@@ -101,7 +101,7 @@ greater m n = elim (cases_lt m n) [
   | inr above ↦ (m, omega arith, omega arith, inl refl)
 ]
 
--- two requests overlap just where both cover some sector
+-- two requests overlap exactly if both cover some sector
 pub overlaps-common : (a b : Bio)
     → (overlaps a b ≡ true) ↔ ((sector : ℕ) × (covers a sector ≡ true) × (covers b sector ≡ true))
 overlaps-common a b = (
@@ -137,7 +137,7 @@ overlaps-common a b = (
       (lt-ltb (first_sector b) (first_sector a + sector_count a) (omega arith)),
 )
 
--- a place that was found is below another one just where it is less
+-- a place that was found is below another one exactly if it is less
 pub is_below-found : (found : Option ℕ) (limit : ℕ)
     → (is_below found limit ≡ true) ↔ ((place : ℕ) × (found ≡ Some place) × (place < limit))
 is_below-found None limit = (λ h. let none : false ≡ true = h in cc, λ some. let is = some.1 in cc)
@@ -147,13 +147,13 @@ is_below-found (Some place) limit = (
       let is = some.1 in cc in let less = some.2 in lt-ltb place limit (omega arith),
 )
 
--- one request ended before the other was submitted just where it has an end at an earlier place
+-- one request ended before the other was submitted exactly if it has an end at an earlier place
 pub is_before-end : (events : List CoreEvent) (earlier later : ℕ)
     → (is_before events earlier later ≡ true)
     ↔ ((end : ℕ) × (end_of events earlier ≡ Some end) × (end < later))
 is_before-end events earlier later = is_below-found (end_of events earlier) later
 
--- a byte passes the test of a text just where it isn't zero
+-- a byte passes the test of a text exactly if it isn't zero
 nonzero : (byte : ℕ) → (not (byte == 0) ≡ true) ↔ (byte ≢ 0)
 nonzero zero = (λ h. let none : false ≡ true = h in cc, λ differ. absurd (differ refl))
 nonzero (suc byte) = (λ h e. omega arith, λ differ. ap not (differ-eqb (suc byte) 0 differ))
@@ -177,12 +177,12 @@ is_text-nonzero (byte ∷ text) = (
     each_of byte text here others zero less = here
     each_of byte text here others (suc k) less = others k (omega arith)
 
--- the answer of a range, by its three tests
+-- the result for a range, by its three tests
 range_of_tests : Bool → Bool → Bool → Result (Unit {0}) BadBio
 range_of_tests none long past =
     if none then Err NotWhole else if long then Err TooLong else if past then Err PastEnd else Ok tt
 
--- where the answer is Ok, the range isn't past the end
+-- if the result is Ok, the range isn't past the end
 not_past : (none long past : Bool) → range_of_tests none long past ≡ Ok tt → past ≡ false
 unfolding range_of_tests
 not_past true long past e = cc
@@ -201,7 +201,8 @@ range_answer-larger first count n m passed more =
     ∙ sym (ap (range_of_tests (count == 0) (nat_lt 2048 count)) within)
     ∙ passed
 
--- and so is a write, whose data are whole sectors for both or for none
+-- a write that may be sent to a device may be sent to a larger one; its data are whole sectors for
+-- both or for none
 write_answer-larger : (whole : Bool) (first count n m : ℕ)
     → (if whole then range_answer first count n else Err NotWhole) ≡ Ok tt → n ≤ m
     → (if whole then range_answer first count m else Err NotWhole) ≡ Ok tt
@@ -220,7 +221,7 @@ check_answer-larger (Discard first count) n m passed more =
 check_answer-larger (Read first count) n m passed more =
     range_answer-larger first count n m passed more
 
--- an answer that is Ok
+-- a result that passes `is_ok` is Ok
 pub is_ok-ok : (answer : Result (Unit {0}) BadBio) → is_ok answer ≡ true → answer ≡ Ok tt
 is_ok-ok (Ok tt) e = refl
 is_ok-ok (Err bad) e = cc

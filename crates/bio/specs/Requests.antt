@@ -1,33 +1,33 @@
--- What a request is to the rest: which sectors it covers, whether it flushes, has
--- FUA, is aligned, and whether two overlap.
+-- The properties of a request: which sectors it covers, whether it flushes, has FUA, is aligned,
+-- and whether two overlap.
 use Rattle.std.specs.Prelude.{ℕ, ◌+◌, ◌/◌, ◌%◌, ◌==◌, Bool, true, false, ◌&&◌, length, nat_lt}
 use Rattle.std.specs.Prelude.{nat_le}
 use Rattle.bio.specs.declared.request.Bio.{Bio}
 use Rattle.bio.specs.declared.request.Bio.TheVariants.{Write, Flush, Discard, Read}
 
--- whether the recorder follows it to its end: a write, a discard or a flush
+-- whether the recorder tracks the request until it ends: a write, a discard or a flush
 abbrev pub is_tracked : Bio → Bool
 is_tracked (Read first count) = false
 is_tracked _ = true
 
--- whether the device's cache is flushed: by a flush, and by a write that asks for it
+-- whether the request flushes the device's cache: a flush, or a write with a flush
 abbrev pub has_flush : Bio → Bool
 has_flush (Write first bytes flush fua meta) = flush
 has_flush Flush = true
 has_flush _ = false
 
--- whether its data is to be durable at its end
+-- whether the data of the request is to be durable when it ends
 abbrev pub has_fua : Bio → Bool
 has_fua (Write first bytes flush fua meta) = fua
 has_fua _ = false
 
--- whether it puts values in sectors: a write or a discard
+-- whether the request puts values in sectors: a write or a discard
 abbrev pub is_change : Bio → Bool
 is_change (Write first bytes flush fua meta) = true
 is_change (Discard first count) = true
 is_change _ = false
 
--- the request has data, a copy of which takes memory
+-- the request has data, and a copy of it takes memory
 abbrev pub has_data : Bio → Bool
 has_data (Write first bytes flush fua meta) = true
 has_data _ = false
@@ -39,15 +39,15 @@ first_sector Flush = 0
 first_sector (Discard first count) = first
 first_sector (Read first count) = first
 
--- how many whole sectors a request has; none for a flush
+-- the number of whole sectors of a request; none for a flush
 abbrev pub sector_count : Bio → ℕ
 sector_count (Write first bytes flush fua meta) = length bytes / 512
 sector_count Flush = 0
 sector_count (Discard first count) = count
 sector_count (Read first count) = count
 
--- it begins and ends at multiples of so many bytes, for a log with sectors of that size: its first
--- sector and its count are multiples of the sectors of 512 bytes in one
+-- the request begins and ends at multiples of `size` bytes, for a log with sectors of that size:
+-- its first sector and its count are multiples of the sectors of 512 bytes in one
 abbrev pub is_aligned : ℕ → Bio → Bool
 is_aligned size bio = first_sector bio % (size / 512) == 0 && sector_count bio % (size / 512) == 0
 
@@ -57,7 +57,7 @@ covers bio sector =
     is_tracked bio && nat_le (first_sector bio) sector
     && nat_lt sector (first_sector bio + sector_count bio)
 
--- two writes or discards meet: both put a value in some sector
+-- two writes or discards overlap: both put a value in some sector
 abbrev pub overlaps : Bio → Bio → Bool
 overlaps a b =
     is_tracked a && is_tracked b

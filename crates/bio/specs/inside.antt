@@ -1,2 +1,2 @@
--- The definitions of `bio` that its proofs alone use: no other crate cites them.
+-- The definitions of `bio` that only its proofs use: no other crate cites them.
 pub mod Storage

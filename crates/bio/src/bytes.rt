@@ -6,21 +6,21 @@ use std::alloc::AllocError;
 use std::marker::Model;
 use std::sync::Arc;
 
-/// A list of bytes, as a request's data or a mark's text. Contracts see it as that list.
+/// A list of bytes, such as a request's data or a mark's text. Contracts see it as that list.
 ///
-/// Bytes that are shared lie in memory once, however often they are cloned. Those that are made
-/// from a vector are held alone until they are cloned or `into_shared` is called.
+/// Shared bytes are in memory once, however often they are cloned. Bytes that are made from a
+/// vector have one owner until they are cloned or `into_shared` is called.
 #[derive(Debug, Drop)]
 pub struct Bytes {
     storage: Storage,
 }
 
-// Where the bytes lie.
+// The memory of the bytes.
 #[derive(Debug, Drop)]
 enum Storage {
-    // In a vector of their own.
+    // A vector with one owner.
     Alone(Vec<u8>),
-    // The first bytes of a vector, and how many. Clones and prefixes share the vector.
+    // The first bytes of a vector, and their count. Clones and prefixes share the vector.
     Shared(Arc<Vec<u8>>, usize),
 }
 
@@ -34,7 +34,7 @@ impl Model for Bytes {
 }
 
 impl Bytes {
-    /// The bytes of a vector. Takes no memory.
+    /// Makes bytes of a vector. Takes no memory.
     pub fn from_vec(bytes: Vec<u8>) -> Bytes
         ensures { result ≡ bytes.items }
     {
@@ -43,8 +43,8 @@ impl Bytes {
         }
     }
 
-    /// The same bytes, of which each clone takes no more memory. Takes memory for a few words, and
-    /// none where they are shared already.
+    /// Returns the same bytes, so that a clone takes no more memory. Takes memory for a few words,
+    /// and none if they are shared already.
     pub fn into_shared(self) -> Result<Bytes, AllocError>
         ensures { IfOk result (λ shared. shared ≡ self) }
     {
@@ -57,8 +57,8 @@ impl Bytes {
         })
     }
 
-    /// Gives the vector back. Takes no memory but where the bytes are shared with a clone that is
-    /// still there: then they are copied.
+    /// Returns the vector. Takes memory only if a clone that shares the bytes still exists: then
+    /// they are copied.
     pub fn into_vec(self) -> Result<Vec<u8>, AllocError>
         ensures { IfOk result (λ bytes. bytes.items ≡ self) }
     {
@@ -82,8 +82,8 @@ impl Bytes {
         }
     }
 
-    /// The first `length` bytes, or all if there are fewer. Takes no memory if they are shared;
-    /// else they are copied.
+    /// Returns the first `length` bytes, or all if there are fewer. Takes no memory if they are
+    /// shared; else they are copied.
     pub fn prefix(&self, length: usize) -> Result<Bytes, AllocError>
         ensures { IfOk result (λ prefix. prefix ≡ take length self.now) }
     {
@@ -108,7 +108,7 @@ impl Bytes {
     }
 }
 
-// Puts a vector where clones can share it.
+// Makes a vector shared.
 fn share(bytes: Vec<u8>) -> Result<Storage, AllocError>
     ensures { IfOk result (λ shared. stored shared ≡ bytes.items) }
 {
@@ -120,8 +120,8 @@ fn share(bytes: Vec<u8>) -> Result<Storage, AllocError>
 impl Clone for Bytes {
     ghost is_clone = { λ from to. to ≡ from };
 
-    /// The same bytes. Of bytes that are shared, and of none, it takes no memory; else they are
-    /// copied once, and the copy is shared by its own clones.
+    /// Returns the same bytes. Takes no memory if they are shared or empty; else they are copied
+    /// once, and clones of the copy share it.
     fn clone(&self) -> Result<Bytes, AllocError>
         ensures { IfOk result (λ copy. copy ≡ self.now) }
     {

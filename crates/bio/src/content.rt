@@ -1,5 +1,5 @@
-//! Sectors of 512 bytes, and laws of what a device has in each of them. A law's function does
-//! nothing, and its clause is the law: it says what a write and a discard leave in each sector.
+//! Sectors of 512 bytes, and laws of a device's content. A law's function does nothing, and its
+//! clauses are the law: the content of each sector after a write and a discard.
 ghost use Rattle.std.specs.Prelude.{◌≡◌, ◌⊎◌, ◌+◌, ◌-◌, ◌/◌, ◌<◌, ◌≤◌, List, None, Some, length};
 ghost use Rattle.std.specs.Prelude.{replicate, ℕ};
 ghost use Rattle.bio.specs.Content.{Content, HasBytes, HasWholeSectors, HasWholeValues, Patch};
@@ -8,7 +8,7 @@ ghost use Rattle.bio.specs.Content.{Patched, discards, put, sector_of, writes};
 /// A sector's size in bytes.
 pub const SECTOR_BYTES: u64 = 512;
 
-/// The most sectors that a device has.
+/// The maximum number of sectors of a device.
 pub const MAX_DEVICE_SECTORS: u64 = 1_048_576;
 
 /// The sizes of a sector and of a device: 512 bytes, and at most 1,048,576 sectors.
@@ -17,8 +17,8 @@ pub fn sizes()
     ensures device { MAX_DEVICE_SECTORS ≡ 1048576 }
 {}
 
-/// After a write its bytes stand from its first sector on, as many as are whole sectors: each
-/// sector of the write has its 512 bytes of them. Each other sector has what it had.
+/// After a write the content has its bytes from its first sector on, as many as are whole sectors:
+/// each sector of the write has its 512 bytes of them. Each other sector is as it was.
 pub fn writes_put_their_bytes()
     ensures bytes { (first : ℕ) (bytes : List ℕ) (content : Content) →
         HasBytes (put (writes first bytes) content) first bytes }
@@ -30,7 +30,7 @@ pub fn writes_put_their_bytes()
         put (writes first bytes) content sector ≡ content sector }
 {}
 
-/// After a discard its sectors are zeroes. Each other sector has what it had.
+/// After a discard its sectors are zeroes. Each other sector is as it was.
 pub fn discards_put_zeroes()
     ensures within { (first count : ℕ) (content : Content) (sector : ℕ) →
         first ≤ sector → sector < first + count →
@@ -40,7 +40,8 @@ pub fn discards_put_zeroes()
         put (discards first count) content sector ≡ content sector }
 {}
 
-/// A call's values are put: a sector for which it has one has it then, and each other what it had.
+/// A call's values are put: a sector for which the call has one gets it, and each other sector is
+/// as it was.
 pub fn values_are_put()
     ensures value { (patch : Patch) (content : Content) (sector : ℕ) (value : List ℕ) →
         patch sector ≡ Some value → put patch content sector ≡ value }

@@ -1,5 +1,5 @@
-//! What the definitions in `specs/` come to, in plain words: covered sectors,
-//! overlaps, order of ends, and lawful event lists.
+//! The laws of the definitions in `specs/`: covered sectors, overlaps, order of ends, and lawful
+//! event lists.
 ghost use Rattle.std.specs.Prelude.{◌≡◌, ◌≢◌, ◌↔◌, ◌+◌, ◌/◌, ◌<◌, ◌≤◌, Bool, EachIndex, IsTrue};
 ghost use Rattle.std.specs.Prelude.{List, Ok, Some, false, length, slice_index, ℕ};
 ghost use Rattle.bio.specs.declared.event.CoreEvent.{CoreEvent};
@@ -12,13 +12,13 @@ ghost use Rattle.bio.specs.Requests.{covers, is_aligned, overlaps};
 
 use crate::MAX_REQUEST_SECTORS;
 
-/// The most sectors of a request: 2,048.
+/// A request covers at most 2,048 sectors.
 pub fn limits()
     ensures { MAX_REQUEST_SECTORS ≡ 2048 }
 {}
 
 /// A write covers the sectors from its first on, as many as its bytes are whole sectors, and a
-/// discard as many as it counts. A read and a flush cover none.
+/// discard as many as its count. A read and a flush cover none.
 pub fn sectors_are_covered()
     ensures write { (first : ℕ) (bytes : List ℕ) (flush fua meta : Bool) (sector : ℕ) →
         IsTrue (covers (Write first bytes flush fua meta) sector)
@@ -30,13 +30,13 @@ pub fn sectors_are_covered()
     ensures flush { (sector : ℕ) → covers Flush sector ≡ false }
 {}
 
-/// Two requests overlap just where both cover some sector.
+/// Two requests overlap exactly if both cover some sector.
 pub fn overlaps_are_common_sectors()
     ensures { (a b : Bio) → IsTrue (overlaps a b)
         ↔ ((sector : ℕ) × IsTrue (covers a sector) × IsTrue (covers b sector)) }
 {}
 
-/// A request is before a later one just where it has an end, at a place below the later one's.
+/// A request is before a later one exactly if it has an end, at a place below the later one's.
 pub fn ends_come_before()
     ensures { (events : List CoreEvent) (earlier later : ℕ)
         → IsTrue (is_before events earlier later)
@@ -62,8 +62,8 @@ pub fn sized_requests_pass_both()
         ↔ ((check_answer bio sectors ≡ Ok tt) × IsTrue (is_aligned size bio)) }
 {}
 
-/// With log sectors of 512 bytes each request is aligned: `check_sized` answers what `check` does,
-/// and each lawful event list is lawful for such a log.
+/// With log sectors of 512 bytes each request is aligned: `check_sized` returns the result of
+/// `check`, and each lawful event list is lawful for such a log.
 pub fn small_sectors_take_each_request()
     ensures answer { (bio : Bio) (sectors : ℕ)
         → check_sized_answer 512 bio sectors ≡ check_answer bio sectors }

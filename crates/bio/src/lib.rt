@@ -1,16 +1,16 @@
-//! Block requests and their events, and what a device has in its sectors.
+//! Block requests and their events, and the content of a device's sectors.
 //!
-//! A sector has 512 bytes. What a device has in each of them is its `Content`, which bytes stand in
-//! a range of it, and what a call leaves that writes or discards (`specs/Content`, `content`).
-//! `specs/Places` has the words for lists that are said by their places. Each crate that speaks of
-//! a device or of a log stands on these two.
+//! A sector has 512 bytes. The `Content` of a device is the bytes of each sector; `specs/Content`
+//! and `content` define the bytes of a range of it, and its content after a write or a discard.
+//! `specs/Places` has tests and lists over places. Each crate about a device or a log builds on
+//! these two.
 //!
 //! A request is a `Bio`; `check` decides whether it may be sent to a device, and `check_sized`
-//! whether it also suits a log of sectors of a given `SectorSize`. What happens to requests is a
+//! whether it also suits a log of sectors of a given `SectorSize`. The events of requests are a
 //! list of `CoreEvent`s; an `Id` is the place of a request's submission, or of a mark, in that
-//! list. The definitions beside the code (`specs/`) say which sectors a request covers
-//! (`Requests`), where the requests of an event list end (`Events`), and which lists are lawful
-//! (`Lawful`). `laws` says in plain words what they come to.
+//! list. The definitions in `specs/` state which sectors a request covers (`Requests`), at which
+//! places of an event list requests end (`Events`), and which lists are lawful (`Lawful`). `laws`
+//! has their laws.
 #![tactic(auto)]
 
 pub use bytes::Bytes;

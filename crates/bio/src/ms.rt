@@ -1,10 +1,10 @@
-//! A moment in milliseconds: device calls are given one and answer one, and layers delay by some.
+//! A time in milliseconds: device calls receive one and return one, and layers delay by some.
 ghost use Rattle.std.specs.Prelude.{◌≡◌, ℕ};
 ghost use Rattle.bio.specs.Moments.{later_by};
 
 use std::marker::Model;
 
-/// A moment, in milliseconds, from 0 to 2^64 - 1. Contracts see it as that number.
+/// A time in milliseconds, from 0 to 2^64 - 1. Contracts see it as that number.
 #[derive(Clone, Copy, Debug, PartialEq, Eq)]
 pub struct Ms {
     milliseconds: u64,
@@ -31,7 +31,7 @@ impl Ms {
         self.milliseconds
     }
 
-    /// The moment that comes so much later, and 2^64 - 1 where that is past the last moment.
+    /// Returns the time that is `delay` later, or 2^64 - 1 if that is past the last time.
     pub fn later_by(self, delay: Ms) -> Ms
         ensures { result ≡ later_by self delay }
     {

@@ -1,8 +1,8 @@
--- The calls of a block device, and the ranges of sectors that they may name.
--- `BlockDev` takes them in its contracts (src/device), and each layer says by them what it does.
+-- The calls of a block device, and the ranges of sectors that they may name. `BlockDev` uses them
+-- in its contracts (src/device), and each layer states by them what it does.
 use Rattle.std.specs.Prelude.{◌≡◌, ℕ, ◌+◌, ◌/◌, ◌%◌, ◌<◌, ◌≤◌, Bool, List}
 
--- A call of a device. A read says what its buffer held before it and holds after it.
+-- A call of a device. A read has the bytes of its buffer before it and after it.
 pub data Call : Type 0 where
   Reads : (first : ℕ) (before after : List ℕ) → Call
   Writes : (first : ℕ) (bytes : List ℕ) (fua : Bool) → Call

@@ -3,12 +3,12 @@ use Rattle.std.specs.Prelude.{◌≡◌, ◌⊎◌, ℕ, List, [], ◌∷◌, Re
 use Rattle.bio.specs.declared.outcome.DevError.{DevError}
 use Rattle.blockdev.specs.Calls.{Call}
 
--- a device does a call at a moment, and it ends well
+-- a device does a call at the time `now`, and it ends well
 abbrev pub EndsWell : {D : Type 0} → (D → Call → ℕ → Result ℕ DevError → D → Type 0) → ℕ → Call → D
     → D → Type 0
 EndsWell does now call old new = (end : ℕ) × does old call now (Ok end) new
 
--- a device does these calls in turn, all beginning at one moment: each ends well, or the first that
+-- a device does these calls in turn, each at the time `now`: each ends well, or the first that
 -- doesn't is the last that is done, and its error the result
 abbrev pub DoesInTurn : {D : Type 0} → (D → Call → ℕ → Result ℕ DevError → D → Type 0) → ℕ
     → List Call → D → Result (Unit {0}) DevError → D → Type 0

@@ -1,4 +1,4 @@
--- What several calls come to, of which each does a part of one whole call.
+-- The joined effect of several calls, if each does a part of one whole call.
 use Rattle.std.proofs.Common.{◌≡◌, ℕ, ◌≤◌, Bool, None, refl, sym, ◌∙◌, inl, inr, arith}
 use Rattle.bio.specs.Content.{Content, HasNoneBelow, HasWholeSectors, Patch, nothing}
 use Rattle.bio.specs.ContentLaws.{patched-same, put-none}
@@ -16,7 +16,7 @@ after_twice patch set mid left first after =
     let before = first after.0 after.1 in
     (before.0, before.1, patched_twice patch before.0 after.0 left before.2 after.2)
 
--- a device that isn't called goes by any call
+-- a device that isn't called satisfies the frame of any call
 pub goes_none : (patch : Patch) (v : View) → DeviceFrame patch v v
 goes_none patch v = record {
   size = refl;
@@ -32,8 +32,8 @@ goes_none patch v = record {
   honest = λ none. refl;
 }
 
--- what goes by a part of a call goes by the whole one: so a
--- call that failed after a part was a call
+-- the frame of a part of a call implies that of the whole one: so a call that failed after a part
+-- satisfies it
 pub goes_part : (part whole : Patch) (v w : View) → IsPart part whole → DeviceFrame part v w
     → DeviceFrame whole v w
 goes_part part whole v w is goes = record {
@@ -57,7 +57,7 @@ goes_part part whole v w is goes = record {
     wider : (left : Content) → AfterPatch part v.crash left → AfterPatch whole v.crash left
     wider left after = (after.0, after.1, patched-part part whole after.0 left is after.2)
 
--- two calls that go by one go by it together
+-- two calls that satisfy the frame of one call satisfy it together
 pub goes_both : (patch : Patch) (u v w : View) → DeviceFrame patch u v → DeviceFrame patch v w
     → DeviceFrame patch u w
 goes_both patch u v w first second = record {
@@ -79,7 +79,7 @@ goes_both patch u v w first second = record {
   honest = λ none. second.honest (first.can_lie ∙ none) ∙ first.honest none;
 }
 
--- two calls of which each does a part of a whole call go by it together
+-- two calls that each do a part of a whole call satisfy its frame together
 pub goes_joined : (first second whole : Patch) (u v w : View) → IsPart first whole
     → IsPart second whole → DeviceFrame first u v → DeviceFrame second v w
     → DeviceFrame whole u w
@@ -91,12 +91,12 @@ goes_joined first second whole u v w is_first is_second before after =
 pub nothing-part : (patch : Patch) → IsPart nothing patch
 nothing-part patch = λ sector. inl refl
 
--- a call cut at a sector goes by the whole one
+-- a call cut at a sector satisfies the frame of the whole one
 pub goes_cut : (end : ℕ) (patch : Patch) (v w : View) → DeviceFrame (below end patch) v w
     → DeviceFrame patch v w
 goes_cut end patch v w = goes_part (below end patch) patch v w (below-part end patch)
 
--- the next piece of a call, after all before it
+-- the next part of a call, after all parts before it, satisfies the frame of the call up to its end
 pub goes_next : (from to : ℕ) (patch piece : Patch) (u v w : View) → from ≤ to
     → SameValues piece (between from to patch)
     → DeviceFrame (below from patch) u v → DeviceFrame piece v w → DeviceFrame (below to patch) u w
@@ -110,7 +110,7 @@ goes_next from to patch piece u v w h same before after =
       | inr value ↦ inr (same sector ∙ value)
     ]
 
--- calls with the same values land together
+-- a call is done if one with the same values is
 pub lands_same : (patch other : Patch) (fua : Bool) (v w : View) → SameValues patch other
     → WriteDone patch fua v w → WriteDone other fua v w
 lands_same patch other fua v w same lands = record {
@@ -120,7 +120,7 @@ lands_same patch other fua v w same lands = record {
       (before.0, before.1, λ sector. before.2 sector ∙ put-same patch other before.0 same sector);
 }
 
--- a device that isn't called has landed what has no values
+-- a call without values is done by a device that isn't called
 pub lands_none : (patch : Patch) (fua : Bool) (v : View) → ((sector : ℕ) → patch sector ≡ None)
     → WriteDone patch fua v v
 lands_none patch fua v none = record {
@@ -128,7 +128,7 @@ lands_none patch fua v none = record {
   durable = λ is left may. (left, may, λ sector. sym (put-none patch left sector (none sector)));
 }
 
--- two calls that put the values of a whole call land as that
+-- two calls that put the values of a whole call do it
 pub lands_joined : (first second whole : Patch) (fua : Bool) (u v w : View)
     → Joins first second whole
     → WriteDone first fua u v → WriteDone second fua v w → WriteDone whole fua u w
@@ -146,7 +146,7 @@ lands_joined first second whole fua u v w joins before after = record {
       );
 }
 
--- the next piece of a call lands after all before it
+-- a call is done up to the end of its next part after that part is done
 pub lands_next : (from to : ℕ) (patch piece : Patch) (fua : Bool) (u v w : View) → from ≤ to
     → SameValues piece (between from to patch)
     → WriteDone (below from patch) fua u v → WriteDone piece fua v w
@@ -156,19 +156,19 @@ lands_next from to patch piece fua u v w h same before after =
     (below-joins from to patch h)
     before (lands_same piece (between from to patch) fua v w same after)
 
--- before the first piece of a call nothing has to land
+-- before the first part of a call nothing of it is to be done
 pub lands_first : (first : ℕ) (patch : Patch) (fua : Bool) (v : View) → HasNoneBelow first patch
     → WriteDone (below first patch) fua v v
 lands_first first patch fua v none =
     lands_none (below first patch) fua v (below_none first patch none)
 
--- after its last piece all of a call has landed
+-- after its last part all of a call is done
 pub lands_all : (end : ℕ) (patch : Patch) (fua : Bool) (v w : View) → HasNoneFrom end patch
     → WriteDone (below end patch) fua v w → WriteDone patch fua v w
 lands_all end patch fua v w none =
     lands_same (below end patch) patch fua v w (below_all end patch none)
 
--- where two calls told no lie together, neither did
+-- if two calls together didn't lie, neither lied
 pub no_lie_parts : (first second : Patch) (u v w : View) → DeviceFrame first u v
     → DeviceFrame second v w → NoLie u w → NoLie u v × NoLie v w
 no_lie_parts first second u v w before after told =
@@ -179,21 +179,21 @@ no_lie_parts first second u v w before after told =
     let mid : v.lies ≡ u.lies = omega arith in
     (record { same = mid; counted = omega arith }, record { same = omega arith; counted = counted })
 
--- what a crash may leave stays over two calls that keep it
+-- the contents that a crash may leave are kept over two calls that keep them
 pub stays_both : (u v w : View) → CrashSetKept u v → CrashSetKept v w → CrashSetKept u w
 stays_both u v w first second =
     record { crash = λ left may. second.crash left (first.crash left may) }
 
--- a device that isn't called keeps it
+-- a device that isn't called keeps the contents that a crash may leave
 pub stays_none : (v : View) → CrashSetKept v v
 stays_none v = record { crash = λ left may. may }
 
--- what a crash leaves has whole sectors
+-- a content that a crash leaves has whole sectors
 pub crash-whole : (v : View) (left : Content) → IsLawful v → v.crash left
     → HasWholeSectors v.size left
 crash-whole v left lawful may =
     lawful.whole v.moment left (omega arith) (lawful.nested v.moment left (omega arith) may)
 
--- so has the content
+-- the content of a device has whole sectors
 pub content-whole : (v : View) → IsLawful v → HasWholeSectors v.size v.content
 content-whole v lawful = crash-whole v v.content lawful lawful.current

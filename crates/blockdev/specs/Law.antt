@@ -20,51 +20,51 @@ abbrev pub IsTorn : Patch → (Content → Type 0) → Content → Type 0
 IsTorn patch before left = (old : Content) × before old
     × ((sector : ℕ) → (left sector ≡ old sector) ⊎ (patch sector ≡ Some (left sector)))
 
--- What a call does at most, whatever it answers: it puts its values in some of their sectors.
+-- What a call does at most, whatever its result: it puts its values in some of their sectors.
 pub record DeviceFrame (patch : Patch) (v w : View) : Type 0 where
-  -- the device keeps its size, and its place on the disk beneath it
+  -- the device keeps its size, and its place on the disk below it
   pub size : w.size ≡ v.size
   pub place : w.place ≡ v.place
   -- the content is the old one, patched
   pub content : Patched patch v.content w.content
-  -- what a crash may leave after the call is something that one could leave before it, patched
+  -- a content that a crash may leave after the call is one that it could leave before, patched
   pub crash : (left : Content) → w.crash left → AfterPatch patch v.crash left
   -- the clock doesn't go back
   pub moment : v.moment ≤ w.moment
-  -- during the call too, a crash leaves something that one could leave before it, patched
+  -- during the call too, a crash leaves a content that it could leave before, patched
   pub gains : (moment : ℕ) (left : Content) → moment ≤ v.moment → w.since moment left →
       v.since moment left ⊎ AfterPatch patch v.crash left
-  -- what may have been left stays so
+  -- a content that a crash may have left before, it may still have left after the call
   pub keeps : (moment : ℕ) (left : Content) → moment ≤ v.moment → v.since moment left
       → w.since moment left
-  -- the counts don't fall
+  -- the counts don't decrease
   pub faults : v.faults ≤ w.faults
   pub lies : v.lies ≤ w.lies
-  -- whether it can lie stays, and one that can't tells no new lie
+  -- whether it can lie stays, and a device that can't lie doesn't
   pub can_lie : w.can_lie ≡ v.can_lie
   pub honest : v.can_lie ≡ false → w.lies ≡ v.lies
 
--- What a write or a discard does that ends well, without a new lie: it puts all of its values.
+-- The effect of a write or a discard that ends well, without a new lie: it puts all of its values.
 pub record WriteDone (patch : Patch) (fua : Bool) (v w : View) : Type 0 where
   pub content : (sector : ℕ) → w.content sector ≡ put patch v.content sector
-  -- with FUA, in whatever a crash may leave too
+  -- with FUA, they are also in whatever a crash may leave
   pub durable : IsTrue fua → (left : Content) → w.crash left → AfterWhole patch v.crash left
 
--- What a flush does that ends well, without a new lie: a crash then leaves the content.
+-- The effect of a flush that ends well, without a new lie: a crash then leaves the content.
 pub record FlushDone (w : View) : Type 0 where
   pub only : (left : Content) → w.crash left → (sector : ℕ) → left sector ≡ w.content sector
 
--- What a read does to what a crash may leave: nothing.
+-- A read keeps the contents that a crash may leave.
 pub record CrashSetKept (v w : View) : Type 0 where
   pub crash : (left : Content) → v.crash left → w.crash left
 
--- The call told no new lie: the count of lies stayed, and isn't at its end.
+-- The call didn't lie: the count of lies is unchanged, and isn't at its maximum.
 pub record NoLie (v w : View) : Type 0 where
   pub same : w.lies ≡ v.lies
   pub counted : w.lies < last_count
 
--- An answer has its cause: 'Io' comes only where the device
--- failed, and an end isn't before the call.
+-- A result has its cause: 'Io' is returned only if the device failed, and the end isn't before the
+-- call.
 pub record HasCause (now : ℕ) (v w : View) (result : Result ℕ DevError) : Type 0 where
   pub failed : result ≡ Err Io → (v.faults < w.faults) ⊎ (w.faults ≡ last_count)
   pub ends : (end : ℕ) → result ≡ Ok end → now ≤ end

@@ -1,4 +1,4 @@
--- What a message may change, and what it is refused by.
+-- The changes that a message may make, and the refusals of one.
 use Rattle.std.proofs.Common.{◌≡◌, ℕ, refl, ◌∙◌}
 use Rattle.refusals.specs.declared.refusal.Refusal.{Refusal}
 use Rattle.refusals.specs.declared.refusal.Refusal.TheVariants as refusals
@@ -7,19 +7,19 @@ use Rattle.blockdev.specs.declared.message.MessageError.{MessageError}
 use Rattle.blockdev.specs.declared.message.MessageError.TheVariants as errors
 use Rattle.blockdev.specs.View.{View}
 
--- the refusal that a message's error is shown by
+-- the refusal that reports a message's error
 abbrev pub message_refusal : MessageError → Refusal
 message_refusal errors.BadMessage = refusals.BadMessage
 message_refusal errors.AlreadyBad = refusals.AlreadyBad
 message_refusal errors.NotBad = refusals.NotBad
 message_refusal errors.Memory = refusals.Memory
 
--- What contracts see of a device is what it was.
+-- The view of a device is unchanged.
 pub record Unchanged (v w : View) : Type 0 where
   pub size : w.size ≡ v.size
   pub place : w.place ≡ v.place
   pub content : w.content ≡ v.content
-  -- a crash may leave the same, now and since any moment
+  -- a crash may leave the same contents, now and since any reading of the clock
   pub crash : (left : Content) → v.crash left → w.crash left
   pub crash_before : (left : Content) → w.crash left → v.crash left
   pub moment : w.moment ≡ v.moment
@@ -29,7 +29,7 @@ pub record Unchanged (v w : View) : Type 0 where
   pub lies : w.lies ≡ v.lies
   pub can_lie : w.can_lie ≡ v.can_lie
 
--- a view is what it is
+-- a view is unchanged if nothing happens
 pub unchanged_none : (v : View) → Unchanged v v
 unchanged_none v = record {
   size = refl;
@@ -45,7 +45,7 @@ unchanged_none v = record {
   can_lie = refl;
 }
 
--- nothing was changed in two steps where nothing was in either
+-- a view is unchanged after two steps if it is after each
 pub unchanged_both : (u v w : View) → Unchanged u v → Unchanged v w → Unchanged u w
 unchanged_both u v w first second = record {
   size = second.size ∙ first.size;

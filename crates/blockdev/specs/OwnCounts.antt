@@ -1,4 +1,4 @@
--- A device over another one, with faults and lies of its own beside the lower one's.
+-- A layer over a device, with faults and lies of its own besides the lower device's.
 use Rattle.std.proofs.Common.{◌≡◌, ℕ, ◌+◌, ◌<◌, ◌≤◌, Bool, false, Err, ap, ◌∙◌, inl, inr, arith}
 use Rattle.std.proofs.lemmas.Bool.{cases_lt, or_parts}
 use Rattle.std.specs.Prelude.{◌⊎◌, ◌||◌, Result, min}
@@ -7,16 +7,16 @@ use Rattle.bio.specs.Content.{Patch}
 use Rattle.blockdev.specs.View.{IsLawful, View, last_count}
 use Rattle.blockdev.specs.Law.{DeviceFrame, HasCause, NoLie}
 
--- the sum of two counts, which stops at the last one
+-- the sum of two counts, at most the maximum count
 abbrev pub sum_of : ℕ → ℕ → ℕ
 sum_of a b = min (a + b) last_count
 
--- one more, which stops there too
+-- a count plus one, at most the maximum count
 abbrev pub one_more : ℕ → ℕ
 one_more count = sum_of count 1
 
--- the view of a layer: the lower device's, with the faults
--- and lies of the layer itself, which may drop calls or not
+-- the view of a layer: the lower device's, with the faults and lies of the layer itself, which may
+-- drop calls or not
 abbrev pub counted : View → ℕ → ℕ → Bool → View
 counted v faults lies drops = record {
   size = v.size;
@@ -30,7 +30,7 @@ counted v faults lies drops = record {
   can_lie = v.can_lie || drops;
 }
 
--- it is lawful where the lower device is
+-- the view of a layer is lawful if the lower device's is
 pub lawful_counted : (v : View) (faults lies : ℕ) (drops : Bool) → IsLawful v
     → IsLawful (counted v faults lies drops)
 lawful_counted v faults lies drops lawful = record {
@@ -44,8 +44,8 @@ lawful_counted v faults lies drops lawful = record {
   lies = omega arith;
 }
 
--- where the lower device goes by a call, and the own counts don't fall, the layer does; that of its
--- lies stays where it drops no calls
+-- a layer satisfies the frame of a call if the lower device does, its own counts don't decrease,
+-- and its lies stay unless it drops calls
 pub goes_counted : (patch : Patch) (v w : View) (faults more_faults lies more_lies : ℕ)
     (drops later : Bool) → faults ≤ more_faults → lies ≤ more_lies
     → later ≡ drops → (drops ≡ false → more_lies ≡ lies)
@@ -71,7 +71,7 @@ goes_counted patch v w faults more_faults lies more_lies drops later h k stays h
           omega arith;
     }
 
--- a layer that tells one more lie of its own tells a new one
+-- a layer that adds a lie of its own lies
 pub own_lie : (v : View) (faults lies : ℕ) (drops later : Bool) → lies ≤ last_count
     → NoLie (counted v faults lies drops) (counted v faults (one_more lies) later) → ⊥
 own_lie v faults lies drops later h told =
@@ -79,7 +79,7 @@ own_lie v faults lies drops later h told =
     let below = told.counted in
     omega arith
 
--- the lower device's cause is the layer's
+-- the cause of the lower device's result is the layer's
 pub cause_counted : (now : ℕ) (v w : View) (result : Result ℕ DevError)
     (faults more_faults lies more_lies : ℕ) (drops later : Bool) → faults ≤ more_faults
     → HasCause now v w result
@@ -100,7 +100,7 @@ cause_counted now v w result faults more_faults lies more_lies drops later h cau
       | inr same ↦ inr (omega arith)
     ]
 
--- one more fault of its own is a cause
+-- a new fault of the layer itself is a cause
 pub own_cause : (now : ℕ) (v : View) (faults lies : ℕ) (drops later : Bool) (error : DevError)
     → HasCause now (counted v faults lies drops) (counted v (one_more faults) lies later)
     (Err error)

@@ -1,52 +1,53 @@
--- What contracts see of a block device: its content, what a crash may leave, faults and lies.
--- `Law` says how a call changes it; `IsLawful` is what each `BlockDev` owes at all times.
+-- The view of a block device in contracts: its content, what a crash may leave, faults and lies.
+-- `Law` defines how a call changes it; each `BlockDev` satisfies `IsLawful` at all times.
 use Rattle.std.specs.Prelude.{ℕ, Bool, ◌-◌, ◌<◌, ◌≤◌, ◌^◌}
 use Rattle.bio.specs.Content.{Content, HasWholeSectors}
 
--- Where a device lies on the disk beneath all layers: its
--- first sector there, and how many sectors that disk has.
+-- The position of a device on the disk below all layers: its first sector there, and the number of
+-- sectors of that disk.
 pub record Place : Type 0 where
   pub origin : ℕ
   pub disk : ℕ
 
--- What contracts see of a device. Moments are those of a
--- clock of the device's own, which contracts alone see.
+-- The view of a device in contracts. Its moments are readings of a clock of the device's own, which
+-- only contracts see.
 pub record View : Type 1 where
   -- its number of sectors
   pub size : ℕ
-  -- where it lies on the disk beneath it
+  -- its place on the disk below it
   pub place : Place
-  -- what a read finds
+  -- the content that a read returns
   pub content : Content
-  -- what a crash now may leave
+  -- the contents that a crash now may leave
   pub crash : Content → Type 0
   -- the reading of its clock
   pub moment : ℕ
-  -- what a crash may have left since the clock had a reading: between two calls, or during one
+  -- the contents that a crash may have left since the clock had this reading: between two calls, or
+  -- during one
   pub since : ℕ → Content → Type 0
-  -- how often it failed, and how often it told a success of what it hadn't done; both stop at 2^64
-  -- - 1
+  -- the number of calls that failed, and of successes that it reported for what it hadn't done;
+  -- both stop at 2^64 - 1
   pub faults : ℕ
   pub lies : ℕ
-  -- whether it, or one beneath it, may ever tell a success of what it hadn't done
+  -- whether it, or a device below it, may ever report a success for what it hadn't done
   pub can_lie : Bool
 
--- the highest that a count of faults or lies gets
+-- the maximum of a count of faults or lies
 abbrev pub last_count : ℕ
 last_count = 2 ^ 64 - 1
 
--- what always holds of a device
+-- the properties that a device always has
 pub record IsLawful (v : View) : Type 0 where
   pub some_sectors : 0 < v.size
   pub few_sectors : v.size ≤ 1048576
   -- a crash may leave the content
   pub current : v.crash v.content
-  -- what a crash now may leave, a crash since any earlier moment may have left
+  -- a content that a crash now may leave, a crash since any earlier reading may have left
   pub nested : (moment : ℕ) (left : Content) → moment ≤ v.moment → v.crash left
       → v.since moment left
-  -- and what a crash since now may have left, a crash now may leave
+  -- a content that a crash since now may have left, a crash now may leave
   pub only_now : (left : Content) → v.since v.moment left → v.crash left
-  -- whatever was left has whole sectors
+  -- each content that a crash left has whole sectors
   pub whole : (moment : ℕ) (left : Content) → moment ≤ v.moment → v.since moment left
       → HasWholeSectors v.size left
   pub faults : v.faults < 2 ^ 64

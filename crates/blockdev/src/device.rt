@@ -1,5 +1,6 @@
 //! The trait `BlockDev`: sectors that are read, written, discarded and flushed, under contracts.
-//! Disks, layers and stacks implement it; recorders, readers and replays call devices by it alone.
+//! Disks, layers and stacks implement it; recorders, readers and replays call devices only through
+//! it.
 ghost use Rattle.std.specs.Prelude.{◌≡◌, ◌/◌, OnOk, Result, false, length, ℕ};
 ghost use Rattle.bio.specs.declared.outcome.DevError.{DevError};
 ghost use Rattle.blockdev.specs.Calls.{Call, Discards, Flushes, IsByteRange, IsRange, Reads};
@@ -13,24 +14,24 @@ use bio::{DevError, Ms};
 
 /// A device of 1 to 1,048,576 sectors of 512 bytes, with a cache that a crash may lose.
 ///
-/// A call begins at the moment `now`, and an Ok answers the moment of its end. A range that is
-/// read, written or discarded is at least one whole sector, all within the device: that is the
-/// caller's condition. What a flush and FUA promise is what Linux's
-/// Documentation/block/writeback_cache_control.rst asks of a device.
+/// A call begins at the time `now`, and an Ok returns the time of its end. The caller ensures that
+/// a range that is read, written or discarded is at least one whole sector, all within the device.
+/// A flush and FUA promise what Linux's Documentation/block/writeback_cache_control.rst asks of a
+/// device.
 pub trait BlockDev {
-    /// What contracts see of the device.
+    /// The view of the device in contracts.
     ghost shown: { Self → View };
 
-    /// Whether the device, before a call and after it, can
-    /// have done this call at this moment with this answer.
+    /// Whether the device, before a call and after it, can have done this call at this time with
+    /// this result.
     ghost does: { Self → Call → ℕ → Result ℕ DevError → Self → Type 0 };
 
-    /// The number of sectors, which never changes.
+    /// Returns the number of sectors, which never changes.
     fn sectors(&self) -> u64
         ensures { result ≡ (shown self.now).size };
 
-    /// Reads whole sectors from `first` on. After an Ok the
-    /// buffer has their bytes, and after an error any bytes.
+    /// Reads whole sectors from `first` on. After an Ok the buffer has their bytes, and after an
+    /// error any bytes.
     fn read(&mut self, now: Ms, first: u64, buffer: &mut [u8]) -> Result<Ms, DevError>
         requires { IsByteRange (shown self.old).size first (length buffer.old) }
 
@@ -38,7 +39,7 @@ pub trait BlockDev {
         ensures bytes { OnOk result
             (buffer.new ≡ gather (shown self.old).content first (length buffer.old / 512)) }
 
-        // Neither the content nor what a crash may leave is changed.
+        // Neither the content nor the contents that a crash may leave are changed.
         ensures goes { DeviceFrame nothing (shown self.old) (shown self.new) }
         ensures stays { CrashSetKept (shown self.old) (shown self.new) }
 
@@ -50,11 +51,11 @@ pub trait BlockDev {
     fn write(&mut self, now: Ms, first: u64, bytes: &[u8], fua: bool) -> Result<Ms, DevError>
         requires { IsByteRange (shown self.old).size first (length bytes.now) }
 
-        // Whatever it answers, some of the sectors have
-        // their new value, and the others what they had.
+        // Whatever the result, some of the sectors have their new value, and the others their old
+        // one.
         ensures goes { DeviceFrame (writes first bytes.now) (shown self.old) (shown self.new) }
 
-        // After an Ok, all of them have it.
+        // After an Ok, all of them have the new value.
         ensures lands { OnOk result (NoLie (shown self.old) (shown self.new) →
             WriteDone (writes first bytes.now) fua (shown self.old) (shown self.new)) }
 
@@ -66,10 +67,10 @@ pub trait BlockDev {
     fn discard(&mut self, now: Ms, first: u64, count: u64) -> Result<Ms, DevError>
         requires { IsRange (shown self.old).size first count }
 
-        // Whatever it answers, some of the sectors are zeroes, and the others what they were.
+        // Whatever the result, some of the sectors are zeroes, and the others have their old value.
         ensures goes { DeviceFrame (discards first count) (shown self.old) (shown self.new) }
 
-        // After an Ok, all of them are.
+        // After an Ok, all of them are zeroes.
         ensures lands { OnOk result (NoLie (shown self.old) (shown self.new) →
             WriteDone (discards first count) false (shown self.old) (shown self.new)) }
 
@@ -78,7 +79,7 @@ pub trait BlockDev {
 
     /// Makes durable what was written: after an Ok a crash leaves the content.
     fn flush(&mut self, now: Ms) -> Result<Ms, DevError>
-        // Whatever it answers, the content stays, and a crash may leave nothing new.
+        // Whatever the result, the content stays, and a crash may leave nothing new.
         ensures goes { DeviceFrame nothing (shown self.old) (shown self.new) }
 
         // After an Ok, a crash leaves the content.
@@ -88,15 +89,15 @@ pub trait BlockDev {
         ensures cause { HasCause now (shown self.old) (shown self.new) result }
         ensures does { does self.old Flushes now result self.new };
 
-    /// How often the device, or one beneath it, failed; it stops at 2^64 - 1.
+    /// Returns how often the device, or one below it, failed; the count stops at 2^64 - 1.
     fn faults(&self) -> u64
         ensures { result ≡ (shown self.now).faults };
 
-    /// How often the device, or one beneath it, told a
-    /// success of what it hadn't done; it stops at 2^64 - 1.
+    /// Returns how often the device, or one below it, reported a success for what it hadn't done;
+    /// the count stops at 2^64 - 1.
     fn lies(&self) -> u64
         ensures { result ≡ (shown self.now).lies };
 
-    /// What always holds of a device.
+    /// The properties that a device always has.
     ghost lawful: { (device : Self) → IsLawful (shown device) };
 }

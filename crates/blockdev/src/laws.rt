@@ -1,13 +1,13 @@
-//! Laws of block devices, apart from the code: each function does nothing, its clause is the law.
-//! They say what a crash leaves of flushed and FUA writes, and of a call that it cuts.
+//! Laws of block devices, apart from the code: each function does nothing, and its clauses are the
+//! law. They state what a crash leaves of flushed and FUA writes, and of a call that it cuts.
 ghost use Rattle.std.specs.Prelude.{◌≡◌, ◌<◌, ◌≤◌, Bool, List, None, true, ℕ};
 ghost use Rattle.blockdev.specs.Law.{DeviceFrame, IsTorn, WriteDone, FlushDone};
 ghost use Rattle.bio.specs.Content.{Content, HasBytes, HasWholeSectors, Patch, nothing, writes};
 
 use crate::BlockDev;
 
-/// What was written, and then flushed, is in whatever a crash leaves: the write landed, the device
-/// went through the flush, and the flush synced.
+/// A write that was done, and then flushed, is in whatever a crash leaves: the write ended well,
+/// the device satisfied the frame of the flush, and the flush ended well.
 pub fn flushed_writes_outlive_crashes<D: BlockDev>()
     ensures { (before written flushed : D) (first : ℕ) (bytes : List ℕ) (fua : Bool)
         (left : Content) →
@@ -16,15 +16,15 @@ pub fn flushed_writes_outlive_crashes<D: BlockDev>()
         (D.shown flushed).crash left → HasBytes left first bytes }
 {}
 
-/// What was written with FUA is in whatever a crash leaves.
+/// A write with FUA that was done is in whatever a crash leaves.
 pub fn fua_writes_outlive_crashes<D: BlockDev>()
     ensures { (before written : D) (first : ℕ) (bytes : List ℕ) (left : Content) →
         WriteDone (writes first bytes) true (D.shown before) (D.shown written) →
         (D.shown written).crash left → HasBytes left first bytes }
 {}
 
-/// What is in whatever a crash leaves stays there, through
-/// each call that has no value for its sector.
+/// A sector that has one value in whatever a crash leaves keeps it through each call that has no
+/// value for it.
 pub fn durable_sectors_stay<D: BlockDev>()
     ensures { (before after : D) (patch : Patch) (sector : ℕ) (value : List ℕ) →
         DeviceFrame patch (D.shown before) (D.shown after) → patch sector ≡ None →
@@ -32,16 +32,16 @@ pub fn durable_sectors_stay<D: BlockDev>()
         (left : Content) → (D.shown after).crash left → left sector ≡ value }
 {}
 
-/// A call, a failed one too, tears its own sectors at most: each sector of what a crash leaves
-/// after it is as a crash could leave it before, or has the call's value.
+/// A call, even a failed one, tears at most its own sectors: each sector that a crash leaves after
+/// it is as a crash could leave it before, or has the call's value.
 pub fn calls_tear_their_own_sectors<D: BlockDev>()
     ensures { (before after : D) (patch : Patch) (left : Content) →
         DeviceFrame patch (D.shown before) (D.shown after) → (D.shown after).crash left →
         IsTorn patch (D.shown before).crash left }
 {}
 
-/// What a crash during a call may have left is the same: old
-/// content, with the call's values in some of its sectors.
+/// A crash during a call tears at most its own sectors too: it leaves old content, with the call's
+/// values in some of its sectors.
 pub fn calls_tear_their_own_sectors_at_any_moment<D: BlockDev>()
     ensures { (before after : D) (patch : Patch) (left : Content) →
         DeviceFrame patch (D.shown before) (D.shown after) →
@@ -49,8 +49,8 @@ pub fn calls_tear_their_own_sectors_at_any_moment<D: BlockDev>()
         IsTorn patch (D.shown before).crash left }
 {}
 
-/// Whatever a crash leaves has whole sectors of 512 bytes,
-/// and so has the content, which a crash may leave.
+/// Each content that a crash leaves has whole sectors of 512 bytes, and so has the device's
+/// content, which a crash may leave.
 pub fn crashes_leave_whole_sectors<D: BlockDev>()
     ensures crash { (device : D) (left : Content) → (D.shown device).crash left →
         HasWholeSectors (D.shown device).size left }
@@ -58,7 +58,7 @@ pub fn crashes_leave_whole_sectors<D: BlockDev>()
         → HasWholeSectors (D.shown device).size (D.shown device).content }
 {}
 
-/// Devices have 1 to 1,048,576 sectors, whatever calls they go through.
+/// Devices have 1 to 1,048,576 sectors, and calls don't change their size.
 pub fn devices_keep_their_size<D: BlockDev>()
     ensures some { (device : D) → 0 < (D.shown device).size }
     ensures few { (device : D) → (D.shown device).size ≤ 1048576 }

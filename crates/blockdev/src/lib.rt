@@ -1,9 +1,9 @@
-//! The law of a block device: what a call does to its content, and to what a crash may leave.
+//! The law of a block device: how a call changes its content, and what a crash may leave.
 //!
-//! `BlockDev` is the trait of all devices, and `Message` of those of which a layer takes messages.
-//! Contracts see a device as a `View` (`specs/View`); what a call may do to it is said by the
-//! records of `specs/Law`, and that a message does nothing to it by `Unchanged` (`specs/Messages`).
-//! `laws` says in plain words what they come to.
+//! `BlockDev` is the trait of all devices, and `Message` of those with a layer that takes messages.
+//! Contracts see a device as a `View` (`specs/View`). The records of `specs/Law` define what a call
+//! may do to it, and `Unchanged` (`specs/Messages`) that a message doesn't change it. `laws` has
+//! their laws.
 #![tactic(auto)]
 
 pub use device::BlockDev;

@@ -1,5 +1,5 @@
-//! Messages to a layer of a device, and why one is refused, which a script's run shows.
-//! A layer with bad blocks obeys them; a stack of layers hands each to the layer of its number.
+//! Messages to a layer of a device, and why one is refused, which a script's run prints. A layer
+//! with bad blocks obeys them; a stack of layers passes each to the layer with its number.
 ghost use Rattle.std.specs.Prelude.{◌≡◌, List, Result, ℕ};
 ghost use Rattle.blockdev.specs.Messages.{Unchanged, message_refusal};
 
@@ -49,16 +49,17 @@ impl<T: Drop> From<AllocFailed<T>> for MessageError {
     }
 }
 
-/// A device of which a layer takes messages, which change what it does with later calls.
+/// A device with a layer that takes messages, which change the effect of later calls.
 pub trait Message: BlockDev {
     ghost use Rattle.blockdev.specs.declared.message.MessageError.{MessageError};
 
-    /// Whether the device, before a message to this layer and after it, can have answered this.
+    /// Whether the device, before a message to this layer and after it, can have returned this
+    /// result.
     ghost answers: { Self → ℕ → List ℕ → Result (Unit {0}) MessageError → Self → Type 0 };
 
-    /// Hands a message to a layer, counted from 1. Whatever it answers, what the device holds, what
-    /// a crash may leave, and the counts of faults and lies stay as they are. Refused by
-    /// BadMessage, AlreadyBad, NotBad or Memory.
+    /// Passes a message to a layer, counted from 1. Whatever the result, the content, the contents
+    /// that a crash may leave, and the counts of faults and lies stay as they are. The errors are
+    /// BadMessage, AlreadyBad, NotBad and Memory.
     fn message(&mut self, layer: u64, text: &str) -> Result<(), MessageError>
         ensures same { Unchanged (Self.shown self.old) (Self.shown self.new) }
         ensures answers { answers self.old layer text.now result self.new };

@@ -1,4 +1,4 @@
--- The one text of a script.
+-- The canonical text of a script.
 use Rattle.std.specs.Prelude.{ℕ, List, [], ◌∷◌, ◌++◌, Option, Some, None, Result, Ok, Err, codes}
 use Rattle.std.specs.Prelude.{decimal, flat_map, map}
 use Rattle.dmlw_script.specs.LineMeaning.{LineMeaning}
@@ -38,13 +38,13 @@ step_text (steps.Mark text) = codes "mark " ++ text
 step_text (steps.At moment) = spaced (codes "at" ∷ decimal moment ∷ [])
 step_text (steps.Message over layer text) = message_verb over ++ 32 ∷ (decimal layer ++ 32 ∷ text)
 
--- the line of a layer: behind its first word the one spelling
--- of a table line; a line that asks for none is never printed
+-- the line of a layer: its first word, then the canonical text of its table line; a line that asks
+-- for no layer is never printed
 abbrev pub layer_text : DiskName → Result LayerSpec TableError → List ℕ
 layer_text over (Ok spec) = layer_verb over ++ 32 ∷ table_texts.line_text spec
 layer_text over (Err error) = []
 
--- the line that says this
+-- the canonical line with this meaning
 abbrev pub line_text : LineMeaning → List ℕ
 line_text (parsed_lines.Head (head_lines.Data sectors)) =
     spaced (codes "data" ∷ decimal sectors ∷ [])
@@ -56,7 +56,7 @@ line_text (parsed_lines.Body (body_lines.Complete name)) = spaced (codes "c" ∷
 line_text (parsed_lines.Body (body_lines.Step step)) = step_text step
 line_text (parsed_lines.Crash picks) = spaced (codes "crash" ∷ map decimal picks)
 
--- the same, ended by a line feed
+-- as above, with a line feed
 abbrev pub ended_line : LineMeaning → List ℕ
 ended_line s = line_text s ++ 10 ∷ []
 
@@ -65,6 +65,6 @@ abbrev pub ending_text : Option (List ℕ) → List ℕ
 ending_text None = []
 ending_text (Some picks) = ended_line (parsed_lines.Crash picks)
 
--- the one text of a script
+-- the canonical text of a script
 abbrev pub canonical_text : ScriptValue → List ℕ
 canonical_text plan = flat_map ended_line (lines_of_script plan)

@@ -1,4 +1,4 @@
--- What reading answers to a text that is no script: the first line that is at fault, and why.
+-- The result of reading a text that is no script: the first line at fault, and why.
 use Rattle.std.specs.Prelude.{◌≡◌, ℕ, ◌+◌, ◌<◌, Bool, true, false, not, List, [], ◌∷◌, ◌++◌, Option}
 use Rattle.std.specs.Prelude.{Some, None, Err, Result, Ok, length, nat_le, if◌then◌else◌}
 use Rattle.std.specs.List.{list_any, AllZip}
@@ -24,15 +24,15 @@ use Rattle.dmlw_script.specs.Plans.{submission_answer, top_of, Disk, IsInTime, S
 use Rattle.table_line.specs.declared.layer_spec.LayerSpec.{LayerSpec}
 use Rattle.table_line.specs.Refusals.{table_refusal}
 
--- some lines after these make a script of them
+-- these lines and some lines after them are a script
 pub record BeginsScript (lines : List (List ℕ)) : Type 0 where
   pub more : List (List ℕ)
   pub plan : ScriptValue
   pub spells : AreLinesOf (lines ++ more) plan
 
--- how much of a script was read, as far as it says what may come next: nothing; the data disk's
--- sectors; a head, which may have more layers; a head and some of a body, at this moment; or all,
--- so that nothing may come
+-- how much of a script was read, as far as the next line depends on it: nothing; the data disk's
+-- sectors; a head, which may have more layers; a head and some of a body, at this time; or all, so
+-- that nothing may come
 pub data Prefix : Type 0 where
   data_due : Prefix
   log_due : Disk → Prefix
@@ -48,14 +48,14 @@ bare sectors = record { sectors = sectors; layers = [] }
 abbrev pub with_layer : Disk → LayerSpec → Disk
 with_layer disk spec = record disk { layers = disk.layers ++ spec ∷ [] }
 
--- the moment after a line of the body, before which it was this
+-- the time after a line of the body, if it was `moment` before
 abbrev pub moment_at_line : ℕ → BodyLine → ℕ
 moment_at_line moment (body_lines.Submit name submission) = moment
 moment_at_line moment (body_lines.Complete name) = moment
 moment_at_line moment (body_lines.Step step) = moment_at_step moment step
 
--- how much was read with a line that says this; nothing may
--- come behind a crash, nor behind what may not stand there
+-- how much was read after a line with this meaning; nothing may come after a crash, nor after a
+-- line that may not be there
 abbrev pub next : Prefix → LineMeaning → Prefix
 next data_due (parsed_lines.Head (head_lines.Data sectors)) = log_due (bare sectors)
 next (log_due data_disk) (parsed_lines.Head (head_lines.Log sectors size)) =
@@ -70,21 +70,21 @@ next (in_body data_disk log_disk moment) (parsed_lines.Body line) =
     in_body data_disk log_disk (moment_at_line moment line)
 next _ _ = at_end
 
--- how much was read with lines that say this
+-- how much was read after lines with these meanings
 abbrev pub prefix_after : Prefix → List LineMeaning → Prefix
 prefix_after prefix [] = prefix
 prefix_after prefix (s ∷ ss) = prefix_after (next prefix s) ss
 
--- a line of the body comes in time: no moment is less than before
+-- a line of the body comes in time: its time is no less than the time before
 abbrev pub ComesInTime : ℕ → BodyLine → Type 0
 ComesInTime moment (body_lines.Submit name submission) = Unit {0}
 ComesInTime moment (body_lines.Complete name) = Unit {0}
 ComesInTime moment (body_lines.Step step) = IsInTime moment step
 
--- what a line says may stand behind so much, as far as its words say: first the size of the data
--- disk, then that of the log disk, on which one of the log's sectors fits, then up to four layers
--- of the data disk, then up to four of the log disk, then the body, whose moments don't go back,
--- and nothing behind a crash
+-- a line with this meaning may come after this much was read, as far as its words decide. First
+-- comes the size of the data disk, then that of the log disk, which has room for one of the log's
+-- sectors. Then come up to four layers of the data disk, and then up to four of the log disk. Then
+-- comes the body, in which no time decreases, and nothing after a crash
 abbrev pub StandsAfter : Prefix → LineMeaning → Type 0
 StandsAfter data_due (parsed_lines.Head (head_lines.Data sectors)) = is_disk_size sectors ≡ true
 StandsAfter (log_due data_disk) (parsed_lines.Head (head_lines.Log sectors size)) =
@@ -99,7 +99,7 @@ StandsAfter (in_body data_disk log_disk moment) (parsed_lines.Body line) = Comes
 StandsAfter (in_body data_disk log_disk moment) (parsed_lines.Crash picks) = Unit {0}
 StandsAfter _ _ = ⊥
 
--- the line is of the grammar after these, which say this, and says s
+-- the line is of the grammar after these lines, and s is its meaning
 pub record IsLineAfter (before : List (List ℕ)) (line : List ℕ) (s : LineMeaning) : Type 0 where
   pub plain : is_ascii_line line ≡ true
   pub says : ParsesAs line s
@@ -118,7 +118,7 @@ test_refusal (Ok fine) = None
 test_refusal (Err bad) = Some (bad_bio_refusal bad)
 
 -- why a line of the body is refused after a script, if it is: the id of a submission isn't new, or
--- that of an end isn't one of a request that is open; or else its sectors don't pass the test
+-- that of an end isn't one of an open request; or else its sectors don't pass the test
 abbrev pub body_refusal : ScriptValue → BodyLine → Option Refusal
 body_refusal plan (body_lines.Submit name submission) =
     if list_any (same_name name) plan.names then Some BadId
@@ -130,7 +130,7 @@ body_refusal plan (body_lines.Step step) =
     test_refusal (step_answer (bytes_of plan.log_size) (top_of plan.data_disk) step)
 
 -- why a line of the head is refused after a script, if it is: its table line asks for no layer, or
--- for one that isn't within what stands beneath it, or for one of too few sectors
+-- for one that isn't within the device below it, or for one with too few sectors
 abbrev pub head_refusal : ScriptValue → HeadLine → Option Refusal
 head_refusal plan (head_lines.Data sectors) = None
 head_refusal plan (head_lines.Log sectors size) = None
@@ -146,16 +146,16 @@ line_refusal plan (parsed_lines.Head line) = head_refusal plan line
 line_refusal plan (parsed_lines.Body line) = body_refusal plan line
 line_refusal plan (parsed_lines.Crash picks) = None
 
--- why a line can't stand after these: it isn't of the grammar there; or else these are a script,
--- after which it is refused
+-- why a line can't come after these: it isn't of the grammar there; or these are a script, after
+-- which it is refused
 pub data IsLineFault (before : List (List ℕ)) (line : List ℕ) : Refusal → Type 0 where
   bad_line : ((s : LineMeaning) → IsLineAfter before line s → ⊥) → IsLineFault before line BadLine
   refused : (s : LineMeaning) (plan : ScriptValue) (refusal : Refusal) → IsLineAfter before line s
       → AreLinesOf before plan → line_refusal plan s ≡ Some refusal →
       IsLineFault before line refusal
 
--- what is wrong after lines that begin a script: the text ends
--- inside its head, or no script begins with the next line too
+-- why lines that begin a script have no good next line: the text ends inside the head, or no script
+-- begins with the next line too
 abbrev pub FaultAfter : List (List ℕ) → List (List ℕ) → Refusal → Type 0
 FaultAfter before [] refusal =
     (refusal ≡ BadLine) × ((plan : ScriptValue) → AreLinesOf before plan → ⊥)
@@ -176,7 +176,7 @@ pub record IsFirstFault (lines : List (List ℕ)) (line : ℕ) (refusal : Refusa
 abbrev pub is_memory : Fault
 is_memory = record { line = None; refusal = Memory }
 
--- a fault names the first line that is at fault, or memory ran out
+-- a fault has the first line at fault, or memory ran out
 abbrev pub IsFaultOf : List ℕ → Fault → Option ℕ → Type 0
 IsFaultOf text fault (Some line) = IsFirstFault (lines_of text) line fault.refusal
 IsFaultOf text fault None = fault ≡ is_memory

@@ -26,11 +26,11 @@ use Rattle.table_line.specs.Refusals.{refusal_of}
 use Rattle.table_line.specs.TableLines.{IsTableLine}
 use Rattle.refusals.specs.Words.{words_of, IsNumber}
 
--- the word is the id of this name
+-- the word is the id with this name
 abbrev pub IsId : List ℕ → ScriptId → Type 0
 IsId word name = (is_id word ≡ true) × (name ≡ script_id word)
 
--- words with one space between each two
+-- words with one space between them
 abbrev pub spaced : List (List ℕ) → List ℕ
 spaced words = join_with_byte 32 words
 
@@ -40,7 +40,7 @@ pub record ParsesAsNumber (verb line : List ℕ) (n : ℕ) : Type 0 where
   pub number : IsNumber word n
   pub spelled : line ≡ spaced (verb ∷ word ∷ [])
 
--- the words of the size of a log's sectors behind the sectors of its disk: none for 512 bytes
+-- the words for the size of a log's sectors, after the sectors of its disk: none for 512 bytes
 abbrev pub size_words : SectorSize → List (List ℕ)
 size_words sizes.B512 = []
 size_words sizes.B4096 = codes "4096" ∷ []
@@ -57,8 +57,8 @@ pub record ParsesAsId (verb line : List ℕ) (name : ScriptId) : Type 0 where
   pub id : IsId word name
   pub spelled : line ≡ spaced (verb ∷ word ∷ [])
 
--- the line is a write: its id, its first sector, its number of sectors, its byte, and behind these
--- its options in their order
+-- the line is a write: its id, its first sector, its number of sectors, its byte, and then its
+-- options in their order
 pub record ParsesAsWrite (line : List ℕ) (name : ScriptId) (first count byte : ℕ)
     (options : WriteOptions) : Type 0 where
   pub id_word : List ℕ
@@ -89,8 +89,7 @@ pub record ParsesAsRead (line : List ℕ) (first count : ℕ) : Type 0 where
   pub count_number : IsNumber count_word count
   pub spelled : line ≡ spaced (codes "r" ∷ first_word ∷ count_word ∷ [])
 
--- the line is a mark: its text is all that stands behind
--- the first word and one space, and may be empty
+-- the line is a mark: its text is everything after the first word and one space, and may be empty
 pub record ParsesAsMark (line text : List ℕ) : Type 0 where
   pub plain : is_line_text text ≡ true
   pub spelled : line ≡ codes "mark " ++ text
@@ -100,8 +99,8 @@ abbrev pub message_verb : DiskName → List ℕ
 message_verb disks.Data = codes "message data"
 message_verb disks.Log = codes "message log"
 
--- the line is a message: to a layer of this number, and its text is all that stands behind the
--- number and one space, and may be empty
+-- the line is a message to the layer with this number: its text is everything after the number and
+-- one space, and may be empty
 pub record ParsesAsMessage (over : DiskName) (line : List ℕ) (layer : ℕ)
     (text : List ℕ) : Type 0 where
   pub layer_word : List ℕ
@@ -125,14 +124,14 @@ abbrev pub layer_verb : DiskName → List ℕ
 layer_verb disks.Data = codes "data-layer"
 layer_verb disks.Log = codes "log-layer"
 
--- the line is a layer's: behind its first word and one space stands a table line
+-- the line is a layer's: a table line after its first word and one space
 pub record ParsesAsLayer (over : DiskName) (line : List ℕ)
     (asked : Result LayerSpec TableError) : Type 0 where
   pub text : List ℕ
   pub asks : AsksFor (words_of text) asked
   pub spelled : line ≡ layer_verb over ++ 32 ∷ text
 
--- what a line says by its words
+-- the line has this meaning, by its words
 abbrev pub ParsesAs : List ℕ → LineMeaning → Type 0
 ParsesAs line (parsed_lines.Head (head_lines.Data sectors)) =
     ParsesAsNumber (codes "data") line sectors
@@ -157,8 +156,8 @@ ParsesAs line (parsed_lines.Body (body_lines.Step (steps.Message over layer text
     ParsesAsMessage over line layer text
 ParsesAs line (parsed_lines.Crash picks) = ParsesAsCrash line picks
 
--- the lines are those of a script of a recorder: plain ones, of which those that aren't skipped say
--- what the script's lines say, one after the other
+-- the lines are those of a recorder's script: they are plain, and those that aren't skipped have
+-- the meanings of the script's lines, in their order
 pub record AreLinesOf (lines : List (List ℕ)) (plan : ScriptValue) : Type 0 where
   pub plain : AllByRecursion (λ line. is_ascii_line line ≡ true) lines
   pub says : AllZip ParsesAs (unskipped lines) (lines_of_script plan)
@@ -168,9 +167,9 @@ pub record AreLinesOf (lines : List (List ℕ)) (plan : ScriptValue) : Type 0 wh
 abbrev pub IsTextOf : List ℕ → ScriptValue → Type 0
 IsTextOf text plan = AreLinesOf (lines_of text) plan
 
--- the line of this number, counted from 1, says what the script's command at this place says, or
--- its crash behind the last command, and stands there among the lines that aren't skipped: after
--- those of the head and those of the commands before it
+-- the line with this number, counted from 1, has the meaning of the script's command at this place,
+-- or of its crash after the last command. Among the lines that aren't skipped it is after those of
+-- the head and those of the commands before it
 pub record IsLineOf (lines : List (List ℕ)) (plan : ScriptValue) (place number : ℕ) : Type 0 where
   pub before : List (List ℕ)
   pub line : List ℕ

@@ -1,4 +1,4 @@
--- Ids, and the names that they are kept as.
+-- Ids, and the names that are stored for them.
 use Rattle.std.specs.Prelude.{ℕ, ◌-◌, Bool, ◌&&◌, ◌||◌, List, ◌++◌, Option, Some, None, length}
 use Rattle.std.specs.Prelude.{nat_lt, nat_le, replicate, if◌then◌else◌, nat_eq}
 use Rattle.std.specs.Char.{is_ascii_digit}
@@ -23,10 +23,10 @@ script_id word = record { letters = word ++ replicate (16 - length word) 0 }
 abbrev pub letters_of : ScriptId → List ℕ
 letters_of name = before_byte 0 name.letters
 
--- the name that a word is, if it is an id
+-- the name of a word, if it is an id
 abbrev pub id_of_word : List ℕ → Option ScriptId
 id_of_word word = if is_id word then Some (script_id word) else None
 
--- two names are one
+-- two names are equal
 abbrev pub same_name : ScriptId → ScriptId → Bool
 same_name a b = pointwise nat_eq a.letters b.letters

@@ -1,17 +1,18 @@
--- What a line of a script says.
+-- The meaning of a line of a script.
 use Rattle.std.specs.Prelude.{ℕ, List}
 use Rattle.dmlw_script.specs.declared.line.HeadLine.{HeadLine}
 use Rattle.dmlw_script.specs.declared.line.BodyLine.{BodyLine}
 use Rattle.dmlw_script.specs.declared.line.Line.{Line}
 use Rattle.dmlw_script.specs.declared.line.Line.TheVariants as plain_lines
 
--- what a line says: one of the head, one of the body, or the crash of the log disk, with its picks
+-- the meaning of a line: one of the head, one of the body, or the crash of the log disk, with its
+-- picks
 pub data LineMeaning : Type 0 where
   Head : HeadLine → LineMeaning
   Body : BodyLine → LineMeaning
   Crash : List ℕ → LineMeaning
 
--- what a line says that is no crash
+-- the meaning of a line that is no crash
 abbrev pub as_said : Line → LineMeaning
 as_said (plain_lines.Head line) = Head line
 as_said (plain_lines.Body line) = Body line

@@ -3,7 +3,7 @@ use Rattle.std.specs.Prelude.{◌≡◌, ℕ, ◌+◌, ◌==◌, Bool, true, not
 use Rattle.std.specs.Prelude.{filter, flat_map, nat_lt, slice_get, if◌then◌else◌}
 use Rattle.std.specs.List.{list_all, onto_first}
 
--- the lines of a text: each ends at a line feed, which the last may lack
+-- the lines of a text: each ends at a line feed; the last may have none
 abbrev pub lines_of : List ℕ → List (List ℕ)
 lines_of [] = []
 lines_of (byte ∷ bytes) =
@@ -13,11 +13,11 @@ lines_of (byte ∷ bytes) =
 abbrev pub is_ascii_line : List ℕ → Bool
 is_ascii_line line = list_all (λ byte. nat_lt 0 byte && nat_lt byte 128) line
 
--- the byte may stand in a line: it is ASCII, and neither zero nor a line feed
+-- the byte may be in a line: it is ASCII, and neither zero nor a line feed
 abbrev pub is_line_byte : ℕ → Bool
 is_line_byte byte = nat_lt 0 byte && nat_lt byte 128 && not (byte == 10)
 
--- each byte of the text may stand in a line
+-- each byte of the text may be in a line
 abbrev pub is_line_text : List ℕ → Bool
 is_line_text text = list_all is_line_byte text
 
@@ -30,7 +30,7 @@ is_skipped (byte ∷ line) = byte == 35
 abbrev pub unskipped : List (List ℕ) → List (List ℕ)
 unskipped lines = filter (λ line. not (is_skipped line)) lines
 
--- the numbers of the lines that aren't skipped, where the first line has this number
+-- the numbers of the lines that aren't skipped, if `number` is that of the first line
 abbrev pub unskipped_numbers : ℕ → List (List ℕ) → List ℕ
 unskipped_numbers number [] = []
 unskipped_numbers number (line ∷ lines) =
@@ -41,7 +41,7 @@ unskipped_numbers number (line ∷ lines) =
 abbrev pub command_line : List ℕ → ℕ → Option ℕ
 command_line text place = slice_get (unskipped_numbers 1 (lines_of text)) place
 
--- no line feed stands in the line
+-- the line has no line feed
 abbrev pub IsUnbroken : List ℕ → Type 0
 IsUnbroken line = list_all (λ byte. not (byte == 10)) line ≡ true
 

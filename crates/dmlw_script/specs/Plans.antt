@@ -1,4 +1,4 @@
--- What a script is, apart from any text, and what its lines say.
+-- The value of a script, apart from any text, and the meaning of its lines.
 use Rattle.std.specs.Prelude.{◌≡◌, ℕ, ◌+◌, ◌/◌, ◌^◌, ◌<◌, ◌≤◌, ◌==◌, nat_le, Bool, true, false}
 use Rattle.std.specs.Prelude.{◌&&◌, List, [], ◌∷◌, ◌++◌, Option, Some, None, is_some, Result, Ok}
 use Rattle.std.specs.Prelude.{length, map, position, slice_index_or, count_by, if◌then◌else◌}
@@ -32,9 +32,9 @@ pub record Disk : Type 0 where
   pub sectors : ℕ
   pub layers : List LayerSpec
 
--- what a script holds: its disks, the size of its log's sectors, the ids of its requests in the
--- order of their submissions, and the lines of its body, and the picks of the crash of the log disk
--- that ends it, if one does
+-- the value of a script: its disks, the size of its log's sectors, the ids of its requests in the
+-- order of their submissions, and the lines of its body. If a crash of the log disk ends it, the
+-- value also has the picks of this crash
 pub record ScriptValue : Type 0 where
   pub data_disk : Disk
   pub log_disk : Disk
@@ -43,31 +43,30 @@ pub record ScriptValue : Type 0 where
   pub commands : List Command
   pub ending : Option (List ℕ)
 
--- a disk may have so many sectors
+-- a disk may have this number of sectors
 abbrev pub is_disk_size : ℕ → Bool
 is_disk_size sectors = nat_le 1 sectors && nat_le sectors 1048576
 
--- a disk of so many sectors may be that of a log whose
--- sectors are of so many bytes: one of them fits on it
+-- a disk of `sectors` sectors may have a log with sectors of `bytes` bytes: it has room for one of
+-- them
 abbrev pub is_log_disk_size : ℕ → ℕ → Bool
 is_log_disk_size bytes sectors = is_disk_size sectors && nat_le (bytes / 512) sectors
 
--- the fewest sectors of a layer over this disk: those that one of the log's sectors takes over the
--- log disk, and one over the data disk
+-- the fewest sectors of a layer over this disk: over the log disk, those of one of the log's
+-- sectors; over the data disk, one
 abbrev pub least_sectors : DiskName → SectorSize → ℕ
 least_sectors disks.Data size = 1
 least_sectors disks.Log size = bytes_of size / 512
 
--- the sectors of what stands on top of a disk
+-- the number of sectors at the top of a disk
 abbrev pub top_of : Disk → ℕ
 top_of disk = top_sectors disk.sectors disk.layers
 
--- a layer is within what stands beneath it, which has so many sectors
+-- a layer is within the device below it, which has `sectors` sectors
 abbrev pub is_within : LayerSpec → ℕ → Bool
 is_within layer sectors = nat_le (layer.offset + layer.length) sectors
 
--- a disk of the grammar: of a size that a disk may have,
--- with up to four layers that may stand over it
+-- a disk of the grammar: of a size that a disk may have, with up to four layers that fit over it
 pub record IsDisk (disk : Disk) : Type 0 where
   pub size : is_disk_size disk.sectors ≡ true
   pub few : length disk.layers ≤ 4
@@ -78,11 +77,11 @@ abbrev pub disk_of : DiskName → ScriptValue → Disk
 disk_of disks.Data plan = plan.data_disk
 disk_of disks.Log plan = plan.log_disk
 
--- the request that has this id
+-- the request with this id
 abbrev pub request_of : ScriptId → List ScriptId → Option ℕ
 request_of name names = position (same_name name) names
 
--- the name of an id
+-- the name is that of an id
 abbrev pub IsName : ScriptId → Type 0
 IsName name = (word : List ℕ) × (is_id word ≡ true) × (name ≡ script_id word)
 
@@ -92,7 +91,7 @@ is_submission (commands.Submit submission) = true
 is_submission (commands.Complete request) = false
 is_submission (commands.Step step) = false
 
--- the requests that these commands submit
+-- the number of requests that these commands submit
 abbrev pub submissions : List Command → ℕ
 submissions body = count_by is_submission body
 
@@ -106,20 +105,20 @@ is_end_of request (commands.Step step) = false
 abbrev pub is_ended : ℕ → List Command → Bool
 is_ended request body = list_any (is_end_of request) body
 
--- what a test answers of `count` sectors from `first` on, for a log of sectors of so many bytes and
--- a data disk of so many sectors: what it answers of a read of them
+-- the result of a test of `count` sectors from `first` on, for a log with sectors of `bytes` bytes
+-- and a data disk of `sectors` sectors: that for a read of them
 abbrev pub range_test : (bytes sectors first count : ℕ) → Result (Unit {0}) BadBio
 range_test bytes sectors first count = check_sized_answer bytes (Read first count) sectors
 
--- what a test of the sectors that a submission covers answers, for a log of sectors of so many
--- bytes and a data disk of so many sectors
+-- the result of a test of the sectors that a submission covers, for a log with sectors of `bytes`
+-- bytes and a data disk of `sectors` sectors
 abbrev pub submission_answer : (bytes sectors : ℕ) → Submission → Result (Unit {0}) BadBio
 submission_answer bytes sectors (submits.Write first count byte options) =
     range_test bytes sectors first count
 submission_answer bytes sectors submits.Flush = Ok tt
 submission_answer bytes sectors (submits.Discard first count) = range_test bytes sectors first count
 
--- the same of a line that names no request
+-- the same test for a line that names no request
 abbrev pub step_answer : (bytes sectors : ℕ) → Step → Result (Unit {0}) BadBio
 step_answer bytes sectors steps.Close = Ok tt
 step_answer bytes sectors (steps.Read first count) = range_test bytes sectors first count
@@ -128,14 +127,14 @@ step_answer bytes sectors (steps.Mark text) = Ok tt
 step_answer bytes sectors (steps.At moment) = Ok tt
 step_answer bytes sectors (steps.Message over layer text) = Ok tt
 
--- what a submission writes is a byte
+-- the value that a submission writes is a byte
 abbrev pub WritesByte : Submission → Type 0
 WritesByte (submits.Write first count byte options) = byte < 256
 WritesByte submits.Flush = Unit {0}
 WritesByte (submits.Discard first count) = Unit {0}
 
--- what a line that names no request has may stand in a line: the text of a mark or of a message,
--- and a moment or a message's layer, which 64 bits hold
+-- the values of a line that names no request fit in a line: the text of a mark or of a message, and
+-- a time or a message's layer, which 64 bits hold
 abbrev pub HasLineText : Step → Type 0
 HasLineText steps.Close = Unit {0}
 HasLineText (steps.Read first count) = Unit {0}
@@ -144,7 +143,7 @@ HasLineText (steps.Mark text) = is_line_text text ≡ true
 HasLineText (steps.At moment) = moment < 2 ^ 64
 HasLineText (steps.Message over layer text) = (layer < 2 ^ 64) × (is_line_text text ≡ true)
 
--- the moment after a line that names no request, before which it was this
+-- the time after a line that names no request, if it was `moment` before
 abbrev pub moment_at_step : ℕ → Step → ℕ
 moment_at_step moment steps.Close = moment
 moment_at_step moment (steps.Read first count) = moment
@@ -153,22 +152,22 @@ moment_at_step moment (steps.Mark text) = moment
 moment_at_step moment (steps.At later) = later
 moment_at_step moment (steps.Message over layer text) = moment
 
--- the moment after a command, before which it was this
+-- the time after a command, if it was `moment` before
 abbrev pub moment_at : ℕ → Command → ℕ
 moment_at moment (commands.Submit submission) = moment
 moment_at moment (commands.Complete request) = moment
 moment_at moment (commands.Step step) = moment_at_step moment step
 
--- the moment after these commands, before which it was this
+-- the time after these commands, if it was `moment` before
 abbrev pub moment_from : ℕ → List Command → ℕ
 moment_from moment [] = moment
 moment_from moment (command ∷ body) = moment_from (moment_at moment command) body
 
--- the moment after these commands: that of the last `at`, or 0
+-- the time after these commands: that of the last `at`, or 0
 abbrev pub moment_after : List Command → ℕ
 moment_after body = moment_from 0 body
 
--- the moment of an `at` is no less than the one before it
+-- the time of an `at` is no less than the time before it
 abbrev pub IsInTime : ℕ → Step → Type 0
 IsInTime moment steps.Close = Unit {0}
 IsInTime moment (steps.Read first count) = Unit {0}
@@ -177,9 +176,9 @@ IsInTime moment (steps.Mark text) = Unit {0}
 IsInTime moment (steps.At later) = moment ≤ later
 IsInTime moment (steps.Message over layer text) = Unit {0}
 
--- the command may come after these, for a log of sectors of so many bytes and a data disk of so
--- many sectors: what it covers passes the test of its sectors, a write writes a byte, the text of a
--- mark or of a message may stand in a line, no moment is less than before, and an end is that of a
+-- the command may come after these, for a log with sectors of `bytes` bytes and a data disk of
+-- `sectors` sectors. The sectors that it covers pass their test, a write writes a byte, and the
+-- text of a mark or of a message may be in a line. No time decreases, and an end is that of a
 -- request that was submitted and hasn't ended
 abbrev pub CanFollow : (bytes sectors : ℕ) → List Command → Command → Type 0
 CanFollow bytes sectors before (commands.Submit submission) =
@@ -202,9 +201,9 @@ abbrev pub ArePicks : Option (List ℕ) → Type 0
 ArePicks None = Unit {0}
 ArePicks (Some picks) = AllByRecursion (λ pick. pick < 2 ^ 64) picks
 
--- a script of the grammar: its disks are those of one, a sector of the log fits on the top of the
--- log disk, its ids are ids and differ, each submission has one, its commands come as they may over
--- the top of the data disk, and the picks of its crash are numbers
+-- a script of the grammar: its disks are disks of the grammar, and the top of the log disk has room
+-- for a sector of the log. Its ids are ids and differ, and each submission has one. Its commands
+-- are well-formed over the top of the data disk, and the picks of its crash are numbers
 pub record IsPlan (plan : ScriptValue) : Type 0 where
   pub data_disk : IsDisk plan.data_disk
   pub log_disk : IsDisk plan.log_disk
@@ -219,43 +218,43 @@ pub record IsPlan (plan : ScriptValue) : Type 0 where
 abbrev pub name_at : List ScriptId → ℕ → ScriptId
 name_at names request = slice_index_or names request (script_id [])
 
--- a request that the command submits or ends is one of so
--- many, where so many were submitted before it
+-- a request that the command submits or ends is one of `requests` requests, if `before` were
+-- submitted before it
 abbrev pub HasName : ℕ → ℕ → Command → Type 0
 HasName requests before (commands.Submit submission) = before < requests
 HasName requests before (commands.Complete request) = request < requests
 HasName requests before (commands.Step step) = Unit {0}
 
--- what the line of a command says, before which so many requests were submitted
+-- the meaning of a command's line, if `before` requests were submitted before it
 abbrev pub line_at : List ScriptId → ℕ → Command → BodyLine
 line_at names before (commands.Submit submission) =
     body_lines.Submit (name_at names before) submission
 line_at names before (commands.Complete request) = body_lines.Complete (name_at names request)
 line_at names before (commands.Step step) = body_lines.Step step
 
--- the requests that were submitted after a command, before which there were so many
+-- the number of requests submitted after a command, if it was `before` before it
 abbrev pub count_after_command : ℕ → Command → ℕ
 count_after_command before (commands.Submit submission) = before + 1
 count_after_command before (commands.Complete request) = before
 count_after_command before (commands.Step step) = before
 
--- what the lines of a body say
+-- the meaning of the lines of a body
 abbrev pub lines_of_body : List ScriptId → ℕ → List Command → List LineMeaning
 lines_of_body names before [] = []
 lines_of_body names before (command ∷ body) =
     parsed_lines.Body (line_at names before command) ∷ lines_of_body names
     (count_after_command before command) body
 
--- lines, and behind them the crash that ends the script, if one does
+-- lines, and after them the crash that ends the script, if one does
 abbrev pub with_ending : Option (List ℕ) → List LineMeaning → List LineMeaning
 with_ending None lines = lines
 with_ending (Some picks) lines = lines ++ parsed_lines.Crash picks ∷ []
 
--- what the lines of a script behind its head say, in their order
+-- the meaning of the lines of a script after its head, in their order
 abbrev pub lines_behind_head : ScriptValue → List LineMeaning
 lines_behind_head plan = with_ending plan.ending (lines_of_body plan.names 0 plan.commands)
 
--- how many lines stand behind the head: one for each command, and one for the crash
+-- the number of lines after the head: one for each command, and one for the crash
 abbrev pub count_behind_head : ScriptValue → ℕ
 count_behind_head plan = length plan.commands + (if is_some plan.ending then 1 else 0)
 
@@ -271,17 +270,18 @@ data_line sectors = parsed_lines.Head (head_lines.Data sectors)
 abbrev pub log_line : ℕ → SectorSize → LineMeaning
 log_line sectors size = parsed_lines.Head (head_lines.Log sectors size)
 
--- what the lines of a head say: the sectors of the data disk, those of the log disk and the size of
--- the log's sectors, then the layers of the data disk, and then those of the log disk
+-- the meaning of the lines of a head: first the sectors of the data disk, then those of the log
+-- disk and the size of the log's sectors. Then come the layers of the data disk, and then those of
+-- the log disk
 abbrev pub head_of : Disk → Disk → SectorSize → List LineMeaning
 head_of data_disk log_disk log_size =
     data_line data_disk.sectors ∷ log_line log_disk.sectors log_size
     ∷ (map (layer_line disks.Data) data_disk.layers ++ map (layer_line disks.Log) log_disk.layers)
 
--- how many lines a script's head has: two, and one for each layer
+-- the number of lines of a script's head: two, and one for each layer
 abbrev pub head_count : ScriptValue → ℕ
 head_count plan = 2 + length plan.data_disk.layers + length plan.log_disk.layers
 
--- what the lines of a script say, in their order
+-- the meaning of the lines of a script, in their order
 abbrev pub lines_of_script : ScriptValue → List LineMeaning
 lines_of_script plan = head_of plan.data_disk plan.log_disk plan.log_size ++ lines_behind_head plan

@@ -1,4 +1,4 @@
--- What reading answers to a text that is no run's script: the first line that is at fault, and why.
+-- The result of reading a text that is no run's script: the first line at fault, and why.
 use Rattle.std.specs.Prelude.{◌≡◌, ℕ, ◌+◌, ◌<◌, ◌≤◌, List, [], ◌∷◌, ◌++◌, Option, Some, None}
 use Rattle.std.specs.Prelude.{Result, Ok, Err, length, nat_le, true, if◌then◌else◌}
 use Rattle.std.specs.List.{AllZip}
@@ -20,15 +20,15 @@ use Rattle.dmlw_script.specs.declared.run_line.RunLine.{RunLine}
 use Rattle.dmlw_script.specs.declared.run_line.RunLine.TheVariants as run_lines
 use Rattle.table_line.specs.Refusals.{table_refusal}
 
--- some lines after these make a run's script of them
+-- these lines and some lines after them are a run's script
 pub record BeginsRun (lines : List (List ℕ)) : Type 0 where
   pub more : List (List ℕ)
   pub plan : RunPlan
   pub spells : AreRunLines (lines ++ more) plan
 
--- how much of a run's script was read, as far as it says what may come next: nothing; the data
+-- how much of a run's script was read, as far as the next line depends on it: nothing; the data
 -- disk's sectors; the log disk's too; a head with this many seats, which may have more layers; a
--- head and some of a body; or what nothing may stand behind
+-- head and some of a body; or something after which nothing may come
 pub data RunPrefix : Type 0 where
   data_due : RunPrefix
   log_due : Disk → RunPrefix
@@ -37,7 +37,7 @@ pub data RunPrefix : Type 0 where
   in_body : ℕ → RunPrefix
   at_end : RunPrefix
 
--- how much was read with a line that says this
+-- how much was read after a line with this meaning
 abbrev pub next : RunPrefix → RunLine → RunPrefix
 next data_due (run_lines.Head (head_lines.Data sectors)) = log_due (bare sectors)
 next (log_due data_disk) (run_lines.Head (head_lines.Log sectors size)) =
@@ -51,15 +51,15 @@ next (in_head data_disk log_disk count) (run_lines.Body said) = in_body count
 next (in_body count) (run_lines.Body said) = in_body count
 next _ _ = at_end
 
--- how much was read with lines that say this
+-- how much was read after lines with these meanings
 abbrev pub prefix_after : RunPrefix → List RunLine → RunPrefix
 prefix_after prefix [] = prefix
 prefix_after prefix (said ∷ more) = prefix_after (next prefix said) more
 
--- what a line says may stand behind so much, as far as its words say: first the size of the data
--- disk, then that of the log disk, on which one of the log's sectors fits, then 1 to 64 seats, then
--- up to four layers of the data disk, then up to four of the log disk, then the body, each line of
--- which is of one of the seats
+-- a line with this meaning may come after this much was read, as far as its words decide. First
+-- comes the size of the data disk, then that of the log disk, which has room for one of the log's
+-- sectors. Then come 1 to 64 seats, up to four layers of the data disk, and up to four of the log
+-- disk. Then comes the body, with one of the seats in each line
 abbrev pub StandsBehind : RunPrefix → RunLine → Type 0
 StandsBehind data_due (run_lines.Head (head_lines.Data sectors)) = is_disk_size sectors ≡ true
 StandsBehind (log_due data_disk) (run_lines.Head (head_lines.Log sectors size)) =
@@ -74,7 +74,7 @@ StandsBehind (in_head data_disk log_disk count) (run_lines.Body said) = said.sea
 StandsBehind (in_body count) (run_lines.Body said) = said.seat < count
 StandsBehind _ _ = ⊥
 
--- the line is of the grammar after these, which say this, and says s
+-- the line is of the grammar after these lines, and s is its meaning
 pub record IsRunLineAfter (before : List (List ℕ)) (line : List ℕ) (s : RunLine) : Type 0 where
   pub plain : is_ascii_line line ≡ true
   pub says : SaysLine line s
@@ -87,8 +87,8 @@ abbrev pub run_disk : DiskName → RunPlan → Disk
 run_disk disks.Data plan = plan.data_disk
 run_disk disks.Log plan = plan.log_disk
 
--- why a layer is refused after a script, if it is: it isn't
--- within what stands beneath it, or has too few sectors
+-- why a layer is refused after a script, if it is: it isn't within the device below it, or has too
+-- few sectors
 abbrev pub head_refusal : RunPlan → HeadLine → Option Refusal
 head_refusal plan (head_lines.Data sectors) = None
 head_refusal plan (head_lines.Log sectors size) = None
@@ -106,24 +106,24 @@ line_refusal plan (run_lines.Seats count) = None
 line_refusal plan (run_lines.Body said) =
     test_refusal (call_answer (bytes_of plan.log_size) (top_of plan.data_disk) said.call)
 
--- why a line can't stand after these: it isn't of the grammar there; or else these are a script,
--- after which it is refused
+-- why a line can't come after these: it isn't of the grammar there; or these are a script, after
+-- which it is refused
 pub data IsRunLineFault (before : List (List ℕ)) (line : List ℕ) : Refusal → Type 0 where
   bad_line : ((s : RunLine) → IsRunLineAfter before line s → ⊥) → IsRunLineFault before line BadLine
   refused : (s : RunLine) (plan : RunPlan) (refusal : Refusal) → IsRunLineAfter before line s
       → AreRunLines before plan →
       line_refusal plan s ≡ Some refusal → IsRunLineFault before line refusal
 
--- what is wrong after lines that begin a script: the text ends
--- inside its head, or no script begins with the next line too
+-- why lines that begin a script have no good next line: the text ends inside the head, or no script
+-- begins with the next line too
 abbrev pub RunFaultAfter : List (List ℕ) → List (List ℕ) → Refusal → Type 0
 RunFaultAfter before [] refusal =
     (refusal ≡ BadLine) × ((plan : RunPlan) → AreRunLines before plan → ⊥)
 RunFaultAfter before (line ∷ more) refusal =
     (BeginsRun (before ++ line ∷ []) → ⊥) × IsRunLineFault before line refusal
 
--- the first line, counted from 1, with which no run's script
--- can go on, and why; it may be the one after the last
+-- the first line, counted from 1, with which no run's script can go on, and why; it may be the one
+-- after the last
 pub record IsFirstRunFault (lines : List (List ℕ)) (line : ℕ) (refusal : Refusal) : Type 0 where
   pub before : List (List ℕ)
   pub more : List (List ℕ)
@@ -132,7 +132,7 @@ pub record IsFirstRunFault (lines : List (List ℕ)) (line : ℕ) (refusal : Ref
   pub begins : BeginsRun before
   pub fault : RunFaultAfter before more refusal
 
--- a fault names the first line that is at fault, or memory ran out
+-- a fault has the first line at fault, or memory ran out
 abbrev pub IsRunFaultAt : List ℕ → Fault → Option ℕ → Type 0
 IsRunFaultAt text fault (Some line) = IsFirstRunFault (lines_of text) line fault.refusal
 IsRunFaultAt text fault None = fault ≡ is_memory

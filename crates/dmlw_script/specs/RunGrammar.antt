@@ -16,8 +16,8 @@ use Rattle.dmlw_script.specs.declared.run_line.RunLine.TheVariants as run_lines
 use Rattle.dmlw_script.specs.Words.{byte_text}
 use Rattle.refusals.specs.Words.{IsNumber}
 
--- the words are a write's: its first sector, its number of
--- sectors, its byte, and behind these its options in their order
+-- the words are a write's: its first sector, its number of sectors, its byte, and then its options
+-- in their order
 pub record SaysWrite (words : List ℕ) (first count byte : ℕ) (options : WriteOptions) : Type 0 where
   pub first_word : List ℕ
   pub count_word : List ℕ
@@ -35,8 +35,8 @@ pub record SaysDiscard (words : List ℕ) (first count : ℕ) : Type 0 where
   pub count_number : IsNumber count_word count
   pub spelled : words ≡ spaced (codes "d" ∷ first_word ∷ count_word ∷ [])
 
--- the words say what a seat does; a mark's text is all that
--- stands behind its first word and one space, and may be empty
+-- the words are this call of a seat; a mark's text is everything after its first word and one
+-- space, and may be empty
 abbrev pub SaysCall : List ℕ → Call → Type 0
 SaysCall words (Submit (submits.Write first count byte options)) =
     SaysWrite words first count byte options
@@ -44,7 +44,7 @@ SaysCall words (Submit submits.Flush) = words ≡ codes "f"
 SaysCall words (Submit (submits.Discard first count)) = SaysDiscard words first count
 SaysCall words (Mark text) = (is_line_text text ≡ true) × (words ≡ codes "mark " ++ text)
 
--- the line is a seat's: `s` and the number of the seat, and behind one space what it does
+-- the line is a seat's: `s` and the number of the seat, and its call after one space
 pub record SaysSeatCall (line : List ℕ) (said : SeatCall) : Type 0 where
   pub seat_word : List ℕ
   pub words : List ℕ
@@ -52,14 +52,15 @@ pub record SaysSeatCall (line : List ℕ) (said : SeatCall) : Type 0 where
   pub says : SaysCall words said.call
   pub spelled : line ≡ codes "s" ++ (seat_word ++ 32 ∷ words)
 
--- what a line says by its words: a line of the head says what it says in a recorder's script
+-- the line has this meaning, by its words: a line of the head has its meaning in a recorder's
+-- script
 abbrev pub SaysLine : List ℕ → RunLine → Type 0
 SaysLine line (run_lines.Head said) = ParsesAs line (parsed_lines.Head said)
 SaysLine line (run_lines.Seats count) = ParsesAsNumber (codes "seats") line count
 SaysLine line (run_lines.Body said) = SaysSeatCall line said
 
--- the lines are those of a run's script: plain ones, of which those that aren't skipped say what
--- the script's lines say, one after the other
+-- the lines are those of a run's script: they are plain, and those that aren't skipped have the
+-- meanings of the script's lines, in their order
 pub record AreRunLines (lines : List (List ℕ)) (plan : RunPlan) : Type 0 where
   pub plain : AllByRecursion (λ line. is_ascii_line line ≡ true) lines
   pub says : AllZip SaysLine (unskipped lines) (lines_of_run plan)

@@ -1,4 +1,4 @@
--- What a run's script is, apart from any text, and what its lines say.
+-- The value of a run's script, apart from any text, and the meaning of its lines.
 use Rattle.std.specs.Prelude.{◌≡◌, ℕ, ◌<◌, ◌≤◌, ◌/◌, List, ◌∷◌, ◌++◌, Result, Ok, map, true}
 use Rattle.std.specs.List.{AllByRecursion}
 use Rattle.bio.specs.declared.request.BadBio.{BadBio}
@@ -15,8 +15,8 @@ use Rattle.dmlw_script.specs.Lines.{is_line_text}
 use Rattle.dmlw_script.specs.Plans.{submission_answer, top_of, Disk, IsDisk, WritesByte}
 use Rattle.table_line.specs.declared.layer_spec.LayerSpec.{LayerSpec}
 
--- what a run's script holds: its disks, the size of its log's sectors, how many seats there are,
--- and their calls in the order of the lines
+-- the value of a run's script: its disks, the size of its log's sectors, the number of seats, and
+-- their calls in the order of the lines
 pub record RunPlan : Type 0 where
   pub data_disk : Disk
   pub log_disk : Disk
@@ -24,14 +24,14 @@ pub record RunPlan : Type 0 where
   pub seats : ℕ
   pub calls : List SeatCall
 
--- what a test of the sectors that a call covers answers, for a log of sectors of so many bytes and
--- a data disk of so many sectors
+-- the result of a test of the sectors that a call covers, for a log with sectors of `bytes` bytes
+-- and a data disk of `sectors` sectors
 abbrev pub call_answer : (bytes sectors : ℕ) → Call → Result (Unit {0}) BadBio
 call_answer bytes sectors (Submit submission) = submission_answer bytes sectors submission
 call_answer bytes sectors (Mark text) = Ok tt
 
--- what a call has may stand in a line: a write writes a
--- byte, and the text of a mark is that of a line
+-- the values of a call fit in a line: a write writes a byte, and the text of a mark is that of a
+-- line
 abbrev pub FitsLine : Call → Type 0
 FitsLine (Submit submission) = WritesByte submission
 FitsLine (Mark text) = is_line_text text ≡ true
@@ -42,8 +42,8 @@ pub record CanStand (bytes sectors seats : ℕ) (line : SeatCall) : Type 0 where
   pub tested : call_answer bytes sectors line.call ≡ Ok tt
   pub spelled : FitsLine line.call
 
--- a script of the grammar: its disks are those of one, a sector of the log fits on the top of the
--- log disk, there are 1 to 64 seats, and each line of its body is one of theirs
+-- a script of the grammar: its disks are disks of the grammar, and the top of the log disk has room
+-- for a sector of the log. There are 1 to 64 seats, and each line of its body is one of theirs
 pub record IsRunPlan (plan : RunPlan) : Type 0 where
   pub data_disk : IsDisk plan.data_disk
   pub log_disk : IsDisk plan.log_disk
@@ -60,15 +60,15 @@ data_layer spec = Head (head_lines.Layer disks.Data (Ok spec))
 abbrev pub log_layer : LayerSpec → RunLine
 log_layer spec = Head (head_lines.Layer disks.Log (Ok spec))
 
--- what the lines of a run's head say: the sectors of the data disk, those
--- of the log disk and the size of the log's sectors, the number of seats,
--- then the layers of the data disk, and then those of the log disk
+-- the meaning of the lines of a run's head: first the sectors of the data disk, then those of the
+-- log disk and the size of the log's sectors, then the number of seats. Then come the layers of the
+-- data disk, and then those of the log disk
 abbrev pub run_head : RunPlan → List RunLine
 run_head plan =
     Head (head_lines.Data plan.data_disk.sectors) ∷ Head
     (head_lines.Log plan.log_disk.sectors plan.log_size) ∷ Seats plan.seats
     ∷ (map data_layer plan.data_disk.layers ++ map log_layer plan.log_disk.layers)
 
--- what the lines of a run's script say, in their order
+-- the meaning of the lines of a run's script, in their order
 abbrev pub lines_of_run : RunPlan → List RunLine
 lines_of_run plan = run_head plan ++ map Body plan.calls

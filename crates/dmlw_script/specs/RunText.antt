@@ -1,4 +1,4 @@
--- The one text of a run's script.
+-- The canonical text of a run's script.
 use Rattle.std.specs.Prelude.{ℕ, List, [], ◌∷◌, ◌++◌, codes, decimal, flat_map}
 use Rattle.dmlw_script.specs.declared.command.Submission.TheVariants as submits
 use Rattle.dmlw_script.specs.declared.run_line.RunLine.{RunLine}
@@ -13,7 +13,7 @@ use Rattle.dmlw_script.specs.RunPlans.{lines_of_run, RunPlan}
 use Rattle.dmlw_script.specs.LineMeaning as parsed_lines
 use Rattle.dmlw_script.specs.Words.{byte_text}
 
--- what stands behind a seat: the words of what it does, with no leading zeroes
+-- the words of a seat's call, with no leading zeroes
 abbrev pub call_text : Call → List ℕ
 call_text (calls.Submit (submits.Write first count byte options)) =
     spaced (codes "w" ∷ decimal first ∷ decimal count ∷ byte_text byte ∷ option_words options)
@@ -22,7 +22,7 @@ call_text (calls.Submit (submits.Discard first count)) =
     spaced (codes "d" ∷ decimal first ∷ decimal count ∷ [])
 call_text (calls.Mark text) = codes "mark " ++ text
 
--- the line that says this
+-- the canonical line with this meaning
 abbrev pub run_line_text : RunLine → List ℕ
 run_line_text (run_lines.Head line) = line_text (parsed_lines.Head line)
 run_line_text (run_lines.Seats count) = spaced (codes "seats" ∷ decimal count ∷ [])
@@ -36,10 +36,10 @@ seats_line count = run_lines.Seats count
 abbrev pub call_line : SeatCall → RunLine
 call_line said = run_lines.Body said
 
--- what a line says, ended by a line feed
+-- the line with this meaning, ended by a line feed
 abbrev pub ended_run_line : RunLine → List ℕ
 ended_run_line said = run_line_text said ++ 10 ∷ []
 
--- the one text of a run's script
+-- the canonical text of a run's script
 abbrev pub run_text : RunPlan → List ℕ
 run_text plan = flat_map ended_run_line (lines_of_run plan)

@@ -23,7 +23,7 @@ byte_from (Some high) (Some low) = Some (16 * high + low)
 byte_from (Some high) None = None
 byte_from None low = None
 
--- the byte that a word is, if it is one
+-- the byte of a word, if it is one
 abbrev pub byte_of : List ℕ → Option ℕ
 byte_of (high ∷ low ∷ []) = byte_from (half_of high) (half_of low)
 byte_of word = None

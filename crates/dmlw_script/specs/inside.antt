@@ -1,4 +1,4 @@
--- The definitions of `dmlw_script` that its proofs alone use: no other crate cites them.
+-- The definitions of `dmlw_script` that only its proofs use: no other crate cites them.
 pub mod LineParser
 pub mod Stages
 pub mod Heads

@@ -24,7 +24,7 @@ impl Model for DiskSpec {
 }
 
 impl DiskSpec {
-    /// A disk of so many sectors, with no layers.
+    /// Makes a disk of `sectors` sectors, with no layers.
     pub(crate) fn new(alloc: Global, sectors: u64) -> DiskSpec
         ensures { result ≡ bare sectors }
     {
@@ -34,23 +34,23 @@ impl DiskSpec {
         }
     }
 
-    /// The disk's own sectors. In a script 1 to 1,048,576.
+    /// Returns the disk's own sectors. In a script 1 to 1,048,576.
     pub fn sectors(&self) -> u64
         ensures { result ≡ self.now.sectors }
     {
         self.sectors
     }
 
-    /// The layers over it, from the lowest up. In a script
-    /// at most four, each within what stands beneath it.
+    /// Returns the layers over the disk, from the lowest up. In a script at most four, each within
+    /// the device below it.
     pub fn layers(&self) -> &[LayerSpec]
         ensures { result.now ≡ self.now.layers }
     {
         self.layers.as_slice()
     }
 
-    /// The sectors of what stands on top: the length of the
-    /// uppermost layer, or the disk's own sectors.
+    /// Returns the number of sectors at the top: the length of the uppermost layer, or the disk's
+    /// own sectors.
     pub fn top_sectors(&self) -> u64
         ensures { result ≡ top_of self.now }
     {

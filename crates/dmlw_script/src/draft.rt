@@ -23,7 +23,7 @@ pub(crate) struct BodyReader {
     // For each of them, whether its request has ended.
     has_ended: Vec<bool>,
     pub(crate) commands: Vec<Command>,
-    // The moment after them.
+    // The time after them.
     moment: Ms,
 }
 
@@ -45,7 +45,8 @@ impl BodyReader {
         }
     }
 
-    /// Reads the next line, for a data disk of so many sectors and a log of such sectors.
+    /// Reads the next line, for a data disk of `sectors` sectors and a log with sectors of
+    /// `log_size`.
     pub(crate) fn read(
         &mut self,
         parsed: BodyLine,
@@ -66,7 +67,7 @@ impl BodyReader {
         }
     }
 
-    // A request is submitted.
+    // Reads a submission.
     fn submit(
         &mut self,
         name: ScriptId,
@@ -85,7 +86,7 @@ impl BodyReader {
         self.say(Command::Submit(submission))
     }
 
-    // A request ends.
+    // Reads the end of a request.
     fn complete(&mut self, name: ScriptId) -> Result<(), LineError>
         requires { IsDraft self.old }
         ensures draft { OnOk result (IsDraft self.new) }
@@ -99,7 +100,7 @@ impl BodyReader {
         self.end(request)
     }
 
-    // A line that names no request.
+    // Reads a line that names no request.
     fn step(&mut self, step: Step, sectors: u64, log_size: SectorSize) -> Result<(), LineError>
         requires { IsDraft self.old }
         ensures draft { OnOk result (IsDraft self.new) }
@@ -110,8 +111,8 @@ impl BodyReader {
         self.say(Command::Step(step))
     }
 
-    /// The script over these disks, with a log of such sectors,
-    /// and the picks of the crash that ends it, if one does.
+    /// Returns the script over these disks, with this size of the log's sectors, and the picks of
+    /// the crash that ends it, if one does.
     pub(crate) fn into_script(
         self,
         data_disk: DiskSpec,
@@ -145,7 +146,7 @@ impl BodyReader {
         Script::new(data_disk, log_disk, log_size, names, commands, ending)
     }
 
-    // The next request has this id.
+    // Adds the next request's id.
     fn name_next(&mut self, name: ScriptId) -> Result<(), LineError>
         requires { IsDraft self.old }
         ensures draft { OnOk result (IsDraft self.new) }
@@ -158,7 +159,7 @@ impl BodyReader {
         Ok(())
     }
 
-    // The next line of the body, which ends no request.
+    // Adds a line of the body that ends no request.
     fn say(&mut self, command: Command) -> Result<(), LineError>
         requires draft { IsDraft self.old }
         requires no_end { (request : ℕ) → is_end_of request command ≡ false }
@@ -172,7 +173,7 @@ impl BodyReader {
         Ok(())
     }
 
-    // The next line of the body, which ends this request.
+    // Adds a line of the body that ends this request.
     fn end(&mut self, request: usize) -> Result<(), LineError>
         requires draft { IsDraft self.old }
         requires within { request < length self.old.names.keys }
@@ -186,8 +187,8 @@ impl BodyReader {
     }
 }
 
-/// What is asked of the sectors that a submission covers,
-/// on a disk of so many, with a log of such sectors.
+/// Checks the sectors that a submission covers, on a disk of `sectors` sectors, with a log with
+/// sectors of `log_size`.
 pub(crate) fn check_submission(
     submission: Submission,
     sectors: u64,
@@ -204,16 +205,16 @@ pub(crate) fn check_submission(
     }
 }
 
-// What is asked of `count` sectors from sector `first` on,
-// on a disk of so many, with a log of such sectors.
+// Checks `count` sectors from sector `first` on, on a disk of `sectors` sectors, with a log with
+// sectors of `log_size`.
 fn check_range(first: u64, count: u64, sectors: u64, log_size: SectorSize) -> Result<(), BadBio>
     ensures { result ≡ range_test (bytes_of log_size) sectors first count }
 {
     check_sized(&Bio::Read { first, count }, sectors, log_size)
 }
 
-// What is asked of a line that names no request, at this
-// moment: no less of an `at`, and the same of sectors.
+// Checks a line that names no request, at the time `moment`: an `at` isn't less, and sectors pass
+// the same test.
 fn check_step(step: &Step, sectors: u64, log_size: SectorSize, moment: Ms) -> Result<(), LineError>
     ensures { Follows result tt (step_test (bytes_of log_size) sectors moment step.now) }
 {
@@ -228,7 +229,7 @@ fn check_step(step: &Step, sectors: u64, log_size: SectorSize, moment: Ms) -> Re
     }
 }
 
-// The moment after a command, before which it was this.
+// Returns the time after a command, if it was `moment` before.
 fn moment_after(moment: Ms, command: &Command) -> Ms
     ensures { result ≡ moment_at moment command.now }
 {

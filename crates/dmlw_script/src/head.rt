@@ -17,7 +17,7 @@ use refusals::Refusal;
 use std::alloc::Global;
 use table_line::{LayerSpec, TableError};
 
-// The most layers over one disk.
+// The maximum number of layers over one disk.
 const MAX_LAYERS: usize = 4;
 
 /// How much of a script was read.
@@ -37,11 +37,11 @@ pub(crate) enum Part {
 #[derive(Drop)]
 pub(crate) struct Head {
     pub(crate) part: Part,
-    /// The data disk, of no sectors where its line wasn't read.
+    /// The data disk, with no sectors if its line wasn't read.
     pub(crate) data_disk: DiskSpec,
-    /// The log disk, the same.
+    /// The log disk, with no sectors if its line wasn't read.
     pub(crate) log_disk: DiskSpec,
-    /// The size of the log's sectors, 512 bytes where the log disk's line wasn't read.
+    /// The size of the log's sectors, 512 bytes if the log disk's line wasn't read.
     pub(crate) log_size: SectorSize,
 }
 
@@ -57,7 +57,7 @@ impl Head {
         }
     }
 
-    /// Reads the next line of the head, before which the body has begun or not.
+    /// Reads the next line of the head; `began` is whether the body has begun.
     pub(crate) fn read(
         &mut self,
         alloc: Global,
@@ -106,7 +106,7 @@ impl Head {
     }
 }
 
-// Puts the layer that a line asks for over a disk, whose layers have at least so many sectors.
+// Puts the layer that a line asks for over a disk; its layers have at least `least` sectors.
 fn push_layer(
     disk: &mut DiskSpec,
     asked: Result<LayerSpec, TableError>,
@@ -128,21 +128,21 @@ fn push_layer(
     Ok(())
 }
 
-// A layer is within what stands beneath it, which has so many sectors.
+// Returns whether a layer is within the device below it, which has `sectors` sectors.
 fn is_within(layer: LayerSpec, sectors: u64) -> bool
     ensures { result ≡ is_within_them layer sectors }
 {
     layer.offset <= sectors && layer.length <= sectors - layer.offset
 }
 
-// A disk may have so many sectors.
+// Returns whether a disk may have this number of sectors.
 fn is_disk_size(sectors: u64) -> bool
     ensures { result ≡ is_a_disk_size sectors }
 {
     0 < sectors && sectors <= MAX_DEVICE_SECTORS
 }
 
-// A log disk may have so many sectors: one of the log's sectors fits on it.
+// Returns whether a log disk may have this number of sectors: one of the log's sectors fits on it.
 fn is_log_disk_size(sectors: u64, size: SectorSize) -> bool
     ensures { result ≡ is_a_log_disk_size (bytes_of size) sectors }
 {

@@ -1,4 +1,5 @@
-//! Laws of the grammar, apart from the code: each function does nothing, and its clause is the law.
+//! Laws of the grammar, apart from the code: each function does nothing, and its clauses are the
+//! law.
 ghost use Rattle.std.specs.Prelude.{◌≡◌, ◌≢◌, ◌<◌, ◌≤◌, ◌+◌, ◌++◌, ◌∷◌, ◌⊎◌, [], None, Some};
 ghost use Rattle.std.specs.Prelude.{true, ℕ, List};
 ghost use Rattle.std.specs.List.{AllByRecursion};
@@ -19,7 +20,7 @@ ghost use Rattle.dmlw_script.specs.RunPlans.{IsRunPlan, RunPlan};
 ghost use Rattle.dmlw_script.specs.RunFirstFault.{IsFirstRunFault};
 ghost use Rattle.dmlw_script.specs.RunText.{run_text};
 
-/// Lines make a text by a line feed after each, which the last may lack unless it is empty.
+/// Lines make a text with a line feed after each; the last may have none unless it is empty.
 pub fn lines_make_a_text()
     ensures with_line_feeds { (lines : List (List ℕ)) → AllByRecursion IsUnbroken lines
         → lines_of (with_line_feeds lines) ≡ lines }
@@ -28,27 +29,27 @@ pub fn lines_make_a_text()
         lines_of (with_line_feeds lines ++ last) ≡ lines ++ last ∷ [] }
 {}
 
-/// A text is one script's at most.
+/// A text is that of at most one script.
 pub fn one_script()
     ensures { (text : List ℕ) (plan other : ScriptValue) → IsTextOf text plan → IsTextOf text other
         → plan ≡ other }
 {}
 
-/// Each script has a text: its spelling.
+/// Each script has a text: its canonical text.
 #[tactic(auto, using(crate::proofs::CanonicalTextLaws::spelling_spells))]
 pub fn each_script_has_a_text()
     ensures { (plan : ScriptValue) → IsPlan plan → IsTextOf (canonical_text plan) plan }
 {}
 
-/// Scripts that are printed alike are one.
+/// Scripts with the same canonical text are equal.
 #[tactic(auto, using(crate::proofs::ScriptLaws::same_from_spelling))]
 pub fn scripts_have_own_texts()
     ensures { (plan other : ScriptValue) → IsPlan plan → IsPlan other
         → canonical_text plan ≡ canonical_text other → plan ≡ other }
 {}
 
-/// An empty line or a comment may be put between any two lines of a script's text, or be left out:
-/// the script stays the same.
+/// An empty line or a comment may be added or removed between any two lines of a script's text: the
+/// script stays the same.
 pub fn skipped_lines_say_nothing()
     ensures put_in { (before after : List (List ℕ)) (line : List ℕ) (plan : ScriptValue) →
         is_ascii_line line ≡ true → is_skipped line ≡ true →
@@ -58,10 +59,10 @@ pub fn skipped_lines_say_nothing()
         AreLinesOf (before ++ line ∷ after) plan → AreLinesOf (before ++ after) plan }
 {}
 
-/// The line that is named for a command is the one that says it, after the head and the lines of
-/// the commands before it. Each command has one such line, and so has the crash that ends a script,
-/// behind the last command; after that there is none. Places of commands are counted from 0, those
-/// of lines with the head.
+/// The line that is named for a command is the one with its meaning, after the head and the lines
+/// of the commands before it. Each command has one such line, and so has the crash that ends a
+/// script, after the last command; there is none after that. Places of commands are counted from 0,
+/// those of lines with the head.
 pub fn lines_are_those_of_commands()
     ensures says { (text : List ℕ) (plan : ScriptValue) (place number : ℕ) → IsTextOf text plan →
         command_line text (place + head_count plan) ≡ Some number
@@ -87,8 +88,8 @@ pub fn requests_end_once()
         plan.commands ≡ before ++ Complete request ∷ (between ++ Complete request ∷ rest) → ⊥ }
 {}
 
-/// A text is a script's or has a first fault: one, its line
-/// and its reason. The text of a script has none.
+/// A text is a script's or has a first fault, which is one line and one reason. The text of a
+/// script has none.
 pub fn texts_have_one_first_fault()
     ensures each { (lines : List (List ℕ)) → ((plan : ScriptValue) × AreLinesOf lines plan)
         ⊎ ((line : ℕ) × (refusal : Refusal) × IsFirstFault lines line refusal) }
@@ -98,27 +99,28 @@ pub fn texts_have_one_first_fault()
         AreLinesOf lines plan → IsFirstFault lines m r → ⊥ }
 {}
 
-/// Each run's script has a text: its spelling.
+/// Each run's script has a text: its canonical text.
 #[tactic(auto, using(crate::proofs::RunTextLaws::run_text_is))]
 pub fn each_run_script_has_a_text()
     ensures { (plan : RunPlan) → IsRunPlan plan → IsRunText (run_text plan) plan }
 {}
 
-/// A text is one run's script's at most.
+/// A text is that of at most one run's script.
 #[tactic(auto, using(crate::proofs::RunTextLaws::one_run_script_of))]
 pub fn one_run_script()
     ensures { (text : List ℕ) (plan other : RunPlan) → IsRunText text plan → IsRunText text other
         → plan ≡ other }
 {}
 
-/// Scripts of runs that are printed alike are one.
+/// Runs' scripts with the same canonical text are equal.
 #[tactic(auto, using(crate::proofs::RunTextLaws::same_from_run_text))]
 pub fn run_scripts_have_own_texts()
     ensures { (plan other : RunPlan) → IsRunPlan plan → IsRunPlan other
         → run_text plan ≡ run_text other → plan ≡ other }
 {}
 
-/// The same of a run's texts.
+/// A text is a run's script's or has a first fault, which is one line and one reason. The text of a
+/// run's script has none.
 pub fn run_texts_have_one_first_fault()
     ensures each { (lines : List (List ℕ)) → ((plan : RunPlan) × AreRunLines lines plan)
         ⊎ ((line : ℕ) × (refusal : Refusal) × IsFirstRunFault lines line refusal) }

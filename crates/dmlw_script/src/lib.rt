@@ -1,18 +1,18 @@
-//! The scripts of `dmlw record`: texts that say the sizes of the disks and of the log's sectors,
-//! which layers lie over them, which requests are made, and when they end. And those of
-//! `dmlw run`, whose requests are made by seats.
+//! The scripts of `dmlw record`: texts with the sizes of the disks and of the log's sectors, the
+//! layers over them, the requests, and the ends of these. And the scripts of `dmlw run`, with
+//! requests that seats make.
 //!
-//! `read_script` and `read_run_script` read a text, or answer the first line that is wrong. In a
+//! `read_script` and `read_run_script` read a text, or return the first line that is wrong. In a
 //! recorder's script a request's number is the place of its submission among the script's
-//! submissions, counted from 0, so whoever goes over the commands needs no map of ids.
-//! `print_script` and `print_run_script` write the one spelling of a script, line by line: the
+//! submissions, counted from 0. So a caller that goes over the commands needs no map of ids.
+//! `print_script` and `print_run_script` write the canonical text of a script, line by line: the
 //! head, the body, and the crash that ends it. Reading that text gives the same script.
 //!
-//! `specs/Grammar` is the grammar, a relation between texts and scripts, and `specs/Plans` says
-//! what a script is, `specs/CanonicalText` its one spelling, `specs/Texts` what is shown of an id
-//! and of a fault. `specs/RunGrammar`, `specs/RunPlans` and `specs/RunText` are the same of a
-//! run's. A new kind of line is a case of `Submission` or of `Step`, and of `ParsesAs`; an option
-//! of a write a word of `option_words`.
+//! `specs/Grammar` is the grammar, a relation between texts and scripts. `specs/Plans` defines the
+//! value of a script, `specs/CanonicalText` its canonical text, and `specs/Texts` the text of an
+//! id. `specs/RunGrammar`, `specs/RunPlans` and `specs/RunText` are the same for a run's script. A
+//! new kind of line is a case of `Submission` or of `Step`, and of `ParsesAs`; a new option of a
+//! write is a word of `option_words`.
 #![tactic(auto)]
 
 pub use command::{Command, Step, Submission, WriteOptions};

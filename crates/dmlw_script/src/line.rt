@@ -1,4 +1,4 @@
-//! What a line of a script says by its words alone, whatever stands before it.
+//! The meaning of a line of a script by its words, whatever is before it.
 ghost use Rattle.std.specs.Prelude.{◌≡◌, option_copied, option_map};
 ghost use Rattle.dmlw_script.specs.LineMeaning.{as_said};
 ghost use Rattle.dmlw_script.specs.Lines.{is_line_byte as is_a_line_byte};
@@ -24,7 +24,7 @@ use bio::{Ms, SectorSize};
 use refusals::{cut, number_of};
 use table_line::{LayerSpec, TableError, parse_line};
 
-/// What a line that is no crash says by its words alone.
+/// The meaning of a line that is no crash.
 #[derive(Drop)]
 pub(crate) enum Line {
     /// A line of the head.
@@ -33,7 +33,7 @@ pub(crate) enum Line {
     Body(BodyLine),
 }
 
-/// What a line of a head says.
+/// The meaning of a line of a head.
 #[derive(Clone, Copy)]
 pub(crate) enum HeadLine {
     /// `data <sectors>`
@@ -45,15 +45,15 @@ pub(crate) enum HeadLine {
         sectors: u64,
         size: SectorSize,
     },
-    /// `data-layer <table line>`, or `log-layer <table line>`:
-    /// the layer that is asked for, or why none is
+    /// `data-layer <table line>`, or `log-layer <table line>`: the layer that is asked for, or why
+    /// none is
     Layer {
         over: DiskName,
         asked: Result<LayerSpec, TableError>,
     },
 }
 
-/// What a line of a body says.
+/// The meaning of a line of a body.
 #[derive(Drop)]
 pub(crate) enum BodyLine {
     /// `w <id> <first> <count> <byte> [flush] [fua] [meta]`, `f <id>`, or `d <id> <first> <count>`
@@ -70,8 +70,8 @@ pub(crate) enum BodyLine {
     Step(Step),
 }
 
-/// What a line of this first word says that is no crash, no mark and no message, whose other words
-/// are these, if it is of the grammar.
+/// Parses a line that was already split into its first word and the other words, if it has any. The
+/// line is no crash, no mark and no message. Returns None if it isn't of the grammar.
 pub(crate) fn parse_parts(verb: &[u8], words: Option<&[u8]>) -> Option<Line>
     ensures { option_map as_said result ≡ plain_parts verb.now (option_copied words.entry) }
 {
@@ -81,7 +81,7 @@ pub(crate) fn parse_parts(verb: &[u8], words: Option<&[u8]>) -> Option<Line>
     }
 }
 
-// What a line of this one word says.
+// Parses a line of this one word.
 fn lone_word(verb: &[u8]) -> Option<Line>
     ensures { option_map as_said result ≡ lone_word verb.now }
 {
@@ -92,7 +92,7 @@ fn lone_word(verb: &[u8]) -> Option<Line>
     }
 }
 
-// What a line of this first word says, whose other words are these.
+// Parses a line with this first word and these other words.
 fn parse_words(verb: &[u8], words: &[u8]) -> Option<Line>
     ensures { option_map as_said result ≡ parse_words verb.now words.now }
 {
@@ -102,8 +102,8 @@ fn parse_words(verb: &[u8], words: &[u8]) -> Option<Line>
     }
 }
 
-/// What a line of the head says, of this first word, whose
-/// other words are these, if it is of the grammar.
+/// Parses a line of the head with this first word and these other words. Returns None if it isn't
+/// of the grammar.
 pub(crate) fn head_words(verb: &[u8], words: &[u8]) -> Option<HeadLine>
     ensures { result ≡ the_head verb.now words.now }
 {
@@ -122,7 +122,7 @@ pub(crate) fn head_words(verb: &[u8], words: &[u8]) -> Option<HeadLine>
     }
 }
 
-// The line of the log disk whose sectors and whose log's sector size these words are.
+// Parses the words of the log disk's line: its sectors, and the size of the log's sectors.
 fn log_of(words: &[u8]) -> Option<HeadLine>
     ensures { result ≡ the_log words.now }
 {
@@ -133,7 +133,7 @@ fn log_of(words: &[u8]) -> Option<HeadLine>
     })
 }
 
-// The size of a log's sectors that a word says, or 512 bytes where there is none.
+// Returns the size of a log's sectors that a word gives, or 512 bytes if there is none.
 fn size_of(word: Option<&[u8]>) -> Option<SectorSize>
     ensures { result ≡ the_size (option_copied word.entry) }
 {
@@ -144,7 +144,7 @@ fn size_of(word: Option<&[u8]>) -> Option<SectorSize>
     }
 }
 
-// The line of a layer over this disk, whose table line is this.
+// Returns the line of a layer over this disk, with this table line.
 fn layer_of(over: DiskName, text: &[u8]) -> HeadLine
     ensures { result ≡ the_layer over text.now }
 {
@@ -154,7 +154,7 @@ fn layer_of(over: DiskName, text: &[u8]) -> HeadLine
     }
 }
 
-// What a line of the body says, of this first word, whose other words are these.
+// Parses a line of the body with this first word and these other words.
 fn body_words(verb: &[u8], words: &[u8]) -> Option<Line>
     ensures { option_map as_said result ≡ body_words verb.now words.now }
 {
@@ -176,7 +176,7 @@ fn body_words(verb: &[u8], words: &[u8]) -> Option<Line>
     }
 }
 
-// The write whose id and whose other words these are.
+// Parses the words of a write: its id, and the other words.
 fn write_of(words: &[u8]) -> Option<Line>
     ensures { option_map as_said result ≡ the_write words.now }
 {
@@ -187,8 +187,8 @@ fn write_of(words: &[u8]) -> Option<Line>
     }))
 }
 
-/// The write whose first sector, number of sectors, byte
-/// and options these words are, if they are a write's.
+/// Parses the words of a write: its first sector, its number of sectors, its byte and its options.
+/// Returns None if they aren't a write's.
 pub(crate) fn write_words(words: &[u8]) -> Option<Submission>
     ensures { result ≡ the_write_words words.now }
 {
@@ -203,7 +203,7 @@ pub(crate) fn write_words(words: &[u8]) -> Option<Submission>
     })
 }
 
-// The discard whose id and whose other words these are.
+// Parses the words of a discard: its id, and the other words.
 fn discard_of(words: &[u8]) -> Option<Line>
     ensures { option_map as_said result ≡ the_discard words.now }
 {
@@ -214,7 +214,8 @@ fn discard_of(words: &[u8]) -> Option<Line>
     }))
 }
 
-/// The discard whose first sector and number of sectors these words are, if they are a discard's.
+/// Parses the words of a discard: its first sector and its number of sectors. Returns None if they
+/// aren't a discard's.
 pub(crate) fn discard_words(words: &[u8]) -> Option<Submission>
     ensures { result ≡ the_discard_words words.now }
 {
@@ -222,7 +223,7 @@ pub(crate) fn discard_words(words: &[u8]) -> Option<Submission>
     Some(Submission::Discard { first, count })
 }
 
-// The read whose first sector and number of sectors these words are.
+// Parses the words of a read: its first sector and its number of sectors.
 fn read_of(words: &[u8]) -> Option<Line>
     ensures { option_map as_said result ≡ the_read words.now }
 {
@@ -230,7 +231,7 @@ fn read_of(words: &[u8]) -> Option<Line>
     Some(Line::Body(BodyLine::Step(Step::Read { first, count })))
 }
 
-// The first sector and the number of sectors that these words are.
+// Parses a first sector and a number of sectors.
 fn sectors_of(words: &[u8]) -> Option<(u64, u64)>
     ensures { result ≡ the_sectors words.now }
 {
@@ -238,8 +239,8 @@ fn sectors_of(words: &[u8]) -> Option<(u64, u64)>
     Some((number_of(first)?, number_of(count?)?))
 }
 
-/// What a message says, whose other words these are, if it
-/// is of the grammar: its disk, its layer and its text.
+/// Parses the words of a message: its disk, its layer and its text. Returns None if they aren't of
+/// the grammar.
 pub(crate) fn message_of(words: Option<&[u8]>) -> Option<(DiskName, u64, &[u8])>
     ensures { option_map (λ message. step (Step.Message message.0 message.1 message.2.now)) result
         ≡ the_message (option_copied words.entry) }
@@ -254,7 +255,7 @@ pub(crate) fn message_of(words: Option<&[u8]>) -> Option<(DiskName, u64, &[u8])>
     }
 }
 
-// The disk that a word names.
+// Returns the disk that a word names.
 fn disk_of(word: &[u8]) -> Option<DiskName>
     ensures { result ≡ disk_of_word word.now }
 {
@@ -265,14 +266,14 @@ fn disk_of(word: &[u8]) -> Option<DiskName>
     }
 }
 
-/// Whether each byte of a text may stand in a line.
+/// Returns whether each byte of a text may be in a line.
 pub(crate) fn is_line_text(text: &[u8]) -> bool
     ensures { result ≡ is_a_line_text text.now }
 {
     text.iter().all(|byte| is_line_byte(*byte))
 }
 
-// Whether a byte may stand in a line: it is ASCII, and neither zero nor a line feed.
+// Returns whether a byte may be in a line: it is ASCII, and neither zero nor a line feed.
 fn is_line_byte(byte: u8) -> bool
     ensures { result ≡ is_a_line_byte byte }
 {

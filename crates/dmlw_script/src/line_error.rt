@@ -13,7 +13,7 @@ use table_line::TableError;
 /// Why reading ends at a line.
 #[derive(Clone, Copy)]
 pub(crate) enum LineError {
-    /// A growth was refused.
+    /// An allocation failed.
     Memory,
     /// The line is at fault.
     Refused(Refusal),

@@ -6,7 +6,7 @@ ghost use Rattle.dmlw_script.specs.inside.LineParser.{take_word as the_taking};
 use crate::command::WriteOptions;
 use refusals::cut;
 
-/// The options that a write's last words are, if they are options in their order: flush, fua, meta.
+/// Parses a write's last words: its options in their order, flush, fua, meta.
 pub(crate) fn options_of(words: Option<&[u8]>) -> Option<WriteOptions>
     ensures { result ≡ the_options (option_copied words.entry) }
 {
@@ -19,7 +19,7 @@ pub(crate) fn options_of(words: Option<&[u8]>) -> Option<WriteOptions>
     }
 }
 
-// Whether this word stands first among others, and what is left behind it.
+// Returns whether this word is the first of these, and the words left after it.
 fn take_word<'a>(words: Option<&'a [u8]>, word: &[u8]) -> (bool, Option<&'a [u8]>)
     ensures stands { result.0 ≡ (the_taking word.now (option_copied words.entry)).0 }
     ensures left { option_copied result.1 ≡ (the_taking word.now (option_copied words.entry)).1 }

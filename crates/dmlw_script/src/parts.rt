@@ -1,4 +1,4 @@
-//! The parts that lines are made of: a first word, numbers and ids.
+//! The parts of lines: a first word, numbers and ids.
 ghost use Rattle.std.specs.Prelude.{◌≡◌, ◌++◌, ◌∷◌, decimal, OnOk};
 ghost use Rattle.dmlw_script.specs.Ids.{letters_of};
 
@@ -6,7 +6,7 @@ use crate::script_id::ScriptId;
 use refusals::push_number;
 use std::alloc::AllocError;
 
-// A line's first word and space, and a number.
+// Appends a line's first word and space, and a number.
 pub(crate) fn push_value(out: &mut Vec<u8>, verb: &[u8], number: u64) -> Result<(), AllocError>
     ensures { OnOk result (out.new.items ≡ out.old.items ++ (verb.now ++ decimal number)) }
 {
@@ -14,8 +14,8 @@ pub(crate) fn push_value(out: &mut Vec<u8>, verb: &[u8], number: u64) -> Result<
     push_number(out, number)
 }
 
-// A line's first word and space, or a space alone, and
-// behind it a first sector and a number of sectors.
+// Appends a line's first word and space, or only a space, and after it a first sector and a number
+// of sectors.
 pub(crate) fn push_sectors(
     out: &mut Vec<u8>,
     verb: &[u8],
@@ -30,7 +30,7 @@ pub(crate) fn push_sectors(
     push_number(out, count)
 }
 
-// A line's first word and space, and an id.
+// Appends a line's first word and space, and an id.
 pub(crate) fn push_name(out: &mut Vec<u8>, verb: &[u8], name: ScriptId) -> Result<(), AllocError>
     ensures { OnOk result (out.new.items ≡ out.old.items ++ (verb.now ++ letters_of name)) }
 {

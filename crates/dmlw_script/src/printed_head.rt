@@ -1,4 +1,4 @@
-//! The lines of a script's head.
+//! Prints the lines of a script's head.
 ghost use Rattle.std.specs.Prelude.{◌≡◌, ◌++◌, flat_map, map, OnOk};
 ghost use Rattle.dmlw_script.specs.CanonicalText.{ended_line, line_text};
 ghost use Rattle.dmlw_script.specs.Plans.{data_line, head_of, layer_line, log_line};
@@ -11,7 +11,7 @@ use bio::SectorSize;
 use std::alloc::AllocError;
 use table_line::{LayerSpec, push_line};
 
-// The lines of a script's head.
+// Appends the lines of a script's head.
 pub(crate) fn push_head(
     out: &mut Vec<u8>,
     data_disk: &DiskSpec,
@@ -25,7 +25,7 @@ pub(crate) fn push_head(
     push_disk_layers(out, data_disk, log_disk)
 }
 
-// The lines of the disks: the sectors of each, and the size of the log's sectors.
+// Appends the lines of the disks: the sectors of each, and the size of the log's sectors.
 pub(crate) fn push_disks(
     out: &mut Vec<u8>,
     data_sectors: u64,
@@ -43,7 +43,7 @@ pub(crate) fn push_disks(
     Ok(())
 }
 
-// The lines of both disks' layers.
+// Appends the lines of both disks' layers.
 pub(crate) fn push_disk_layers(
     out: &mut Vec<u8>,
     data_disk: &DiskSpec,
@@ -57,8 +57,8 @@ pub(crate) fn push_disk_layers(
     push_layers(out, DiskName::Log, log_disk.layers())
 }
 
-// The line of the log disk, but for its line feed: the size
-// of the log's sectors is named where it isn't 512 bytes.
+// Appends the line of the log disk, without its line feed: the size of the log's sectors is named
+// if it isn't 512 bytes.
 fn push_log(out: &mut Vec<u8>, sectors: u64, size: SectorSize) -> Result<(), AllocError>
     ensures { OnOk result (out.new.items ≡ out.old.items ++ line_text (log_line sectors size)) }
 {
@@ -69,7 +69,7 @@ fn push_log(out: &mut Vec<u8>, sectors: u64, size: SectorSize) -> Result<(), All
     }
 }
 
-// The lines of a disk's layers.
+// Appends the lines of a disk's layers.
 fn push_layers(out: &mut Vec<u8>, over: DiskName, layers: &[LayerSpec]) -> Result<(), AllocError>
     ensures { OnOk result (out.new.items
         ≡ out.old.items ++ flat_map ended_line (map (layer_line over) layers.now)) }
@@ -80,7 +80,7 @@ fn push_layers(out: &mut Vec<u8>, over: DiskName, layers: &[LayerSpec]) -> Resul
     Ok(())
 }
 
-// The line of a layer.
+// Appends the line of a layer.
 fn push_layer(out: &mut Vec<u8>, over: DiskName, layer: &LayerSpec) -> Result<(), AllocError>
     ensures { OnOk result (out.new.items
         ≡ out.old.items ++ ended_line (layer_line over layer.now)) }

@@ -1,4 +1,4 @@
-//! Prints a recorder's script: `print_script` gives its one text.
+//! Prints a recorder's script: `print_script` returns its canonical text.
 ghost use Rattle.std.specs.Prelude.{◌≡◌, ◌<◌, ◌+◌, ◌^◌, ◌++◌, flat_map, length, IfOk, OnOk};
 ghost use Rattle.dmlw_script.specs.Grammar.{IsTextOf};
 ghost use Rattle.dmlw_script.specs.LineMeaning as parsed_lines;
@@ -16,11 +16,11 @@ use crate::submissions::push_submission;
 use refusals::push_number;
 use std::alloc::{AllocError, Global};
 
-/// The one text of a script: no comments, no empty lines, no leading zeroes, and a line feed
-/// after each line. Reading it gives the same script.
+/// Returns the canonical text of a script: no comments, no empty lines, no leading zeroes, and a
+/// line feed after each line. Reading it gives the same script.
 pub fn print_script(alloc: Global, script: &Script) -> Result<Vec<u8>, AllocError>
     ensures spelled { IfOk result (λ text. text.items ≡ canonical_text script.now) }
-    // What is printed is a text of this script, and so read as it.
+    // The result is a text of this script, and so is read as it.
     ensures again { IfOk result (λ text. IsTextOf text.items script.now) }
 {
     // For the prover.
@@ -32,7 +32,7 @@ pub fn print_script(alloc: Global, script: &Script) -> Result<Vec<u8>, AllocErro
     Ok(out)
 }
 
-// The line of the crash that ends a script, if one does.
+// Appends the line of the crash that ends a script, if one does.
 fn push_ending(out: &mut Vec<u8>, script: &Script) -> Result<(), AllocError>
     ensures { OnOk result (out.new.items ≡ out.old.items ++ ending_text script.now.ending) }
 {
@@ -42,7 +42,7 @@ fn push_ending(out: &mut Vec<u8>, script: &Script) -> Result<(), AllocError>
     }
 }
 
-// The line of a crash.
+// Appends the line of a crash.
 fn push_crash(out: &mut Vec<u8>, picks: &[u64]) -> Result<(), AllocError>
     ensures { OnOk result (out.new.items
         ≡ out.old.items ++ ended_line (parsed_lines.Crash picks.now)) }
@@ -52,7 +52,7 @@ fn push_crash(out: &mut Vec<u8>, picks: &[u64]) -> Result<(), AllocError>
     Ok(())
 }
 
-// The same, but for its line feed.
+// Appends the line of a crash, without its line feed.
 fn push_picks(out: &mut Vec<u8>, picks: &[u64]) -> Result<(), AllocError>
     ensures { OnOk result (out.new.items
         ≡ out.old.items ++ line_text (parsed_lines.Crash picks.now)) }
@@ -65,7 +65,7 @@ fn push_picks(out: &mut Vec<u8>, picks: &[u64]) -> Result<(), AllocError>
     Ok(())
 }
 
-// The lines of a script's body.
+// Appends the lines of a script's body.
 fn push_body(out: &mut Vec<u8>, script: &Script) -> Result<(), AllocError>
     ensures { OnOk result (out.new.items
         ≡ out.old.items ++ flat_map ended_line
@@ -80,7 +80,7 @@ fn push_body(out: &mut Vec<u8>, script: &Script) -> Result<(), AllocError>
     Ok(())
 }
 
-// The line of a command, before which so many requests were submitted.
+// Appends the line of a command, if `before` requests were submitted before it.
 fn push_command(
     out: &mut Vec<u8>,
     names: &[ScriptId],
@@ -100,7 +100,7 @@ fn push_command(
     Ok(())
 }
 
-// How many requests were submitted after a command, before which there were so many.
+// Returns the number of requests submitted after a command, if it was `before` before it.
 fn submitted_after(before: usize, command: &Command) -> usize
     requires { before + 1 < 2 ^ 64 }
     ensures { result ≡ count_after_command before command.now }

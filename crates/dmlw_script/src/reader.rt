@@ -1,5 +1,5 @@
-//! Reads the text of a recorder's script: `read_script`
-//! gives the script, or the first line at fault.
+//! Reads the text of a recorder's script: `read_script` returns the script, or the first line at
+//! fault.
 ghost use Rattle.std.specs.Prelude.{◌≡◌, ◌<◌, ◌∷◌, [], None, IfErr, IfOk, MatchOption, OnOk};
 ghost use Rattle.std.specs.Prelude.{length, option_copied, option_map};
 ghost use Rattle.dmlw_script.specs.LineMeaning.{as_said};
@@ -73,8 +73,8 @@ impl Reader {
         self.read_words(verb, words)
     }
 
-    // Reads the next line that isn't skipped, of this first
-    // word, with its other words, if it has any.
+    // Reads a line that isn't skipped and was already split into its first word and the other
+    // words, if it has any.
     fn read_words(&mut self, verb: &[u8], words: Option<&[u8]>) -> Result<(), LineError>
         requires { IsReader self.old }
         ensures reader { OnOk result (IsReader self.new) }
@@ -93,7 +93,8 @@ impl Reader {
         }
     }
 
-    // The same, where the first word is another.
+    // Reads a line that isn't skipped and is no crash, no mark and no message, and was already
+    // split.
     fn read_plain(&mut self, verb: &[u8], words: Option<&[u8]>) -> Result<(), LineError>
         requires { IsReader self.old }
         ensures reader { OnOk result (IsReader self.new) }
@@ -105,7 +106,7 @@ impl Reader {
         self.read_parsed(parsed)
     }
 
-    // Reads a crash, whose picks these words are.
+    // Reads a crash with the picks in these words.
     fn read_crash(&mut self, words: Option<&[u8]>) -> Result<(), LineError>
         requires { IsReader self.old }
         ensures reader { OnOk result (IsReader self.new) }
@@ -117,7 +118,7 @@ impl Reader {
         self.end(picks)
     }
 
-    // The script ends by a crash with these picks.
+    // Ends the script by a crash with these picks.
     fn end(&mut self, picks: Vec<u64>) -> Result<(), LineError>
         requires { IsReader self.old }
         ensures reader { OnOk result (IsReader self.new) }
@@ -132,7 +133,7 @@ impl Reader {
         Ok(())
     }
 
-    // Reads a mark, whose text this is, if a space stands behind its first word.
+    // Reads a mark with this text, if there is a space after its first word.
     fn read_mark(&mut self, text: Option<&[u8]>) -> Result<(), LineError>
         requires { IsReader self.old }
         ensures reader { OnOk result (IsReader self.new) }
@@ -148,7 +149,7 @@ impl Reader {
         }
     }
 
-    // Reads a message, whose disk, layer and text these words are.
+    // Reads a message with these words: its disk, layer and text.
     fn read_message(&mut self, words: Option<&[u8]>) -> Result<(), LineError>
         requires { IsReader self.old }
         ensures reader { OnOk result (IsReader self.new) }
@@ -206,7 +207,7 @@ impl Reader {
         }
     }
 
-    // The text ends here.
+    // Ends the text, and returns the script.
     fn finish(self) -> Result<Script, LineError>
         requires { IfOk (finish_step (progress_of self)) IsPlan }
         ensures { Finishes result (finish_step (progress_of self)) }
@@ -233,17 +234,17 @@ impl Reader {
 
 /// Reads a text, in time linear in its length; nothing is read after a fault.
 ///
-/// A line is refused, in this order, as `BadLine` where it isn't of the grammar at its place (also
+/// The faults of a line are, in this order: `BadLine` if it isn't of the grammar at its place (also
 /// in a comment, if a byte is zero or not ASCII; at an `at` that goes back; at a layer's line out
-/// of its place, or a fifth one for its disk; and after the last line, where the head isn't whole),
-/// as `UnknownTarget`, `WrongCount`, `BadNumber`, `BadFeature` or `OutOfRange` where the table line
-/// of a layer asks for none, as `OutOfRange` where a layer isn't within what stands beneath it, as
-/// `BadLine` where a layer of the log disk is shorter than a sector of the log, as `BadId` where an
-/// id is submitted again or isn't open at its end, and as `NotWhole`, `TooLong`, `PastEnd` or
-/// `Unaligned` where `bio::check_sized` refuses the sectors of a write, a discard or a read for the
-/// top of the data disk and the log's sector size. Want of memory is `Memory`, and names no line.
+/// of its place, or a fifth one for its disk; and after the last line, if the head isn't whole);
+/// `UnknownTarget`, `WrongCount`, `BadNumber`, `BadFeature` or `OutOfRange` if the table line of a
+/// layer asks for none; `OutOfRange` if a layer isn't within the device below it; `BadLine` if a
+/// layer of the log disk is shorter than a sector of the log; `BadId` if an id is submitted again
+/// or isn't open at its end; and `NotWhole`, `TooLong`, `PastEnd` or `Unaligned` if
+/// `bio::check_sized` refuses the sectors of a write, a discard or a read for the top of the data
+/// disk and the log's sector size. Lack of memory is `Memory`, and names no line.
 pub fn read_script(alloc: Global, text: &[u8]) -> Result<Script, Fault>
-    // What is read is a recorder's script, and this is a text of it.
+    // The result is a recorder's script, and this is a text of it.
     ensures found { IfOk result (λ script. IsTextOf text.now script) }
     // A text of a script is read, unless memory runs out.
     ensures only { (plan : ScriptValue) → IsTextOf text.now plan → IsReadAs plan result }
@@ -273,14 +274,14 @@ fn read(alloc: Global, text: &[u8]) -> Result<Script, Fault>
     }
 }
 
-/// A text of its own, of which clones take no memory.
+/// Returns the text in memory of its own; clones of it take no more memory.
 pub(crate) fn shared_text(alloc: Global, text: &[u8]) -> Result<Bytes, AllocError>
     ensures { IfOk result (λ shared. shared ≡ text.now) }
 {
     Bytes::from_vec(text.to_vec(alloc)?).into_shared()
 }
 
-/// The next line and the text after it, if there is a line.
+/// Returns the next line and the text after it, if there is a line.
 pub(crate) fn next_line(text: &[u8]) -> Option<(&[u8], &[u8])>
     ensures { MatchOption result (text.now ≡ []) (λ next.
         (lines_of text.now ≡ next.0.now ∷ lines_of next.1.now)
@@ -296,7 +297,7 @@ pub(crate) fn next_line(text: &[u8]) -> Option<(&[u8], &[u8])>
     }
 }
 
-/// Why reading ended at a line.
+/// Returns the fault for an error at a line.
 pub(crate) fn fault_at(line: u64, error: LineError) -> Fault
     ensures { result ≡ fault_of line error }
 {
@@ -312,14 +313,14 @@ pub(crate) fn fault_at(line: u64, error: LineError) -> Fault
     }
 }
 
-/// A line of bytes that a script's text may hold.
+/// Returns whether a script's text may have a line of these bytes.
 pub(crate) fn is_ascii_line(line: &[u8]) -> bool
     ensures { result ≡ is_plain_line line.now }
 {
     line.iter().all(|byte| 0 < *byte && *byte < 128)
 }
 
-/// An empty line, or a comment.
+/// Returns whether a line is empty, or a comment.
 pub(crate) fn is_skipped(line: &[u8]) -> bool
     ensures { result ≡ is_a_skipped_line line.now }
 {
@@ -329,10 +330,10 @@ pub(crate) fn is_skipped(line: &[u8]) -> bool
     }
 }
 
-/// The number, counted from 1, of the line at this place among the lines of a text that aren't
-/// skipped, those of the head included, or none where the text has no such line. The line of a
-/// script's command stands its `head_lines` later than the command's own place, and that of its
-/// crash behind the last command's. Takes no memory, and one pass over the text.
+/// Returns the number, counted from 1, of the line at this place, or none if the text has no such
+/// line. A place counts the lines of a text that aren't skipped, those of the head included. The
+/// place of a command's line is `head_lines` more than the command's own place, and the crash's
+/// line is after that of the last command. Takes no memory, and one pass over the text.
 pub fn line_of(text: &[u8], place: usize) -> Option<u64>
     ensures { result ≡ command_line text.now place }
 {

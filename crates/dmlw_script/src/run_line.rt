@@ -1,4 +1,4 @@
-//! What a line of a run's script says by its words alone.
+//! The meaning of a line of a run's script by its words.
 ghost use Rattle.std.specs.Prelude.{◌≡◌, IfErr, IfOk, Some, option_copied};
 ghost use Rattle.dmlw_script.specs.inside.RunLineParser.{call_of as the_call, mark_call};
 ghost use Rattle.dmlw_script.specs.inside.RunLineParser.{parse_run_line, run_head_line};
@@ -16,7 +16,7 @@ use crate::seat_call::{Call, SeatCall};
 use refusals::{Refusal, cut, number_of};
 use std::alloc::Global;
 
-/// What a line of a run's script says.
+/// The meaning of a line of a run's script.
 #[derive(Drop)]
 pub(crate) enum RunLine {
     /// A line of the head that a recorder's script may have too.
@@ -28,7 +28,7 @@ pub(crate) enum RunLine {
     Body(SeatCall),
 }
 
-/// What a line says that isn't skipped, if it is of the grammar.
+/// Parses a line that isn't skipped.
 pub(crate) fn run_line_of(alloc: Global, line: &[u8]) -> Result<RunLine, LineError>
     ensures said { IfOk result (λ said. parse_run_line line.now ≡ Some said) }
     ensures none { IfErr result (λ error. IsNoRunLine error (parse_run_line line.now)) }
@@ -41,7 +41,7 @@ pub(crate) fn run_line_of(alloc: Global, line: &[u8]) -> Result<RunLine, LineErr
     }
 }
 
-// What a line of the head says, of this first word, whose other words are these.
+// Parses a line of the head with this first word and these other words.
 fn head_line_of(verb: &[u8], words: &[u8]) -> Option<RunLine>
     ensures { result ≡ run_head_line verb.now words.now }
 {
@@ -52,7 +52,7 @@ fn head_line_of(verb: &[u8], words: &[u8]) -> Option<RunLine>
     }
 }
 
-// What a line of the body says, of this first word, whose other words are these.
+// Parses a line of the body with this first word and these other words.
 fn seat_line_of(alloc: Global, verb: &[u8], words: &[u8]) -> Result<RunLine, LineError>
     ensures said { IfOk result (λ said. seat_line verb.now words.now ≡ Some said) }
     ensures none { IfErr result (λ error. IsNoRunLine error (seat_line verb.now words.now)) }
@@ -63,7 +63,7 @@ fn seat_line_of(alloc: Global, verb: &[u8], words: &[u8]) -> Result<RunLine, Lin
     Ok(RunLine::Body(SeatCall { seat, call }))
 }
 
-// The seat that a word names: `s` and its number.
+// Parses the name of a seat: `s` and its number.
 fn seat_of(word: &[u8]) -> Option<u64>
     ensures { result ≡ the_seat word.now }
 {
@@ -73,7 +73,7 @@ fn seat_of(word: &[u8]) -> Option<u64>
     }
 }
 
-// What a seat does by this first word, whose other words are these, if there are any.
+// Parses the call of a seat with this first word and these other words, if there are any.
 fn call_of(alloc: Global, verb: &[u8], words: Option<&[u8]>) -> Result<Call, LineError>
     ensures said { IfOk result (λ call. the_call verb.now (option_copied words.entry) ≡ Some call) }
     ensures none { IfErr result
@@ -86,7 +86,7 @@ fn call_of(alloc: Global, verb: &[u8], words: Option<&[u8]>) -> Result<Call, Lin
     Ok(Call::Submit(submission))
 }
 
-// The mark of this text, if a space stands behind the first word.
+// Parses a mark with this text, if there is a space after the first word.
 fn mark_of(alloc: Global, text: Option<&[u8]>) -> Result<Call, LineError>
     ensures said { IfOk result (λ call. mark_call (option_copied text.entry) ≡ Some call) }
     ensures none { IfErr result (λ error. IsUnread error (mark_call (option_copied text.entry))) }
@@ -100,8 +100,8 @@ fn mark_of(alloc: Global, text: Option<&[u8]>) -> Result<Call, LineError>
     }
 }
 
-// The request that a seat submits by this first word, whose
-// other words are these, if there are any.
+// Parses the request that a seat submits with this first word and these other words, if there are
+// any.
 fn submission_of(verb: &[u8], words: Option<&[u8]>) -> Option<Submission>
     ensures { result ≡ the_submission verb.now (option_copied words.entry) }
 {

@@ -1,4 +1,4 @@
-//! Prints a run's script as one text.
+//! Prints a run's script as its canonical text.
 ghost use Rattle.std.specs.Prelude.{◌≡◌, ◌++◌, flat_map, map, IfOk, OnOk};
 ghost use Rattle.dmlw_script.specs.RunGrammar.{IsRunText};
 ghost use Rattle.dmlw_script.specs.RunPlans.{run_head};
@@ -14,11 +14,11 @@ use crate::steps::push_mark;
 use crate::submissions::push_filling;
 use std::alloc::{AllocError, Global};
 
-/// The one text of a run's script: no comments, no empty lines, no leading zeroes, and a line feed
-/// after each line. Reading it gives the same script.
+/// Returns the canonical text of a run's script: no comments, no empty lines, no leading zeroes,
+/// and a line feed after each line. Reading it gives the same script.
 pub fn print_run_script(alloc: Global, script: &RunScript) -> Result<Vec<u8>, AllocError>
     ensures spelled { IfOk result (λ text. text.items ≡ run_text script.now) }
-    // What is printed is a text of this script, and so read as it.
+    // The result is a text of this script, and so is read as it.
     ensures again { IfOk result (λ text. IsRunText text.items script.now) }
 {
     // For the prover.
@@ -29,7 +29,7 @@ pub fn print_run_script(alloc: Global, script: &RunScript) -> Result<Vec<u8>, Al
     Ok(out)
 }
 
-// The lines of a run's head.
+// Appends the lines of a run's head.
 fn push_run_head(out: &mut Vec<u8>, script: &RunScript) -> Result<(), AllocError>
     ensures { OnOk result (out.new.items
         ≡ out.old.items ++ flat_map ended_run_line (run_head script.now)) }
@@ -46,7 +46,7 @@ fn push_run_head(out: &mut Vec<u8>, script: &RunScript) -> Result<(), AllocError
     push_disk_layers(out, data_disk, log_disk)
 }
 
-// The line of the number of seats.
+// Appends the line of the number of seats.
 fn push_seats(out: &mut Vec<u8>, seats: u64) -> Result<(), AllocError>
     ensures { OnOk result (out.new.items ≡ out.old.items ++ ended_run_line (seats_line seats)) }
 {
@@ -55,7 +55,7 @@ fn push_seats(out: &mut Vec<u8>, seats: u64) -> Result<(), AllocError>
     Ok(())
 }
 
-// The lines of what the seats do.
+// Appends the lines of the seats' calls.
 fn push_calls(out: &mut Vec<u8>, calls: &[SeatCall]) -> Result<(), AllocError>
     ensures { OnOk result (out.new.items
         ≡ out.old.items ++ flat_map ended_run_line (map call_line calls.now)) }
@@ -66,7 +66,7 @@ fn push_calls(out: &mut Vec<u8>, calls: &[SeatCall]) -> Result<(), AllocError>
     Ok(())
 }
 
-// The line of a seat's call.
+// Appends the line of a seat's call.
 fn push_seat_call(out: &mut Vec<u8>, line: &SeatCall) -> Result<(), AllocError>
     ensures { OnOk result (out.new.items ≡ out.old.items ++ ended_run_line (call_line line.now)) }
 {
@@ -77,7 +77,7 @@ fn push_seat_call(out: &mut Vec<u8>, line: &SeatCall) -> Result<(), AllocError>
     Ok(())
 }
 
-// What a seat does.
+// Appends the words of a call.
 fn push_call(out: &mut Vec<u8>, call: &Call) -> Result<(), AllocError>
     ensures { OnOk result (out.new.items ≡ out.old.items ++ call_text call.now) }
 {
@@ -87,7 +87,7 @@ fn push_call(out: &mut Vec<u8>, call: &Call) -> Result<(), AllocError>
     }
 }
 
-// The request that a seat submits.
+// Appends the words of the request that a seat submits.
 fn push_submitted(out: &mut Vec<u8>, submission: Submission) -> Result<(), AllocError>
     ensures { OnOk result (out.new.items ≡ out.old.items ++ call_text (Call.Submit submission)) }
 {

@@ -20,7 +20,7 @@ use bio::SectorSize;
 use refusals::{Fault, Refusal};
 use std::alloc::Global;
 
-// The most seats of a run.
+// The maximum number of seats of a run.
 const MAX_SEATS: u64 = 64;
 
 // A run's script, as far as it was read.
@@ -28,7 +28,7 @@ const MAX_SEATS: u64 = 64;
 struct RunReader {
     alloc: Global,
     head: Head,
-    // How many seats there are, once their line was read.
+    // The number of seats, after their line was read.
     seats: Option<u64>,
     calls: Vec<SeatCall>,
 }
@@ -68,7 +68,7 @@ impl RunReader {
         self.read_said(said)
     }
 
-    // Reads the next line that isn't skipped, which says this.
+    // Reads the next line that isn't skipped, with this meaning.
     fn read_said(&mut self, said: RunLine) -> Result<(), LineError>
         ensures { Follows result (run_progress self.new) (said_step (run_progress self.old) said) }
     {
@@ -121,7 +121,7 @@ impl RunReader {
         }
     }
 
-    // The text ends here.
+    // Ends the text, and returns the script.
     fn finish(self) -> Result<RunScript, LineError>
         requires { IfOk (run_finish_step (run_progress self)) IsRunPlan }
         ensures { Finishes result (run_finish_step (run_progress self)) }
@@ -149,18 +149,17 @@ impl RunReader {
 
 /// Reads a run's text, in time linear in its length; nothing is read after a fault.
 ///
-/// A line is refused, in this order, as `BadLine` where it isn't of the grammar at its place (also
+/// The faults of a line are, in this order: `BadLine` if it isn't of the grammar at its place (also
 /// in a comment, if a byte is zero or not ASCII; at a number of seats that isn't 1 to 64; at a
 /// layer's line before that of the seats, out of its place, or a fifth one for its disk; at a line
-/// of a seat that there isn't; and after the last line, where the head isn't whole), as
-/// `UnknownTarget`, `WrongCount`, `BadNumber`, `BadFeature` or `OutOfRange` where the table line of
-/// a layer asks for none, as `OutOfRange` where a layer isn't within what stands beneath it, as
-/// `BadLine` where a layer of the log disk is shorter than a sector of the log, and as `NotWhole`,
-/// `TooLong`, `PastEnd` or `Unaligned` where `bio::check_sized` refuses the sectors of a write or a
-/// discard for the top of the data disk and the log's sector size. Want of memory is `Memory`, and
-/// names no line.
+/// of a seat that doesn't exist; and after the last line, if the head isn't whole);
+/// `UnknownTarget`, `WrongCount`, `BadNumber`, `BadFeature` or `OutOfRange` if the table line of a
+/// layer asks for none; `OutOfRange` if a layer isn't within the device below it; `BadLine` if a
+/// layer of the log disk is shorter than a sector of the log; and `NotWhole`, `TooLong`, `PastEnd`
+/// or `Unaligned` if `bio::check_sized` refuses the sectors of a write or a discard for the top of
+/// the data disk and the log's sector size. Lack of memory is `Memory`, and names no line.
 pub fn read_run_script(alloc: Global, text: &[u8]) -> Result<RunScript, Fault>
-    // What is read is a run's script, and this is a text of it.
+    // The result is a run's script, and this is a text of it.
     ensures found { IfOk result (λ script. IsRunText text.now script) }
     // A text of a script is read, unless memory runs out.
     ensures only { (plan : RunPlan) → IsRunText text.now plan → IsReadAsRun plan result }
@@ -190,8 +189,8 @@ fn read_run(alloc: Global, text: &[u8]) -> Result<RunScript, Fault>
     }
 }
 
-// What is asked of the sectors that a call covers, on a
-// disk of so many, with a log of such sectors.
+// Checks the sectors that a call covers, on a disk of `sectors` sectors, with a log with sectors of
+// `log_size`.
 fn check_call(call: &Call, sectors: u64, log_size: SectorSize) -> Result<(), LineError>
     ensures { Follows result tt (as_refusal (call_answer (bytes_of log_size) sectors call.now)) }
 {

@@ -1,4 +1,4 @@
-//! A run's script: its disks, its seats, and what they do.
+//! A run's script: its disks, its seats, and their calls.
 ghost use Rattle.std.specs.Prelude.{◌≡◌, ◌/◌, ◌≤◌};
 
 use crate::disk::DiskSpec;
@@ -6,8 +6,8 @@ use crate::seat_call::SeatCall;
 use bio::SectorSize;
 use std::marker::Model;
 
-/// A script of `dmlw run`. Contracts see it as a `RunPlan` (`specs/RunPlans`), and each value is
-/// one that `IsRunPlan` holds of.
+/// A script of `dmlw run`. Contracts see it as a `RunPlan` (`specs/RunPlans`), and each value
+/// satisfies `IsRunPlan`.
 #[derive(Debug, Drop)]
 pub struct RunScript {
     data_disk: DiskSpec,
@@ -45,7 +45,7 @@ impl RunScript {
     ghost use Rattle.dmlw_script.specs.Plans.{top_of};
     ghost use Rattle.dmlw_script.specs.RunPlans.{IsRunPlan};
 
-    /// The script of these parts.
+    /// Makes the script of these parts.
     pub(crate) fn new(
         data_disk: DiskSpec,
         log_disk: DiskSpec,
@@ -77,7 +77,7 @@ impl RunScript {
         }
     }
 
-    /// The data disk, of 1 to 1,048,576 sectors, with up to four layers.
+    /// Returns the data disk, of 1 to 1,048,576 sectors, with up to four layers.
     pub fn data(&self) -> &DiskSpec
         ensures disk { result.now ≡ self.now.data_disk }
         ensures script { IsRunPlan self.now }
@@ -85,8 +85,8 @@ impl RunScript {
         &self.data_disk
     }
 
-    /// The log disk, of 1 to 1,048,576 sectors, with up to four
-    /// layers. Its top has room for one of the log's sectors.
+    /// Returns the log disk, of 1 to 1,048,576 sectors, with up to four layers. Its top has room
+    /// for one of the log's sectors.
     pub fn log(&self) -> &DiskSpec
         ensures disk { result.now ≡ self.now.log_disk }
         ensures script { IsRunPlan self.now }
@@ -94,8 +94,8 @@ impl RunScript {
         &self.log_disk
     }
 
-    /// The size of the log's sectors: 512 bytes, or 4,096.
-    /// One of them fits on the top of the log disk.
+    /// Returns the size of the log's sectors: 512 bytes, or 4,096. One of them fits on the top of
+    /// the log disk.
     pub fn log_size(&self) -> SectorSize
         ensures size { result ≡ self.now.log_size }
         ensures room { bytes_of result / 512 ≤ top_of self.now.log_disk }
@@ -103,7 +103,7 @@ impl RunScript {
         self.log_size
     }
 
-    /// How many seats there are, 1 to 64.
+    /// Returns the number of seats, 1 to 64.
     pub fn seats(&self) -> u64
         ensures seats { result ≡ self.now.seats }
         ensures some { 1 ≤ result }
@@ -112,7 +112,7 @@ impl RunScript {
         self.seats
     }
 
-    /// What the seats do, in the order of the lines.
+    /// Returns the calls of the seats, in the order of the lines.
     pub fn calls(&self) -> &[SeatCall]
         ensures calls { result.now ≡ self.now.calls }
         ensures script { IsRunPlan self.now }

@@ -9,7 +9,7 @@ ghost use Rattle.dmlw_script.specs.Texts.{id_text};
 use refusals::cut;
 use std::fmt;
 
-/// The most characters of an id.
+/// The maximum number of characters of an id.
 pub(crate) const NAME_BYTES: usize = 16;
 
 /// An id of a script: 1 to 16 of the characters `a` to `z` and `0` to `9`.
@@ -20,7 +20,7 @@ pub struct ScriptId {
 }
 
 impl ScriptId {
-    /// The id that a word is, if it is one.
+    /// Returns the id of a word, if it is one.
     pub(crate) fn of_word(word: &[u8]) -> Option<ScriptId>
         ensures { result ≡ id_of_word word.now }
     {
@@ -31,7 +31,7 @@ impl ScriptId {
         }
     }
 
-    // The characters, with zeroes after them.
+    // Returns the characters, with zeroes after them.
     fn padded(word: &[u8]) -> ScriptId
         requires { length word.now ≤ 16 }
         ensures { result ≡ script_id word.now }
@@ -41,7 +41,7 @@ impl ScriptId {
         ScriptId { letters }
     }
 
-    /// The characters of the id.
+    /// Returns the characters of the id.
     pub fn letters(&self) -> &[u8]
         ensures { result.now ≡ letters_of self.now }
     {
@@ -60,21 +60,21 @@ impl fmt::Display for ScriptId {
     }
 }
 
-// Whether a word is an id.
+// Returns whether a word is an id.
 fn is_id(word: &[u8]) -> bool
     ensures { result ≡ is_an_id word.now }
 {
     0 < word.len() && word.len() <= NAME_BYTES && has_name_bytes(word)
 }
 
-// Whether each byte is a character of an id.
+// Returns whether each byte is a character of an id.
 fn has_name_bytes(word: &[u8]) -> bool
     ensures { result ≡ list_all is_id_byte word.now }
 {
     word.iter().all(|byte| is_name_byte(*byte))
 }
 
-// A character of an id.
+// Returns whether a byte is a character of an id.
 fn is_name_byte(byte: u8) -> bool
     ensures { result ≡ is_id_byte byte }
 {

@@ -1,4 +1,4 @@
-//! The lines that are no submissions: ends, marks, turns, moments and messages.
+//! Prints the lines that are no submissions: ends, marks, turns, times and messages.
 ghost use Rattle.std.specs.Prelude.{◌≡◌, ◌++◌, ◌∷◌, codes, decimal, OnOk};
 ghost use Rattle.dmlw_script.specs.Grammar.{message_verb};
 ghost use Rattle.dmlw_script.specs.CanonicalText.{step_text};
@@ -8,7 +8,7 @@ use crate::disk_name::DiskName;
 use crate::parts::{push_sectors, push_value};
 use std::alloc::AllocError;
 
-// A line that names no request, but for its line feed.
+// Appends a line that names no request, without its line feed.
 pub(crate) fn push_step(out: &mut Vec<u8>, step: &Step) -> Result<(), AllocError>
     ensures { OnOk result (out.new.items ≡ out.old.items ++ step_text step.now) }
 {
@@ -22,7 +22,7 @@ pub(crate) fn push_step(out: &mut Vec<u8>, step: &Step) -> Result<(), AllocError
     }
 }
 
-// The line of a mark, but for its line feed; behind a seat, what the seat does.
+// Appends the line of a mark, without its line feed; after a seat, the seat's call.
 pub(crate) fn push_mark(out: &mut Vec<u8>, text: &[u8]) -> Result<(), AllocError>
     ensures { OnOk result (out.new.items ≡ out.old.items ++ (codes "mark " ++ text.now)) }
 {
@@ -30,7 +30,7 @@ pub(crate) fn push_mark(out: &mut Vec<u8>, text: &[u8]) -> Result<(), AllocError
     out.extend_from_slice(text)
 }
 
-// The line of a message, but for its line feed.
+// Appends the line of a message, without its line feed.
 fn push_message(
     out: &mut Vec<u8>,
     over: DiskName,
@@ -46,7 +46,7 @@ fn push_message(
     }
 }
 
-// A line's first words and space, a number, and a text behind a space.
+// Appends a line's first words and space, a number, and a text after a space.
 fn push_valued(out: &mut Vec<u8>, verb: &[u8], number: u64, text: &[u8]) -> Result<(), AllocError>
     ensures { OnOk result (out.new.items
         ≡ out.old.items ++ (verb.now ++ (decimal number ++ 32 ∷ text.now))) }

@@ -1,4 +1,4 @@
-//! The lines of submissions.
+//! Prints the lines of submissions.
 ghost use Rattle.std.specs.Prelude.{◌≡◌, ◌<◌, ◌++◌, ◌∷◌, decimal, OnOk};
 ghost use Rattle.dmlw_script.specs.Grammar.{spaced};
 ghost use Rattle.dmlw_script.specs.Ids.{letters_of};
@@ -11,7 +11,7 @@ use crate::parts::{push_name, push_sectors};
 use crate::script_id::ScriptId;
 use std::alloc::AllocError;
 
-// The line of a submission, but for its line feed.
+// Appends the line of a submission, without its line feed.
 pub(crate) fn push_submission(
     out: &mut Vec<u8>,
     name: ScriptId,
@@ -31,7 +31,7 @@ pub(crate) fn push_submission(
     }
 }
 
-// The line of a write, but for its line feed.
+// Appends the line of a write, without its line feed.
 fn push_write(
     out: &mut Vec<u8>,
     name: ScriptId,
@@ -47,7 +47,7 @@ fn push_write(
     push_filling(out, byte, options)
 }
 
-// A write's byte and its options, each behind a space.
+// Appends a write's byte and its options, each after a space.
 pub(crate) fn push_filling(
     out: &mut Vec<u8>,
     byte: u8,
@@ -61,7 +61,7 @@ pub(crate) fn push_filling(
     push_options(out, options)
 }
 
-// A line's first word and space, an id, a first sector and a number of sectors.
+// Appends a line's first word and space, an id, a first sector and a number of sectors.
 fn push_range(
     out: &mut Vec<u8>,
     verb: &[u8],
@@ -77,7 +77,7 @@ fn push_range(
     push_sectors(out, b" ", first, count)
 }
 
-// A write's options, each behind a space.
+// Appends a write's options, each after a space.
 fn push_options(out: &mut Vec<u8>, options: WriteOptions) -> Result<(), AllocError>
     ensures { OnOk result (out.new.items ≡ out.old.items ++ options_text options) }
 {
@@ -86,7 +86,7 @@ fn push_options(out: &mut Vec<u8>, options: WriteOptions) -> Result<(), AllocErr
     push_option(out, options.meta, b" meta")
 }
 
-// An option with the space before it, where it is asked for.
+// Appends an option with the space before it, if it is given.
 fn push_option(out: &mut Vec<u8>, given: bool, text: &[u8]) -> Result<(), AllocError>
     ensures { OnOk result (out.new.items ≡ out.old.items ++ option_text given text.now) }
 {
@@ -97,7 +97,7 @@ fn push_option(out: &mut Vec<u8>, given: bool, text: &[u8]) -> Result<(), AllocE
     }
 }
 
-// Two hexadecimal digits.
+// Appends a byte as two hexadecimal digits.
 fn push_byte(out: &mut Vec<u8>, byte: u8) -> Result<(), AllocError>
     ensures { OnOk result (out.new.items ≡ out.old.items ++ byte_text byte) }
 {
@@ -106,7 +106,7 @@ fn push_byte(out: &mut Vec<u8>, byte: u8) -> Result<(), AllocError>
     Ok(())
 }
 
-// The lower case hexadecimal digit of a value.
+// Returns the lower case hexadecimal digit of a value.
 fn hex_digit(half: u8) -> u8
     requires { half < 16 }
     ensures { result ≡ the_hex_digit half }

@@ -1,4 +1,4 @@
--- The rule of a gate, by which gate it is.
+-- The rule of a gate, for each gate.
 use Rattle.std.specs.Prelude.{ℕ, Bool, false}
 use Rattle.fault_layers.specs.declared.gate.Kind.{Kind}
 use Rattle.fault_layers.specs.declared.gate.Verdict.{Verdict}
@@ -12,7 +12,7 @@ use Rattle.layer_table.specs.declared.any_gate.AnyGate.{AnyGate}
 use Rattle.layer_table.specs.declared.any_gate.AnyGate.TheVariants.{Delay, Error, Flakey, Fuse}
 use Rattle.layer_table.specs.declared.any_gate.AnyGate.TheVariants.{Open}
 
--- what becomes of a call
+-- the verdict about a call
 abbrev pub any_verdict : AnyGate → Kind → ℕ → Verdict
 any_verdict Open kind now = Pass
 any_verdict (Error gate) kind now = error_verdict kind now
@@ -20,7 +20,7 @@ any_verdict (Flakey cycle) kind now = flakey_verdict cycle kind now
 any_verdict (Fuse calls) kind now = fuse_verdict calls kind now
 any_verdict (Delay delays) kind now = delay_verdict delays kind now
 
--- whether it may drop calls
+-- whether the gate may drop calls
 abbrev pub any_may_drop : AnyGate → Bool
 any_may_drop Open = false
 any_may_drop (Error gate) = false

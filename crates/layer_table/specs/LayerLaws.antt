@@ -1,4 +1,4 @@
--- What a slot shows and does, by the layers.
+-- The view and the calls of a slot, by its layers.
 use Rattle.std.proofs.Common.{◌≡◌, ℕ, suc, Bool, true, false, List, [], length, Result, refl, ap}
 use Rattle.std.proofs.Common.{subst, sym, ◌∙◌}
 use Rattle.bio.specs.declared.outcome.DevError.{DevError}
@@ -23,9 +23,9 @@ use Rattle.layer_table.specs.Layers.{LayersDo, SoManyDo, Under}
 use Rattle.layer_table.specs.Slots.{device_of, has_layer, slot_does, slot_shown, IsShifted}
 use Rattle.layer_table.specs.SlotLaws.{decided_keeps, dusted_keeps, slot_kept, IsKept}
 
--- ---- what is shown
+-- ---- views
 
--- a slot shows its layer over what the device beneath shows
+-- the view of a slot is that of its layer over the view of the device below
 pub shown_with : {D : Type 0} {g : Ghosts D} (layers : D → List Layer) (base : D → View)
     → ((device : D) → g.shown device ≡ layers_over (layers device) (base device))
     → (slot : Slot D g) → slot_shown slot
@@ -40,19 +40,19 @@ shown_with {D} {g} layers base same (slots.Dusted layer) =
 
 -- ---- what calls do
 
--- the layers of a device, and the disk beneath them
+-- the layers of a device, and the disk below them
 abbrev pub under_of : {D : Type 0} → (D → List Layer) → (D → SectorDisk) → D → Under
 under_of layers disk device = record { layers = layers device; disk = disk device }
 
--- rules that say the same are one
+-- rules with equal parts are equal
 same_dust : {D : Type 0} (layer after : Dust D) → after.block ≡ layer.block
     → after.mode ≡ layer.mode
     → Dusting after.block (listed after.bad) after.mode
     ≡ Dusting layer.block (listed after.bad) layer.mode
 same_dust layer after block mode = rw (block, mode) refl
 
--- a slot's call is one of its layer over the layers of the
--- device beneath, of which each call keeps the number
+-- a slot's call is one of its layer over the layers of the device below, if each call of that keeps
+-- their number
 pub does_with : {D : Type 0} {g : Ghosts D} (layers : D → List Layer) (disk : D → SectorDisk)
     → IsKept g (λ device. length (layers device))
     → ((device : D) (call : Call) (now : ℕ) (result : Result ℕ DevError) (after : D)
@@ -155,7 +155,7 @@ does_with {D} {g} layers disk kept below (slots.Dusted layer) call now result
           (λ range call now result next did. did.2) call now result layer after does,
     )
 
--- how many layers stand with one in this slot or none
+-- the number of layers with the one in this slot, if it has one
 abbrev pub count_with : Bool → ℕ → ℕ
 count_with true count = suc count
 count_with false count = count
@@ -167,7 +167,7 @@ counted_with {D} {g} layers (slots.Bare device) = refl
 counted_with {D} {g} layers (slots.Decided layer) = refl
 counted_with {D} {g} layers (slots.Dusted layer) = refl
 
--- a device under no layers keeps that there are none
+-- a device under no layers keeps their number, which is 0
 pub none_kept : {D : Type 0} (g : Ghosts D) → IsKept g (λ device. length {A = Layer} [])
 none_kept g device call now result after did = refl
 

@@ -1,4 +1,4 @@
--- The layers of a stack, and the disk beneath them.
+-- The layers of a stack, and the disk below them.
 use Rattle.std.specs.Prelude.{◌≡◌, ◌↔◌, ℕ, zero, suc, length, ◌⊎◌, ◌+◌, ◌/◌, ◌<◌, ◌≤◌, ◌||◌, false}
 use Rattle.std.specs.Prelude.{List, [], ◌∷◌, ◌++◌, None, Result, Err, Ok}
 use Rattle.bio.specs.declared.outcome.DevError.{DevError}
@@ -35,14 +35,14 @@ use Rattle.layer_table.specs.AnyRule.{any_after, any_may_drop, any_verdict}
 use Rattle.layer_table.specs.Levels.{disk_three}
 use Rattle.layer_table.specs.Slots.{device_of, slot_does, slot_shown}
 
--- What a layer does with its calls: a gate decides about them, or they go block by block over a
--- list of bad blocks, of so many sectors each.
+-- The rule of a layer for its calls: a gate decides about them, or they go block by block over a
+-- list of bad blocks, each of `block` sectors.
 pub data Rule : Type 0 where
   Deciding : (gate : AnyGate) → Rule
   Dusting : (block : ℕ) (bad : Bad) (mode : Mode) → Rule
 
--- A layer: the range that it is of what stands beneath, its rule, and how often it failed a call,
--- and dropped one, itself.
+-- A layer: its range of the device below, its rule, and how often it failed a call, and dropped
+-- one, itself.
 pub record Layer : Type 0 where
   pub offset : ℕ
   pub length : ℕ
@@ -50,7 +50,7 @@ pub record Layer : Type 0 where
   pub faults : ℕ
   pub lies : ℕ
 
--- the layer that stands in a slot, before those that stand beneath it
+-- the layer in a slot, before the layers below it
 abbrev pub layers_with : {D : Type 0} {g : Ghosts D} → (D → List Layer) → Slot D g → List Layer
 layers_with {D} {g} beneath (slots.Bare device) = beneath device
 layers_with {D} {g} beneath (slots.Decided layer) =
@@ -80,7 +80,7 @@ layers_two level = layers_with layers_one level.top
 abbrev pub layers_three : Three → List Layer
 layers_three level = layers_with layers_two level.top
 
--- the layers of a stack, the top first, and the disk beneath them
+-- the layers of a stack, the top first, and the disk below them
 abbrev pub layers_of : Stack → List Layer
 layers_of stack = layers_with layers_three stack.top
 
@@ -88,7 +88,7 @@ abbrev pub disk_of : Stack → SectorDisk
 disk_of stack = disk_three (device_of stack.top)
 
 -- the gate of a target: that of a linear one is open, and so is that of one with bad blocks, which
--- goes block by block; a flakey device's moments count from its load
+-- goes block by block; a flakey device's times count from its load
 abbrev pub gate_asked : Target → ℕ → AnyGate
 gate_asked targets.Linear load = gates.Open
 gate_asked targets.Error load = gates.Error (record {})
@@ -115,31 +115,31 @@ layer_asked spec load =
       lies = 0;
     }
 
--- layers over others, the top first, where these lines ask for them, the lowest first
+-- layers over others, the top first, as these lines ask for them, the lowest first
 abbrev pub layers_under : List LayerSpec → ℕ → List Layer → List Layer
 layers_under [] load layers = layers
 layers_under (spec ∷ specs) load layers = layers_under specs load (layer_asked spec load ∷ layers)
 
--- ---- what is shown
+-- ---- views
 
--- what contracts see of a stack, by its slots
+-- the view of a stack, by its slots
 abbrev pub stack_shown : Stack → View
 stack_shown stack = slot_shown stack.top
 
--- a layer over what shows this: the range, with a gate's
--- own faults and lies, or with bad blocks' own faults
+-- the view of a layer over one with view v: the range, with a gate's own faults and lies, or with
+-- bad blocks' own faults
 abbrev pub layer_over : Rule → Layer → View → View
 layer_over (Dusting block bad mode) layer v =
     counted (window v layer.offset layer.length) layer.faults 0 false
 layer_over (Deciding gate) layer v =
     counted (window v layer.offset layer.length) layer.faults layer.lies (any_may_drop gate)
 
--- layers over what shows this
+-- the view of layers over one with view v
 abbrev pub layers_over : List Layer → View → View
 layers_over [] v = v
 layers_over (layer ∷ layers) v = layer_over layer.rule layer (layers_over layers v)
 
--- two devices show the same
+-- two devices have the same view
 pub record IsSeenAs (v w : View) : Type 0 where
   pub size : w.size ≡ v.size
   pub place : w.place ≡ v.place
@@ -151,7 +151,7 @@ pub record IsSeenAs (v w : View) : Type 0 where
   pub lies : w.lies ≡ v.lies
   pub can_lie : w.can_lie ≡ v.can_lie
 
--- a layer that was just put over what shows v shows w
+-- w is the view of a new layer over one with view v
 pub record IsPut (spec : LayerSpec) (v w : View) : Type 0 where
   pub size : w.size ≡ spec.length
   pub place : w.place ≡ record { origin = v.place.origin + spec.offset; disk = v.place.disk }
@@ -162,22 +162,21 @@ pub record IsPut (spec : LayerSpec) (v w : View) : Type 0 where
       → w.since moment left ↔ SeenFrom spec.offset (v.since moment) left
   pub faults : w.faults ≡ v.faults
   pub lies : w.lies ≡ v.lies
-  -- it can lie where what is beneath can, or where it may drop writes itself
+  -- it can lie if the device below can, or if it may drop writes itself
   pub can_lie : w.can_lie ≡ v.can_lie || drops_writes spec.target
 
--- what layers that were just put over what shows v show:
--- none of them has failed or dropped a call yet
+-- w is the view of new layers over one with view v: none of them has failed or dropped a call yet
 pub record AreOver (specs : List LayerSpec) (v w : View) : Type 0 where
   pub size : w.size ≡ top_sectors v.size specs
   pub place : w.place ≡ record { origin = top_origin v.place.origin specs; disk = v.place.disk }
   pub moment : w.moment ≡ v.moment
   pub faults : w.faults ≡ v.faults
   pub lies : w.lies ≡ v.lies
-  -- where none of them may drop writes, they lie no more than what is beneath
+  -- if none of them may drop writes, they can lie only if the device below can
   pub can_lie : some_drops specs ≡ false → w.can_lie ≡ v.can_lie
 
--- some of these layers stand over a stack, from the first on, and the next one doesn't: what is
--- handed back where that one is refused
+-- Some of these layers are over a stack, from the first on, and the next one isn't: this stack is
+-- returned if that layer is refused.
 pub record IsPartlyUnder (specs : List LayerSpec) (load : ℕ) (old back : Stack) : Type 0 where
   pub put : List LayerSpec
   pub next : LayerSpec
@@ -185,13 +184,13 @@ pub record IsPartlyUnder (specs : List LayerSpec) (load : ℕ) (old back : Stack
   pub are : specs ≡ put ++ next ∷ above
   pub layers : layers_of back ≡ layers_under put load (layers_of old)
   pub disk : disk_of back ≡ disk_of old
-  -- the next one doesn't fit there, or four layers stand
+  -- the next one doesn't fit there, or there are four layers
   pub refused : ((stack_shown back).size < next.offset + next.length)
       ⊎ (length (layers_of back) ≡ 4)
 
--- What shows w is a part of the disk that shows v: the sectors at its place. What a crash now, or a
--- crash since any reading of the disk's clock, may leave of it is the part of what it may leave of
--- the disk.
+-- w is the view of a part of the disk with view v: the sectors at its place. What a crash now, or
+-- since any reading of the disk's clock, may leave of it is the part of what it may leave of the
+-- disk.
 pub record IsPartOf (v w : View) : Type 0 where
   pub disk : w.place.disk ≡ v.size
   pub within : w.place.origin + w.size ≤ v.size
@@ -199,10 +198,10 @@ pub record IsPartOf (v w : View) : Type 0 where
   pub crash : (left : Content) → v.crash left
       → (seen : Content) × w.crash seen
       × ((sector : ℕ) → seen sector ≡ left (w.place.origin + sector))
-  -- the two clocks read the same
+  -- the two clocks have the same reading
   pub moment : w.moment ≡ v.moment
-  -- a crash since a reading, inside a call too: each content that it may have left of the disk has a
-  -- part that it may have left, and there are no others
+  -- a crash since a reading, even during a call: each content that it may have left of the disk has
+  -- a part that it may have left, and there are no others
   pub since : (moment : ℕ) (left : Content) → v.since moment left
       → (seen : Content) × w.since moment seen
       × ((sector : ℕ) → seen sector ≡ left (w.place.origin + sector))
@@ -212,7 +211,7 @@ pub record IsPartOf (v w : View) : Type 0 where
 
 -- ---- what calls do
 
--- what a call of a stack does, by its slots
+-- the effect of a call of a stack, by its slots
 abbrev pub stack_does : Stack → Call → ℕ → Result ℕ DevError → Stack → Type 0
 stack_does old call now result new = slot_does old.top call now result new.top
 
@@ -220,8 +219,8 @@ stack_does old call now result new = slot_does old.top call now result new.top
 abbrev pub on_stack : Ghosts Stack
 on_stack = record { shown = stack_shown; does = stack_does }
 
--- What becomes of a call at a layer by its gate's verdict. `below` says of a moment that what
--- stands beneath did it from then on, with this answer, and `same` that it was left as it was.
+-- The effect of a call at a layer by its gate's verdict. `below` is that the device below did it at
+-- a time with this result, and `same` that the device was left as it was.
 pub record Decides (verdict : Verdict) (below : ℕ → Type 0) (same : Type 0) (call : Call) (now : ℕ)
     (result : Result ℕ DevError) (layer after : Layer) : Type 0 where
   pub passes : verdict ≡ Pass
@@ -236,17 +235,17 @@ pub record Decides (verdict : Verdict) (below : ℕ → Type 0) (same : Type 0) 
       → (result ≡ Ok now) × (after.faults ≡ layer.faults) × (after.lies ≡ one_more layer.lies)
       × same
 
--- Layers, the top first, and the disk beneath them.
+-- Layers, the top first, and the disk below them.
 pub record Under : Type 0 where
   pub layers : List Layer
   pub disk : SectorDisk
 
--- what what stands beneath does, so many sectors further on
+-- the effect on the device below, shifted by `offset` sectors
 abbrev pub shifted : (Under → Call → ℕ → Result ℕ DevError → Under → Type 0) → ℕ → Under → Call → ℕ
     → Result ℕ DevError → Under → Type 0
 shifted does offset old call now result new = does old (call_from offset call) now result new
 
--- What a call comes to that goes block by block, from one list of bad blocks to another.
+-- The effect of a call that goes block by block, from one list of bad blocks to another.
 pub record Dusts (does : Under → Call → ℕ → Result ℕ DevError → Under → Type 0) (block : ℕ)
     (bad : Bad) (mode : Mode) (old : Under) (call : Call) (now : ℕ)
     (result : Result ℕ DevError)
@@ -258,7 +257,7 @@ pub record Dusts (does : Under → Call → ℕ → Result ℕ DevError → Unde
       (record { lower = new; bad = list; faults = after.faults })
   pub lies : after.lies ≡ layer.lies
 
--- what becomes of a call at a layer by its rule; `does` says what stands beneath does
+-- the effect of a call at a layer by its rule; `does` is the effect of calls of the device below
 abbrev pub DoesAt : (Under → Call → ℕ → Result ℕ DevError → Under → Type 0) → Rule → Under → Call
     → ℕ → Result ℕ DevError → Under → Layer → Layer → Type 0
 DoesAt does (Deciding gate) old call now result new layer after =
@@ -269,7 +268,7 @@ DoesAt does (Deciding gate) old call now result new layer after =
 DoesAt does (Dusting block bad mode) old call now result new layer after =
     Dusts (shifted does layer.offset) block bad mode old call now result new layer after
 
--- what a call does at the top of layers, one of which stands there; its range stays
+-- the effect of a call at the top of at least one layer; the top's range stays
 abbrev pub DoesAtTop : (Under → Call → ℕ → Result ℕ DevError → Under → Type 0) → List Layer
     → SectorDisk → Call → ℕ → Result ℕ DevError → List Layer
     → SectorDisk → Type 0
@@ -280,8 +279,8 @@ DoesAtTop does (layer ∷ layers) disk call now result (after ∷ others) new =
     (record { layers = others; disk = new }) layer after
     × (after.offset ≡ layer.offset) × (after.length ≡ layer.length)
 
--- What a call does to so many layers over a disk: at the top, then beneath it so many sectors
--- further on, and so down to the disk.
+-- The effect of a call on `count` layers over a disk: at the top, then below it shifted by its
+-- offset, and so on down to the disk.
 abbrev pub SoManyDo : ℕ → Under → Call → ℕ → Result ℕ DevError → Under → Type 0
 SoManyDo zero old call now result new =
     (old.layers ≡ []) × (new.layers ≡ []) × Does old.disk call now result new.disk
@@ -294,41 +293,41 @@ LayersDo layers disk call now result after new =
     SoManyDo (length layers) (record { layers = layers; disk = disk }) call now result
     (record { layers = after; disk = new })
 
--- What becomes of a call by a verdict about it at the top of layers over a disk. `next` is the top
--- after it, but for its counts.
+-- The effect of a call by a verdict about it at the top of layers over a disk. `next` is the top
+-- after it, except its counts.
 pub record Follows (verdict : Verdict) (next : Layer) (layers : List Layer) (old : SectorDisk)
     (call : Call) (now : ℕ) (result : Result ℕ DevError)
     (after : List Layer) (new : SectorDisk) : Type 0 where
-  -- the layers beneath did it, so many sectors further on
+  -- the layers below did it, shifted by the top's offset
   pub passes : verdict ≡ Pass
       → (others : List Layer) × (after ≡ next ∷ others)
       × LayersDo layers old (call_from next.offset call) now result others new
-  -- so they did, from the later moment on, and an Ok ends at that moment or later
+  -- the layers below did it, shifted, at the later time, and an Ok ends at that time or later
   pub delays : (by : ℕ) → verdict ≡ Delay by → (others : List Layer) × (after ≡ next ∷ others)
       × LayersDo layers old (call_from next.offset call) (later_by now by) result others new
       × ((end : ℕ) → result ≡ Ok end → later_by now by ≤ end)
-  -- it failed, and nothing beneath was called
+  -- it failed, and nothing below was called
   pub fails : verdict ≡ Fail
       → (result ≡ Err Io) × (after ≡ record next { faults = one_more next.faults } ∷ layers)
       × (new ≡ old) × KeepsBuffer call
-  -- it was dropped, and nothing beneath was called
+  -- it was dropped, and nothing below was called
   pub drops : verdict ≡ Drop
       → (result ≡ Ok now) × (after ≡ record next { lies = one_more next.lies } ∷ layers)
       × (new ≡ old)
 
--- What becomes of a call at the top of layers that begins it later: the layers beneath did it from
--- that moment on, and the top stays.
+-- The effect of a call at the top of layers that begins it later: the layers below did it at that
+-- time, and the top stays.
 pub record FollowsLater (begun : ℕ) (layer : Layer) (layers : List Layer) (old : SectorDisk)
     (call : Call) (result : Result ℕ DevError)
     (after : List Layer) (new : SectorDisk) : Type 0 where
   pub others : List Layer
   pub stays : after ≡ layer ∷ others
   pub below : LayersDo layers old (call_from layer.offset call) begun result others new
-  -- an Ok ends at that moment or later
+  -- an Ok ends at that time or later
   pub ends : (end : ℕ) → result ≡ Ok end → begun ≤ end
 
--- What becomes of a call at the top of layers that goes block by block: only the list and the count
--- of faults change at the top, and what is done beneath is done so many sectors further on.
+-- The effect of a call at the top of layers that goes block by block: only the list and the count
+-- of faults change at the top, and the calls below are shifted by its offset.
 pub record FollowsBlocks (block : ℕ) (bad : Bad) (mode : Mode) (layer : Layer) (layers : List Layer)
     (old : SectorDisk) (call : Call) (now : ℕ)
     (result : Result ℕ DevError) (after : List Layer) (new : SectorDisk) : Type 0 where

@@ -1,4 +1,4 @@
--- Which slots of a stack have a layer, and the disk beneath them.
+-- The slots of a stack that have a layer, and the disk below them.
 use Rattle.std.specs.Prelude.{Bool, List, []}
 use Rattle.blockdev.specs.declared.device.BlockDev.{Ghosts}
 use Rattle.sector_disk.specs.declared.disk.SectorDisk.{SectorDisk}
@@ -8,7 +8,7 @@ use Rattle.layer_table.specs.declared.levels.two.Two.{Two}
 use Rattle.layer_table.specs.declared.slot.Slot.{Slot}
 use Rattle.layer_table.specs.Slots.{device_of, shape_with}
 
--- which of the lowest slot, of the two lowest and of the three lowest have a layer, the top first
+-- for the lowest slot, the two lowest and the three lowest: whether each has a layer, the top first
 abbrev pub shape_one : One → List Bool
 shape_one level = shape_with (λ disk. []) level.top
 
@@ -18,11 +18,11 @@ shape_two level = shape_with shape_one level.top
 abbrev pub shape_three : Three → List Bool
 shape_three level = shape_with shape_two level.top
 
--- over a disk there are four
+-- the same, for the four slots over a disk
 abbrev pub shape_of : {g : Ghosts Three} → Slot Three g → List Bool
 shape_of slot = shape_with shape_three slot
 
--- the disk beneath the lowest slot, beneath the two lowest and beneath the three lowest
+-- the disk below the lowest slot, the two lowest and the three lowest
 abbrev pub disk_one : One → SectorDisk
 disk_one level = device_of level.top
 

@@ -12,15 +12,15 @@ use Rattle.layer_table.specs.SlotLaws.{slot_lawful}
 use Rattle.layer_table.specs.SlotMessages.{SlotAnswers}
 use Rattle.layer_table.specs.Slots.{slot_does, slot_shown}
 
--- what is seen of it
+-- the view of the lowest slot
 abbrev pub one_shown : One → View
 one_shown level = slot_shown level.top
 
--- what its calls do
+-- the effect of its calls
 abbrev pub one_does : One → Call → ℕ → Result ℕ DevError → One → Type 0
 one_does old call now result new = slot_does old.top call now result new.top
 
--- it keeps the law of a device
+-- the lowest slot keeps the law of a device
 pub one_lawful : (level : One) → IsLawful (one_shown level)
 one_lawful level = slot_lawful disk_lawful level.top
 
@@ -29,6 +29,6 @@ abbrev pub DiskAnswers : SectorDisk → ℕ → List ℕ → Result (Unit {0}) M
     → Type 0
 DiskAnswers old layer text result new = (result ≡ Err BadMessage) × (new ≡ old)
 
--- what it answers to a message
+-- the result of a message to it
 abbrev pub one_answers : One → ℕ → List ℕ → Result (Unit {0}) MessageError → One → Type 0
 one_answers old layer text result new = SlotAnswers DiskAnswers old.top layer text result new.top

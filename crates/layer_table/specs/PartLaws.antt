@@ -1,4 +1,4 @@
--- What stands over a disk shows a part of it.
+-- A stack of layers over a disk is a part of the disk.
 use Rattle.std.proofs.Common.{ℕ, ◌+◌, ap, refl, ◌∙◌, arith}
 use Rattle.blockdev.specs.declared.device.BlockDev.{Ghosts}
 use Rattle.blockdev.specs.Calls.{IsRange}
@@ -52,7 +52,7 @@ window_part v w offset length fits is = record {
       );
 }
 
--- what stands in a slot is a part where what is beneath is one
+-- a slot is a part of the disk if the device below is one
 pub part_with : {D : Type 0} {g : Ghosts D} (disk : D → View)
     → ((device : D) → IsPartOf (disk device) (g.shown device))
     → (slot : Slot D g) → IsPartOf (disk (device_of slot)) (slot_shown slot)

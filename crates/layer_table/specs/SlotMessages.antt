@@ -1,4 +1,4 @@
--- What becomes of a message: which layer it goes to, and what stays.
+-- The effect of a message: which layer it goes to, and what stays.
 use Rattle.std.specs.Prelude.{◌≡◌, ℕ, ◌-◌, ◌<◌, List, Err, Result}
 use Rattle.blockdev.specs.declared.device.BlockDev.{Ghosts}
 use Rattle.blockdev.specs.declared.message.MessageError.{MessageError}
@@ -8,20 +8,20 @@ use Rattle.fault_layers.specs.declared.linear.Linear.{Linear}
 use Rattle.layer_table.specs.declared.slot.Slot.{Slot}
 use Rattle.layer_table.specs.declared.slot.Slot.TheVariants as slots
 
--- it is refused by BadMessage, and nothing is changed
+-- the message is refused by BadMessage, and nothing is changed
 pub record IsNoMessage {S : Type 0} (result : Result (Unit {0}) MessageError)
     (old new : S) : Type 0 where
   pub refused : result ≡ Err BadMessage
   pub stays : new ≡ old
 
--- a layer with bad blocks takes messages, and answers them by its rule; no other layer takes any
+-- a layer with bad blocks takes messages, and responds by its rule; no other layer takes any
 abbrev pub AnswersItself : {D : Type 0} {g : Ghosts D} → Slot D g → List ℕ
     → Result (Unit {0}) MessageError → Slot D g → Type 0
 AnswersItself {D} {g} (slots.Dusted layer) text result (slots.Dusted after) =
     IsMessageDone layer.lower.length 1 text result layer after
 AnswersItself {D} {g} slot text result after = IsNoMessage result slot after
 
--- what the device beneath a range answers, and the range stays
+-- the device below a range responds, and the range stays
 abbrev pub RangeAnswers : {D : Type 0} {g : Ghosts D}
     → (D → ℕ → List ℕ → Result (Unit {0}) MessageError → D → Type 0) → Linear D g → ℕ → List ℕ
     → Result (Unit {0}) MessageError → Linear D g → Type 0
@@ -29,7 +29,7 @@ RangeAnswers below range layer text result after =
     below range.lower layer text result after.lower × (after.offset ≡ range.offset)
     × (after.length ≡ range.length)
 
--- what the device beneath a slot answers, and what stands in the slot stays
+-- the device below a slot responds, and the layer in the slot stays
 abbrev pub AnswersBelow : {D : Type 0} {g : Ghosts D}
     → (D → ℕ → List ℕ → Result (Unit {0}) MessageError → D → Type 0) → Slot D g → ℕ → List ℕ
     → Result (Unit {0}) MessageError → Slot D g → Type 0
@@ -44,7 +44,7 @@ AnswersBelow {D} {g} below (slots.Dusted dust) layer text result (slots.Dusted a
     × (after.faults ≡ dust.faults)
 AnswersBelow {D} {g} below slot layer text result after = ⊥
 
--- A slot is layer 1, and what stands beneath it counts on from 2.
+-- A slot is layer 1, and the layers below it count on from 2.
 pub record SlotAnswers {D : Type 0} {g : Ghosts D}
     (below : D → ℕ → List ℕ → Result (Unit {0}) MessageError → D → Type 0) (old : Slot D g)
     (layer : ℕ)

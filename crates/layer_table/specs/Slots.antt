@@ -1,4 +1,4 @@
--- A place for a layer: what is shown of it, and what its calls do.
+-- A slot for a layer: its view, and the effect of its calls.
 use Rattle.std.specs.Prelude.{◌≡◌, ℕ, Bool, true, false, List, [], ◌∷◌, Result}
 use Rattle.std.specs.List.{list_all}
 use Rattle.bio.specs.declared.outcome.DevError.{DevError}
@@ -14,8 +14,8 @@ use Rattle.layer_table.specs.declared.slot.Slot.{Slot}
 use Rattle.layer_table.specs.declared.slot.Slot.TheVariants as slots
 use Rattle.layer_table.specs.AnyRule.{any_after, any_may_drop, any_verdict}
 
--- a layer is seen as the device beneath from its offset on, one with a gate with faults and lies of
--- its own, and one with bad blocks with faults of its own
+-- the view of a slot: that of the device below, from a layer's offset on; a layer with a gate has
+-- faults and lies of its own, and one with bad blocks has faults of its own
 abbrev pub slot_shown : {D : Type 0} {g : Ghosts D} → Slot D g → View
 slot_shown {D} {g} (slots.Bare device) = g.shown device
 slot_shown {D} {g} (slots.Dusted layer) =
@@ -25,14 +25,14 @@ slot_shown {D} {g} (slots.Decided layer) =
     counted (window (g.shown layer.lower.lower) layer.lower.offset layer.lower.length)
     layer.faults layer.lies (any_may_drop layer.gate)
 
--- a range does what the device beneath does at the shifted call, and stays
+-- a range does the call shifted by its offset on the device below, and stays
 abbrev pub IsShifted : {D : Type 0} {g : Ghosts D} → Linear D g → Call → ℕ → Result ℕ DevError
     → Linear D g → Type 0
 IsShifted {D} {g} range call now result after =
     g.does range.lower (call_from range.offset call) now result after.lower
     × (after.offset ≡ range.offset) × (after.length ≡ range.length)
 
--- the device beneath does a call, or a range of it as its gate decides, or block by block
+-- the device below does a call, or a range of it as its gate decides, or block by block
 abbrev pub slot_does : {D : Type 0} {g : Ghosts D} → Slot D g → Call → ℕ → Result ℕ DevError
     → Slot D g → Type 0
 slot_does {D} {g} (slots.Bare device) call now result (slots.Bare after) =
@@ -45,23 +45,23 @@ slot_does {D} {g} (slots.Dusted layer) call now result (slots.Dusted after) =
     IsDusted IsShifted call now result layer after
 slot_does {D} {g} slot call now result after = ⊥
 
--- whether a layer stands there
+-- whether the slot has a layer
 abbrev pub has_layer : {D : Type 0} {g : Ghosts D} → Slot D g → Bool
 has_layer {D} {g} (slots.Bare device) = false
 has_layer {D} {g} (slots.Decided layer) = true
 has_layer {D} {g} (slots.Dusted layer) = true
 
--- the device beneath
+-- the device below
 abbrev pub device_of : {D : Type 0} {g : Ghosts D} → Slot D g → D
 device_of {D} {g} (slots.Bare device) = device
 device_of {D} {g} (slots.Decided layer) = layer.lower.lower
 device_of {D} {g} (slots.Dusted layer) = layer.lower.lower
 
--- which slots have a layer, the top first, where this is said of the device beneath
+-- whether each slot has a layer, the top first, if `beneath` is that for the device below
 abbrev pub shape_with : {D : Type 0} {g : Ghosts D} → (D → List Bool) → Slot D g → List Bool
 shape_with {D} {g} beneath slot = has_layer slot ∷ beneath (device_of slot)
 
--- beneath a slot with a layer each has one
+-- if a slot has a layer, each slot below it has one
 abbrev pub has_no_gap : List Bool → Bool
 has_no_gap [] = true
 has_no_gap (false ∷ shape) = has_no_gap shape

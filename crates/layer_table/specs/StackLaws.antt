@@ -63,7 +63,7 @@ pub no_gap_kept : (old : Stack) (call : Call) (now : ℕ) (result : Result ℕ D
 no_gap_kept old call now result top does =
     ap has_no_gap (shape_kept shape_three three_shape old.top call now result top does) ∙ old.filled
 
--- ---- a stack shows its layers over what the disk beneath shows
+-- ---- the view of a stack is that of its layers over the view of the disk below
 
 one_by_layers : (level : One)
     → one_shown level ≡ layers_over (layers_one level) (shown_of (disk_one level))
@@ -83,7 +83,7 @@ pub shown_by_layers : (stack : Stack)
 shown_by_layers stack =
     shown_with layers_three (λ three. shown_of (disk_three three)) three_by_layers stack.top
 
--- ---- a stack's call is one of its layers over the disk beneath
+-- ---- a stack's call is one of its layers over the disk below
 
 one_count : IsKept on_one (λ level. length (layers_one level))
 one_count level call now result after does =
@@ -123,7 +123,7 @@ pub done_by_layers : (old : Stack) (call : Call) (now : ℕ) (result : Result �
 done_by_layers old call now result new does =
     does_with layers_three disk_three three_count three_done old.top call now result new.top does
 
--- the same, said of all that is shown
+-- equal views have equal parts
 pub seen_as : (v w : View) → w ≡ v → IsSeenAs v w
 seen_as v w same = subst (λ (x : View). IsSeenAs x w) same (record {
   size = refl;
@@ -141,7 +141,7 @@ pub seen_by_layers : (stack : Stack)
     → IsSeenAs (layers_over (layers_of stack) (shown_of (disk_of stack))) (stack_shown stack)
 seen_by_layers stack = seen_as _ _ (shown_by_layers stack)
 
--- a stack is a part of the disk beneath it
+-- a stack is a part of the disk below it
 one_part : (level : One) → IsPartOf (shown_of (disk_one level)) (one_shown level)
 one_part level = part_with shown_of disk_part level.top
 
@@ -154,7 +154,7 @@ three_part level = part_with (λ two. shown_of (disk_two two)) two_part level.to
 pub part_of_disk : (stack : Stack) → IsPartOf (shown_of (disk_of stack)) (stack_shown stack)
 part_of_disk stack = part_with (λ three. shown_of (disk_three three)) three_part stack.top
 
--- how many layers stand in four slots: one in each that has one
+-- the number of layers in four slots: one for each slot that has one
 counted_in : (stack : Stack)
     → let three = device_of stack.top in
     let two = device_of three.top in
@@ -172,7 +172,7 @@ counted_in stack =
     ∙ ap (count_with (has_layer three.top)) (counted_with layers_one two.top
     ∙ ap (count_with (has_layer two.top)) (counted_with (λ disk. []) one.top)))
 
--- with no gap, a layer at the top stands over three, and no layer at the top leaves three at most
+-- with no gap, a layer at the top is over three, and no layer at the top leaves at most three
 four_full : (a b c d : Bool) → a ≡ true → has_no_gap (a ∷ b ∷ c ∷ d ∷ []) ≡ true
     → count_with a (count_with b (count_with c (count_with d 0))) ≡ 4
 four_full true true true true is whole = refl

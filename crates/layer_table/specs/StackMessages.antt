@@ -1,4 +1,4 @@
--- What becomes of a message to a layer of a stack.
+-- The effect of a message to a layer of a stack.
 use Rattle.std.proofs.Common.{◌≡◌, ℕ, zero, suc, ◌-◌, ◌<◌, ◌≤◌, Bool, true, List, [], ◌∷◌, Result}
 use Rattle.std.proofs.Common.{refl, ap, ◌∙◌, arith}
 use Rattle.std.specs.Prelude.{◌⊎◌}
@@ -25,14 +25,14 @@ pub record StackAnswers (old : Stack) (layer : ℕ) (text : List ℕ)
 
 -- ---- a message keeps the slots that have a layer
 
--- each message to a device keeps what f says of it
+-- each message to a device keeps its value of f
 abbrev pub KeepsByMessage : {D A : Type 0}
     → (D → ℕ → List ℕ → Result (Unit {0}) MessageError → D → Type 0) → (D → A) → Type 0
 KeepsByMessage {D} {A} answers f =
     (device : D) (layer : ℕ) (text : List ℕ) (result : Result (Unit {0}) MessageError) (after : D)
     → answers device layer text result after → f after ≡ f device
 
--- a slot keeps what f says of the device beneath, and whether it has a layer
+-- a slot keeps the value of f of the device below, and whether it has a layer
 abbrev IsSlotKept : {D A : Type 0} {g : Ghosts D} → (D → A) → Slot D g → Slot D g → Type 0
 IsSlotKept f slot after =
     (f (device_of after) ≡ f (device_of slot)) × (has_layer after ≡ has_layer slot)
@@ -80,7 +80,7 @@ below_kept {D} {A} {g} f below kept (slots.Dusted it) layer text result (slots.D
 below_kept {D} {A} {g} f below kept (slots.Dusted it) layer text result (slots.Dusted after) is =
     (kept it.lower.lower layer text result after.lower.lower is.0.0, refl)
 
--- so does any message
+-- any message keeps the value of f, and whether the slot has a layer
 message_kept : {D A : Type 0} {g : Ghosts D} (f : D → A)
     (below : D → ℕ → List ℕ → Result (Unit {0}) MessageError → D → Type 0) → KeepsByMessage below f
     → (slot : Slot D g) (layer : ℕ) (text : List ℕ) (result : Result (Unit {0}) MessageError)

@@ -10,18 +10,18 @@ use Rattle.layer_table.specs.SlotLaws.{slot_lawful}
 use Rattle.layer_table.specs.SlotMessages.{SlotAnswers}
 use Rattle.layer_table.specs.Slots.{slot_does, slot_shown}
 
--- what is seen of it
+-- the view of the third slot
 abbrev pub three_shown : Three → View
 three_shown level = slot_shown level.top
 
--- what its calls do
+-- the effect of its calls
 abbrev pub three_does : Three → Call → ℕ → Result ℕ DevError → Three → Type 0
 three_does old call now result new = slot_does old.top call now result new.top
 
--- it keeps the law of a device
+-- the third slot keeps the law of a device
 pub three_lawful : (level : Three) → IsLawful (three_shown level)
 three_lawful level = slot_lawful two_lawful level.top
 
--- what it answers to a message
+-- the result of a message to it
 abbrev pub three_answers : Three → ℕ → List ℕ → Result (Unit {0}) MessageError → Three → Type 0
 three_answers old layer text result new = SlotAnswers two_answers old.top layer text result new.top

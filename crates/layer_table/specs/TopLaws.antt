@@ -1,4 +1,4 @@
--- What becomes of a call at the top of layers, by the rule of the top.
+-- The effect of a call at the top of layers, by the rule of the top.
 use Rattle.std.proofs.Common.{◌≡◌, ℕ, List, [], ◌∷◌, length, Result, refl, ap, subst, sym, ◌∙◌}
 use Rattle.bio.specs.Moments.{later_by}
 use Rattle.dust_layer.specs.declared.mode.Mode.{Mode}
@@ -16,7 +16,7 @@ use Rattle.layer_table.specs.AnyRule.{any_after, any_verdict}
 use Rattle.layer_table.specs.Layers.{Deciding, DoesAt, Dusting, Follows, FollowsBlocks}
 use Rattle.layer_table.specs.Layers.{FollowsLater, Layer, LayersDo, Rule, SoManyDo, Under}
 
--- layers with the same in each field are one
+-- layers with equal fields are equal
 same_values : (o p l m : ℕ) (g h : Rule) (f e i k : ℕ) → o ≡ p → l ≡ m → g ≡ h → f ≡ e → i ≡ k
     → ◌≡◌ {A = Layer} (record { offset = o; length = l; rule = g; faults = f; lies = i })
     (record { offset = p; length = m; rule = h; faults = e; lies = k })
@@ -29,13 +29,13 @@ same_layer a b offset length rule faults lies =
     same_values a.offset b.offset a.length b.length a.rule b.rule a.faults b.faults a.lies b.lies
     offset length rule faults lies
 
--- the same list, with this top
+-- lists with equal tops and equal rests are equal
 same_top : (a b : Layer) (layers others : List Layer) → a ≡ b → layers ≡ others
     → a ∷ layers ≡ b ∷ others
 same_top a b layers others top rest =
     ap (λ (layer : Layer). layer ∷ layers) top ∙ ap (λ (xs : List Layer). b ∷ xs) rest
 
--- where the top's rule is this, this becomes of a call there
+-- a call at the top has the effect of the top's rule
 at_top : (layer : Layer) (layers : List Layer) (old : SectorDisk) (call : Call) (now : ℕ)
     (result : Result ℕ DevError) (top : Layer)
     (others : List Layer) (new : SectorDisk) (rule : Rule) → layer.rule ≡ rule
@@ -96,7 +96,7 @@ gate_top layer layers old call now result (top ∷ others) new gate is does =
           );
     }
 
--- where the gate stays, so does the layer
+-- if the gate stays, so does the layer
 pub gate_stays : (layer : Layer) (layers : List Layer) (old : SectorDisk) (call : Call) (now : ℕ)
     (result : Result ℕ DevError) (after : List Layer)
     (new : SectorDisk)
@@ -113,7 +113,7 @@ gate_stays layer layers old call now result after new gate is stays does =
     (ap Deciding stays ∙ sym is) refl refl)
     (gate_top layer layers old call now result after new gate is does)
 
--- one that passes all
+-- a layer that passes all calls
 pub linear_top : (layer : Layer) (layers : List Layer) (old : SectorDisk) (call : Call) (now : ℕ)
     (result : Result ℕ DevError) (after : List Layer)
     (new : SectorDisk)
@@ -122,7 +122,7 @@ pub linear_top : (layer : Layer) (layers : List Layer) (old : SectorDisk) (call 
 linear_top layer layers old call now result after new is does =
     gate_stays layer layers old call now result after new Open is refl does
 
--- one whose calls begin later
+-- a layer that begins its calls later
 pub delay_top : (layer : Layer) (layers : List Layer) (old : SectorDisk) (call : Call) (now : ℕ)
     (result : Result ℕ DevError) (after : List Layer)
     (new : SectorDisk)

@@ -10,18 +10,18 @@ use Rattle.layer_table.specs.SlotLaws.{slot_lawful}
 use Rattle.layer_table.specs.SlotMessages.{SlotAnswers}
 use Rattle.layer_table.specs.Slots.{slot_does, slot_shown}
 
--- what is seen of it
+-- the view of the second slot
 abbrev pub two_shown : Two → View
 two_shown level = slot_shown level.top
 
--- what its calls do
+-- the effect of its calls
 abbrev pub two_does : Two → Call → ℕ → Result ℕ DevError → Two → Type 0
 two_does old call now result new = slot_does old.top call now result new.top
 
--- it keeps the law of a device
+-- the second slot keeps the law of a device
 pub two_lawful : (level : Two) → IsLawful (two_shown level)
 two_lawful level = slot_lawful one_lawful level.top
 
--- what it answers to a message
+-- the result of a message to it
 abbrev pub two_answers : Two → ℕ → List ℕ → Result (Unit {0}) MessageError → Two → Type 0
 two_answers old layer text result new = SlotAnswers one_answers old.top layer text result new.top

@@ -1,5 +1,5 @@
-//! One gate for all layers that only decide about calls: error, flakey, fuse, delay, or open.
-//! A `Slot` keeps such a layer under it, so that its type has no parameter for the gate.
+//! One gate for all layers that only decide about calls: error, flakey, fuse, delay, or open. A
+//! `Slot` keeps such a layer by it, so that its type has no parameter for the gate.
 use bio::Ms;
 use fault_layers::{DelayGate, ErrorGate, FlakeyGate, FuseGate, Gate, Kind, Verdict};
 use table_line::Target;
@@ -11,9 +11,9 @@ pub enum AnyGate {
     Open,
     /// It fails every call.
     Error(ErrorGate),
-    /// It decides by the moment.
+    /// It decides by the time.
     Flakey(FlakeyGate),
-    /// It decides by the calls before.
+    /// It decides by the number of earlier calls.
     Fuse(FuseGate),
     /// It passes every call later.
     Delay(DelayGate),
@@ -24,8 +24,8 @@ impl AnyGate {
     ghost use Rattle.table_line.specs.Ranges.{IsTargetInRange};
     ghost use Rattle.layer_table.specs.Layers.{gate_asked};
 
-    /// The gate of a target, which is open where the target decides about no call; a flakey
-    /// device's moments count from `load`, in milliseconds.
+    /// Returns the gate of a target, which is open if the target decides about no call; a flakey
+    /// device's times count from `load`, in milliseconds.
     pub fn of(offset: u64, target: Target, load: Ms) -> AnyGate
         requires { IsTargetInRange offset target }
         ensures { result ≡ gate_asked target load }

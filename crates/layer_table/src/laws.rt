@@ -20,16 +20,15 @@ ghost use Rattle.layer_table.specs.Layers.{disk_of, layers_of, layers_over, stac
 ghost use Rattle.layer_table.specs.Layers.{stack_shown, Deciding, Dusting, Follows, FollowsBlocks};
 ghost use Rattle.layer_table.specs.Layers.{FollowsLater, IsPartOf, IsSeenAs, Layer, LayersDo};
 
-/// What is seen of a stack is what its layers make, from
-/// the lowest up, of what is seen of the disk.
+/// The view of a stack is that of its layers, from the lowest up, over the view of the disk.
 #[tactic(auto, using(crate::specs::StackLaws::seen_by_layers))]
 pub fn stacks_show_their_layers()
     ensures { (stack : Stack)
         → IsSeenAs (layers_over (layers_of stack) (shown_of (disk_of stack))) (stack_shown stack) }
 {}
 
-/// A stack is a part of the disk beneath it: it shows the disk from its origin on, and what a crash
-/// may have left of it, inside a call too, is the part of what it may have left of the disk.
+/// A stack is a part of the disk below it. It has the disk's content from its origin on. What a
+/// crash, even during a call, may have left of it is the part of what it may have left of the disk.
 pub fn stacks_are_parts_of_their_disks()
     ensures { (stack : Stack) → IsPartOf (shown_of (disk_of stack)) (stack_shown stack) }
 {}
@@ -42,8 +41,8 @@ pub fn stacks_do_what_their_layers_do()
         LayersDo (layers_of old) (disk_of old) call now result (layers_of new) (disk_of new) }
 {}
 
-/// A linear layer at the top, whose gate is open, passes
-/// each call to the layers beneath, shifted by its offset.
+/// A linear layer at the top, which has an open gate, passes each call to the layers below, shifted
+/// by its offset.
 #[tactic(auto, using(crate::specs::TopLaws::linear_top))]
 pub fn linear_layers_pass()
     ensures { (layer : Layer) (layers : List Layer) (old : SectorDisk) (call : Call) (now : ℕ)
@@ -62,8 +61,8 @@ pub fn error_layers_fail()
         Follows Fail layer layers old call now result after new }
 {}
 
-/// A flakey layer at the top decides by its turns and its
-/// feature, and stays as it is but for its counts.
+/// A flakey layer at the top decides by its turns and its feature, and stays as it is except for
+/// its counts.
 pub fn flakey_layers_take_turns()
     ensures { (layer : Layer) (layers : List Layer) (old : SectorDisk) (call : Call) (now : ℕ)
         (result : Result ℕ DevError) (after : List Layer)
@@ -73,8 +72,8 @@ pub fn flakey_layers_take_turns()
         (kind_of call) now) layer layers old call now result after new }
 {}
 
-/// A fuse layer at the top decides by how many calls it
-/// passes yet, and has one less after each that it counts.
+/// A fuse layer at the top decides by how many calls it still passes, and passes one less after
+/// each call that it counts.
 pub fn fuse_layers_count()
     ensures { (layer : Layer) (layers : List Layer) (old : SectorDisk) (call : Call) (now : ℕ)
         (result : Result ℕ DevError) (after : List Layer)
@@ -85,7 +84,7 @@ pub fn fuse_layers_count()
         layers old call now result after new }
 {}
 
-/// A delay layer at the top begins each call so much later, and stays as it is.
+/// A delay layer at the top begins each call later, by its delay, and stays as it is.
 #[tactic(auto, using(crate::specs::TopLaws::delay_top))]
 pub fn delay_layers_begin_later()
     ensures { (layer : Layer) (layers : List Layer) (old : SectorDisk) (call : Call) (now : ℕ)

@@ -1,5 +1,5 @@
-//! The three lower slots, each a device of its own, with a name. A type that held the slots one
-//! within the other would be twice as long with each, and so would the proofs over it.
+//! The three lower slots, each a named device. A type with the slots one within the other would be
+//! twice as long with each, and so would the proofs over it.
 
 mod building;
 mod one;

@@ -1,9 +1,9 @@
 //! Stacks of layers over a disk in memory, as the lines of a table ask for them.
 //!
-//! A `Slot` is a device or one layer over it; a `Stack` is four slots, each over the next, over a
-//! disk, and a device itself. Contracts see the layers of a stack as a list, the top first
-//! (`specs/Layers`): what a stack shows and what its calls do follows from that list and the disk
-//! beneath (`laws`). What reads a line, `table_line`, is found here by the same names.
+//! A `Slot` is a device or one layer over it. A `Stack` is four slots, each over the next, over a
+//! disk, and is itself a device. Contracts see the layers of a stack as a list, the top first
+//! (`specs/Layers`): the view of a stack and the effect of its calls follow from that list and the
+//! disk below (`laws`). The parser of a line, `table_line`, is exported here by the same names.
 #![tactic(auto)]
 
 pub use any_gate::AnyGate;

@@ -1,15 +1,15 @@
-//! A place for one layer: the device beneath alone, a range of it under a gate, or with bad blocks.
-//! A `Stack` has four, each over the next; its calls go through them.
+//! A slot for one layer: only the device below, a range of it under a gate, or a range with bad
+//! blocks. A `Stack` has four, each over the next; its calls go through them.
 use crate::any_gate::AnyGate;
 use bio::{DevError, Ms};
 use blockdev::{BlockDev, Message, MessageError};
 use dust_layer::Dust;
 use fault_layers::{Gated, Linear};
 
-/// A place for a layer: the device beneath alone, or one layer over a range of it.
+/// A slot for a layer: only the device below, or one layer over a range of it.
 #[derive(Drop)]
 pub enum Slot<D: BlockDev + Drop> {
-    /// The device beneath.
+    /// The device below.
     Bare(D),
     /// A range of it, under a gate.
     Decided(Gated<Linear<D>, AnyGate>),
@@ -90,7 +90,7 @@ impl<D: BlockDev + Drop> Slot<D> {
     ghost use Rattle.layer_table.specs.SlotMessages.{AnswersItself};
     ghost use Rattle.layer_table.specs.Slots.{device_of, has_layer, slot_shown};
 
-    /// The device beneath.
+    /// Returns the device below.
     pub fn into_device(self) -> D
         ensures { result ≡ device_of self }
     {
@@ -101,14 +101,14 @@ impl<D: BlockDev + Drop> Slot<D> {
         }
     }
 
-    /// Whether a layer stands there.
+    /// Returns whether the slot has a layer.
     pub fn has_layer(&self) -> bool
         ensures { result ≡ has_layer self.now }
     {
         !matches!(self, Slot::Bare(_))
     }
 
-    // The answer of the layer that stands there: only one with bad blocks takes messages.
+    // Passes a message to the layer in the slot: only one with bad blocks takes messages.
     fn own_message(&mut self, text: &str) -> Result<(), MessageError>
         ensures same { Unchanged (slot_shown self.old) (slot_shown self.new) }
         ensures answers { AnswersItself self.old text.now result self.new }
@@ -125,7 +125,7 @@ impl<D: Message + Drop> Slot<D> {
     ghost use Rattle.layer_table.specs.SlotMessages.{AnswersBelow};
     ghost use Rattle.layer_table.specs.Slots.{slot_shown};
 
-    // The answer of the device beneath, whose layers count from 1.
+    // Passes a message to the device below, which counts its layers from 1.
     fn message_below(&mut self, layer: u64, text: &str) -> Result<(), MessageError>
         ensures same { Unchanged (slot_shown self.old) (slot_shown self.new) }
         ensures answers { AnswersBelow D.answers self.old layer text.now result self.new }
@@ -141,7 +141,7 @@ impl<D: Message + Drop> Slot<D> {
 impl<D: Message + Drop> Message for Slot<D> {
     ghost use Rattle.layer_table.specs.SlotMessages.{SlotAnswers};
 
-    // The slot is layer 1 of its own, and what stands beneath follows it.
+    // The slot is layer 1, and the layers below it count on from 2.
     ghost answers = { λ old layer text result new. SlotAnswers D.answers old layer text result
         new };
 

@@ -1,5 +1,5 @@
-//! A disk in memory under up to four layers, which fill the slots from the lowest up.
-//! `building` puts layers on, `device` does the calls, and `messages` hands messages to layers.
+//! A disk in memory under up to four layers, which fill the slots from the lowest up. `building`
+//! adds layers, `device` does the calls, and `messages` passes messages to layers.
 ghost use Rattle.std.specs.Prelude.{◌≡◌, true};
 ghost use Rattle.std.proofs.Props.{props};
 ghost use Rattle.layer_table.specs.Levels.{shape_of};
@@ -12,7 +12,7 @@ mod building;
 mod device;
 mod messages;
 
-/// A disk in memory under up to four layers, each over what stands beneath it.
+/// A disk in memory under up to four layers, each over the next.
 #[derive(Drop)]
 pub struct Stack {
     // The layers fill the slots from the lowest up.

@@ -1,4 +1,4 @@
--- The rule of a keeper and its holders, and what each step does to what a pass knows.
+-- The rule of a keeper and its holders, and the effect of each step on what a pass knows.
 use Rattle.std.specs.Prelude.{◌≡◌, ℕ, List, [], ◌∷◌, ◌++◌, length, Option, Some, None, slice_get}
 use Rattle.std.specs.Prelude.{slice_set, true, false}
 use mathlib.Core.Option.{some}
@@ -20,21 +20,21 @@ no_table =
       slot_names = [];
     }
 
--- what contracts see of a holder: its number, and what it holds
+-- the view of a holder: its number, and what it holds
 pub record Grip : Type 0 where
   pub number : ℕ
   pub held : Option ℕ
 
--- the pass of a keeper, that knows what each holder holds
+-- the pass of a keeper, which knows what each holder holds
 abbrev pub keeper_of : List (Option ℕ) → Knows
 keeper_of all = record { keeps = true; all = all; holds = false; number = 0; held = None }
 
--- the pass of a holder, that knows its number and what it holds
+-- the pass of a holder, which knows its number and what it holds
 abbrev pub holder_of : ℕ → Option ℕ → Knows
 holder_of number held =
     record { keeps = false; all = []; holds = true; number = number; held = held }
 
--- the pass of a keeper that has a holder's beside it
+-- the pass of a keeper, joined with a holder's
 abbrev pub both_of : List (Option ℕ) → ℕ → Option ℕ → Knows
 both_of all number held =
     record { keeps = true; all = all; holds = true; number = number; held = held }
@@ -43,7 +43,7 @@ both_of all number held =
 abbrev pub nobody : Knows
 nobody = record { keeps = false; all = []; holds = false; number = 0; held = None }
 
--- what stays of a pass when the holder's part goes
+-- a pass without the holder's part
 abbrev pub without : Knows → Knows
 without pass = record { keeps = pass.keeps; all = pass.all; holds = false; number = 0; held = None }
 
@@ -52,7 +52,7 @@ abbrev pub part_of : Knows → Knows
 part_of pass =
     record { keeps = false; all = []; holds = pass.holds; number = pass.number; held = pass.held }
 
--- a pass, and a holder's part that came to it
+-- a pass, joined with a holder's part
 abbrev pub beside : Knows → Knows → Knows
 beside pass part =
     record {
@@ -63,11 +63,11 @@ beside pass part =
       held = part.held;
     }
 
--- a keeper and the holder that it has beside it agree on what the holder holds
+-- a keeper and the holder that is joined with it agree on what the holder holds
 abbrev pub Agree : Knows → Type 0
 Agree pass = slice_get pass.all pass.number ≡ Some pass.held
 
--- one holder more, that holds nothing
+-- one more holder, which holds nothing
 abbrev pub Enrols : Step (Unit {0}) → Me (Unit {0}) Knows → ℕ → Me (Unit {0}) Knows → Type 0
 Enrols step before found after =
     after ≡ (both_of (before.0.all ++ None ∷ []) (length before.0.all) None, [])
@@ -90,17 +90,17 @@ abbrev pub Agrees : Step (Unit {0}) → Me (Unit {0}) Knows → ℕ → Me (Unit
 Agrees step before found after =
     Agree before.0 × (after ≡ (both_of before.0.all before.0.number before.0.held, []))
 
--- What the rule says of one pass, where the keeper's stands at this place, each number's holder at
--- a place of its own, and this is what all hold.
+-- The rule for one pass, if the keeper's is at this place, each number's holder at a place of its
+-- own, and `all` is what all hold.
 pub record Fits (place : ℕ) (owner : ℕ → ℕ) (all : List (Option ℕ)) (by : ℕ)
     (pass : Knows) : Type 0 where
   -- only one pass is the keeper's, and it knows what all hold
   pub kept : pass.keeps ≡ true → (by ≡ place) × (pass.all ≡ all)
-  -- only one pass is the holder's of its number, and it holds what stands there
+  -- only one pass is the holder's with its number, and it holds what the list has there
   pub held : pass.holds ≡ true → (owner pass.number ≡ by)
       × (slice_get all pass.number ≡ Some pass.held)
 
--- The rule: one keeper, one holder a number, and the keeper knows what each of them holds.
+-- The rule: one keeper, one holder for each number, and the keeper knows what each of them holds.
 pub record IsKept (passes : List Knows) : Type 0 where
   pub place : ℕ
   pub owner : ℕ → ℕ

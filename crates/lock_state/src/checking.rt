@@ -1,4 +1,4 @@
-// What the queue compares with its history when a recorder closes.
+// The comparisons of the queue with its history when a recorder closes.
 ghost use Rattle.std.specs.Prelude.{◌≡◌, ◌≢◌, ◌<◌, ◌≤◌, IfOk, MatchBool, Option, Some, length};
 ghost use Rattle.std.specs.Prelude.{slice_get, true};
 ghost use Rattle.log_format.specs.Entries.{is_sector_size};
@@ -19,7 +19,7 @@ use pending::laws::list_has_what_is_queued;
 use std::alloc::{AllocError, Global};
 
 impl<R: Run> QueueState<R> {
-    /// Whether the seat's list is what the history has of it.
+    /// Returns whether the seat's list is that of the history.
     pub fn has_list(&self, seat: &SeatPart<R>) -> bool
         ensures { MatchBool result (IsList self.now seat.now) (IsList self.now seat.now → ⊥) }
     {
@@ -31,7 +31,8 @@ impl<R: Run> QueueState<R> {
         )
     }
 
-    /// Whether the seat's passed calls found where recording ended, and by which Stop.
+    /// Returns whether the seat's passed calls found the place at which recording ended, and by
+    /// which Stop.
     pub fn has_passed(&self, seat: &SeatPart<R>) -> bool
         ensures { MatchBool result (Each (FoundEnd self.now.core.events) seat.now.passed)
             (Fails (FoundEnd self.now.core.events) seat.now.passed) }
@@ -39,7 +40,8 @@ impl<R: Run> QueueState<R> {
         are_passed(&self.end, self.recorded_stop(), seat.passed.as_slice())
     }
 
-    /// Whether each cause that the seat was told is that of the first stop, or this one.
+    /// Returns whether each cause that was reported to the seat is that of the first stop, or
+    /// `end`.
     pub fn has_told(&self, seat: &SeatPart<R>, end: Option<End>) -> bool
         ensures { MatchBool result (AreCauses seat.now.told self.now.stop end)
             (AreCauses seat.now.told self.now.stop end → ⊥) }
@@ -47,7 +49,7 @@ impl<R: Run> QueueState<R> {
         are_causes(&seat.told, self.stop.cause(), end)
     }
 
-    // How many bytes a sector of the log has.
+    // Returns the size of a sector of the log in bytes.
     fn sector_bytes(&self) -> u32
         ensures bytes { result ≡ self.now.core.sector_bytes }
         ensures may_be { is_sector_size result ≡ true }
@@ -55,7 +57,7 @@ impl<R: Run> QueueState<R> {
         self.size.bytes()
     }
 
-    // Whether this item was taken as number k.
+    // Returns whether this item was taken as number k.
     fn is_taken_as(&self, k: usize, item: &Item) -> bool
         requires { k < self.now.core.taken }
         ensures { MatchBool result (slice_get (items_of self.now.core) k ≡ Some (listed item.now))
@@ -71,7 +73,7 @@ impl<R: Run> QueueState<R> {
         }
     }
 
-    /// Whether these items are a beginning of what was taken.
+    /// Returns whether these items are a prefix of what was taken.
     pub fn has_taken(&self, placed: &[Item]) -> bool
         ensures { MatchBool result (BeginsTaken self.now.core placed.now)
             (BeginsTaken self.now.core placed.now → ⊥) }
@@ -87,30 +89,30 @@ impl<R: Run> QueueState<R> {
         true
     }
 
-    /// How many items were taken.
+    /// Returns the number of items that were taken.
     pub fn taken_count(&self) -> usize
         ensures { result ≡ self.now.core.taken }
     {
         self.taken.len()
     }
 
-    /// How many events there are.
+    /// Returns the number of events.
     pub fn event_count(&self) -> usize
         ensures { result ≡ length self.now.core.events }
     {
         self.core.events().len()
     }
 
-    /// A note for each event, for `is_served`. `Err` where there is no memory.
+    /// Makes a note for each event, for `is_served`. Returns `Err` if there is no memory.
     pub fn notes(&self, alloc: Global) -> Result<Vec<Seen>, AllocError>
         ensures { IfOk result (λ notes. length notes.items ≡ length self.now.core.events) }
     {
         vec![in alloc; Seen::Never; self.core.events().len()]
     }
 
-    /// Whether each request that ended Ok stands just once among these
-    /// calls, as a call that ended Ok. There is to be a note for each
-    /// event; what the notes were doesn't matter. Takes no memory.
+    /// Returns whether each request that ended Ok is exactly once among these calls, as a call that
+    /// ended Ok. The caller passes a note for each event; their values don't matter. Takes no
+    /// memory.
     pub fn is_served(&self, calls: &[Done], notes: &mut [Seen]) -> bool
         requires { length self.now.core.events ≤ length notes.old }
         ensures { MatchBool result
@@ -120,8 +122,8 @@ impl<R: Run> QueueState<R> {
         is_served(self.core.events(), calls, notes)
     }
 
-    /// The cause of the Stop that stands in the history: none where there is none, also where
-    /// logging stopped after the Close.
+    /// Returns the cause of the Stop in the history: none if there is none, even if logging stopped
+    /// after the Close.
     pub fn recorded_stop(&self) -> Option<End>
         ensures { result ≡ stop_of self.now.core.events }
     {
@@ -132,7 +134,7 @@ impl<R: Run> QueueState<R> {
     }
 }
 
-// The cause of the Stop that stands at this place, where one does.
+// Returns the cause of the Stop at this place, if there is one.
 fn stop_at(events: &[CoreEvent], place: Id) -> Option<End>
     ensures { result ≡ stop_cause_at (slice_get events.now place) }
 {
@@ -142,8 +144,8 @@ fn stop_at(events: &[CoreEvent], place: Id) -> Option<End>
     }
 }
 
-// Whether the item is of this id, with the entry of this
-// event, in a log with sectors of so many bytes.
+// Returns whether the item has this id, with the entry of this event, in a log with sectors of
+// `bytes` bytes.
 fn is_item(item: &Item, id: Id, event: &CoreEvent, bytes: u32) -> bool
     requires { is_sector_size bytes ≡ true }
     ensures { MatchBool result (IsItem bytes item.now id event.now)

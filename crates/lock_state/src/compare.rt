@@ -1,4 +1,4 @@
-// What is compared when a recorder closes, as functions of lists.
+// The comparisons of a recorder that closes, as functions of lists.
 ghost use Rattle.std.specs.Prelude.{◌≡◌, ◌≢◌, ◌⊎◌, ◌&&◌, MatchBool, Option, Some, slice_get};
 ghost use Rattle.std.specs.Prelude.{length};
 ghost use Rattle.bio.specs.declared.request.Bio.TheVariants.{Discard, Flush, Read, Write};
@@ -10,7 +10,7 @@ use crate::note::{Item, Own, PassedCall, Told};
 use crate::run::Run;
 use bio::{Bio, CoreEvent, End, Id};
 
-// Whether the request is this write.
+// Returns whether the request is this write.
 fn is_write(bio: &Bio, first: u64, bytes: &[u8], flush: bool, fua: bool, meta: bool) -> bool
     ensures { MatchBool result (bio.now ≡ Write first bytes.now flush fua meta)
         (bio.now ≢ Write first bytes.now flush fua meta) }
@@ -33,7 +33,7 @@ fn is_write(bio: &Bio, first: u64, bytes: &[u8], flush: bool, fua: bool, meta: b
     }
 }
 
-// Whether the request is this discard.
+// Returns whether the request is this discard.
 fn is_discard(bio: &Bio, first: u64, count: u64) -> bool
     ensures { MatchBool result (bio.now ≡ Discard first count) (bio.now ≢ Discard first count) }
 {
@@ -46,7 +46,7 @@ fn is_discard(bio: &Bio, first: u64, count: u64) -> bool
     }
 }
 
-// Whether the request is this read.
+// Returns whether the request is this read.
 fn is_read(bio: &Bio, first: u64, count: u64) -> bool
     ensures { MatchBool result (bio.now ≡ Read first count) (bio.now ≢ Read first count) }
 {
@@ -59,7 +59,7 @@ fn is_read(bio: &Bio, first: u64, count: u64) -> bool
     }
 }
 
-// Whether the request is a flush.
+// Returns whether the request is a flush.
 fn is_flush(bio: &Bio) -> bool
     ensures { MatchBool result (bio.now ≡ Flush) (bio.now ≢ Flush) }
 {
@@ -69,7 +69,7 @@ fn is_flush(bio: &Bio) -> bool
     }
 }
 
-// Whether two requests are one.
+// Returns whether two requests are equal.
 pub(crate) fn same_bio(one: &Bio, other: &Bio) -> bool
     ensures { MatchBool result (one.now ≡ other.now) (one.now ≢ other.now) }
 {
@@ -87,7 +87,7 @@ pub(crate) fn same_bio(one: &Bio, other: &Bio) -> bool
     }
 }
 
-// Whether two events are one.
+// Returns whether two events are equal.
 fn same_event(one: &CoreEvent, other: &CoreEvent) -> bool
     ensures { MatchBool result (one.now ≡ other.now) (one.now ≢ other.now) }
 {
@@ -115,7 +115,7 @@ fn same_event(one: &CoreEvent, other: &CoreEvent) -> bool
     }
 }
 
-// Whether the list has this event, with its place, at this number.
+// Returns whether the list has this event, with its place, at this number.
 fn is_at(list: &[Own], number: usize, place: u64, event: &CoreEvent) -> bool
     ensures { MatchBool result (slice_get list.now number ≡ Some (own_at place event.now))
         (slice_get list.now number ≢ Some (own_at place event.now)) }
@@ -126,7 +126,7 @@ fn is_at(list: &[Own], number: usize, place: u64, event: &CoreEvent) -> bool
     }
 }
 
-/// Whether a list is what the history has of a seat.
+/// Returns whether a list is that of the history for a seat.
 pub fn is_list_of(events: &[CoreEvent], by: &[Option<u64>], seat: u64, list: &[Own]) -> bool
     requires { length by.now ≡ length events.now }
     ensures { MatchBool result (of events.now by.now seat ≡ list.now) (of events.now by.now seat ≢ list.now) }
@@ -143,7 +143,7 @@ pub fn is_list_of(events: &[CoreEvent], by: &[Option<u64>], seat: u64, list: &[O
     found == list.len()
 }
 
-// Whether the name is this seat's.
+// Returns whether the name is this seat's.
 fn is_seat(seat: u64, name: Option<u64>) -> bool
     ensures { result ≡ is_of seat name }
 {
@@ -153,7 +153,7 @@ fn is_seat(seat: u64, name: Option<u64>) -> bool
     }
 }
 
-// Whether recording ended at this place.
+// Returns whether recording ended at this place.
 fn is_end(end: &Option<Id>, place: Id) -> bool
     ensures { MatchBool result (end.now ≡ Some place) (end.now ≢ Some place) }
 {
@@ -163,14 +163,14 @@ fn is_end(end: &Option<Id>, place: Id) -> bool
     }
 }
 
-// Whether a passed call found that recording had ended at this place, by this Stop.
+// Returns whether a passed call found that recording had ended at this place, by this Stop.
 fn has_found(end: &Option<Id>, stop: Option<End>, call: &PassedCall) -> bool
     ensures { MatchBool result (Found end.now stop call.now) (Found end.now stop call.now → ⊥) }
 {
     is_end(end, call.place) && stop == call.stop
 }
 
-/// Whether each passed call found that recording had ended at this place, by this Stop.
+/// Returns whether each passed call found that recording had ended at this place, by this Stop.
 pub fn are_passed(end: &Option<Id>, stop: Option<End>, passed: &[PassedCall]) -> bool
     ensures { MatchBool result (Each (Found end.now stop) passed.now)
         (Fails (Found end.now stop) passed.now) }
@@ -183,7 +183,7 @@ pub fn are_passed(end: &Option<Id>, stop: Option<End>, passed: &[PassedCall]) ->
     true
 }
 
-// Whether this cause is one of the two.
+// Returns whether this cause is one of the two.
 fn is_cause(cause: End, stop: Option<End>, end: Option<End>) -> bool
     ensures { MatchBool result ((stop ≡ Some cause) ⊎ (end ≡ Some cause))
         (((stop ≡ Some cause) ⊎ (end ≡ Some cause)) → ⊥) }
@@ -191,14 +191,14 @@ fn is_cause(cause: End, stop: Option<End>, end: Option<End>) -> bool
     stop == Some(cause) || end == Some(cause)
 }
 
-// Whether this cause is one of the two, where it was told.
+// Returns whether this cause is one of the two, if it was reported.
 fn may_be_told(told: bool, cause: End, stop: Option<End>, end: Option<End>) -> bool
     ensures { MatchBool result (MayBeTold told cause stop end) (MayBeTold told cause stop end → ⊥) }
 {
     !told || is_cause(cause, stop, end)
 }
 
-/// Whether each cause that a seat was told is one of these two.
+/// Returns whether each cause that was reported to a seat is one of these two.
 pub fn are_causes(told: &Told, stop: Option<End>, end: Option<End>) -> bool
     ensures { MatchBool result (AreCauses told.now stop end) (AreCauses told.now stop end → ⊥) }
 {
@@ -208,14 +208,14 @@ pub fn are_causes(told: &Told, stop: Option<End>, end: Option<End>) -> bool
     are_all(full, device, memory)
 }
 
-// Whether all three are so.
+// Returns whether all three are true.
 fn are_all(one: bool, two: bool, three: bool) -> bool
     ensures { result ≡ (one && (two && three)) }
 {
     one && two && three
 }
 
-/// Whether a receipt names a settled item of its id.
+/// Returns whether a receipt names a settled item with its id.
 pub fn names<R: Run>(placed: &[Item], settled: u64, receipt: &Receipt<R>) -> bool
     ensures { MatchBool result (Names placed.now settled receipt.now)
         (Names placed.now settled receipt.now → ⊥) }
@@ -229,7 +229,7 @@ pub fn names<R: Run>(placed: &[Item], settled: u64, receipt: &Receipt<R>) -> boo
     }
 }
 
-/// Whether each receipt names a settled item of its id.
+/// Returns whether each receipt names a settled item with its id.
 pub fn are_named<R: Run>(placed: &[Item], settled: u64, receipts: &[Receipt<R>]) -> bool
     ensures { MatchBool result (Each (Names placed.now settled) receipts.now)
         (Fails (Names placed.now settled) receipts.now) }

@@ -1,4 +1,4 @@
-// The recorded device, and the requests that were handed to it.
+// The recorded device, and the requests that were passed to it.
 ghost use Rattle.std.specs.Prelude.{◌≡◌, ◌⊎◌, ℕ, ◌≤◌, ◌/◌, [], ◌∷◌, ◌++◌, length, Ok, Err};
 ghost use Rattle.std.specs.Prelude.{OnOk, IfErr, true, false};
 ghost use Rattle.bio.specs.Check.{check_answer};
@@ -17,7 +17,7 @@ use blockdev::BlockDev;
 use std::alloc::Global;
 use std::marker::{Model, PhantomData};
 
-/// What lies under the data lock: the recorded device, and the requests that were handed to it, in
+/// The value under the data lock: the recorded device, and the requests that were passed to it, in
 /// order. Contracts see it as these two.
 #[derive(Drop)]
 pub struct DataState<D: BlockDev + Drop, R: Run> {
@@ -37,7 +37,7 @@ impl<D: BlockDev + Drop, R: Run> Model for DataState<D, R> {
 }
 
 impl<D: BlockDev + Drop, R: Run> DataState<D, R> {
-    /// No request was handed over yet.
+    /// Makes the value of a device to which no request was passed yet.
     pub fn new(alloc: Global, device: D) -> DataState<D, R>
         requires { (D.shown device).size ≡ R.sectors }
         ensures { result ≡ record { device = device; calls = [] } }
@@ -49,22 +49,22 @@ impl<D: BlockDev + Drop, R: Run> DataState<D, R> {
         }
     }
 
-    /// Hands a request over to the device, and notes it: a write with flush as a flush, and then
-    /// the write where the flush succeeded. Where there is no memory for the note, the device isn't
-    /// called, and nothing changes.
+    /// Passes a request to the device, and notes it: a write with flush as a flush, and then the
+    /// write if the flush succeeded. If there is no memory for the note, the device isn't called,
+    /// and nothing changes.
     pub fn apply(&mut self, now: Ms, id: Option<Id>, bio: &Bio) -> Result<(), DevError>
         requires tracked { is_tracked bio.now ≡ true }
         requires checked { check_answer bio.now R.sectors ≡ Ok tt }
 
-        // It makes these calls of the device, each of which ended
-        // well, and notes the request as one that succeeded.
+        // It makes these calls of the device, each of which ended well, and notes the request as
+        // one that succeeded.
         ensures done { OnOk result
             (self.new.calls ≡ self.old.calls ++ done_call id bio.now true ∷ []) }
         ensures does { OnOk result
             (DoesInTurn D.does now (calls_of bio.now) self.old.device (Ok tt) self.new.device) }
 
-        // Each sector that the request covers holds its value then, and each other what it held,
-        // unless the device told a lie.
+        // Each sector that the request covers holds its value then, and each other is as it was,
+        // unless the device lied.
         ensures content { OnOk result ((D.shown self.new.device).lies ≡ 0 → (sector : ℕ) →
             (D.shown self.new.device).content sector
             ≡ put (values_of bio.now) (D.shown self.old.device).content sector) }
@@ -87,8 +87,8 @@ impl<D: BlockDev + Drop, R: Run> DataState<D, R> {
         result
     }
 
-    /// Reads whole sectors of the device from `first` on:
-    /// one call of it, which is no request that is noted.
+    /// Reads whole sectors of the device from `first` on: one call of it, which is not noted as a
+    /// request.
     pub fn read(&mut self, now: Ms, first: u64, buffer: &mut [u8]) -> Result<(), DevError>
         requires { IsByteRange R.sectors first (length buffer.old) }
         ensures calls { self.new.calls ≡ self.old.calls }
@@ -104,9 +104,9 @@ impl<D: BlockDev + Drop, R: Run> DataState<D, R> {
         Ok(())
     }
 
-    /// The requests that were handed over, in order. Where the device
-    /// told no lie, each sector that a request which ended Ok covers
-    /// holds the value of one after which none that ended Ok covers it.
+    /// Returns the requests that were passed, in order. If the device didn't lie, each sector that
+    /// a request which ended Ok covers holds the value of one after which none that ended Ok covers
+    /// it.
     pub fn done(&self) -> &[Done]
         ensures calls { result.now ≡ self.now.calls }
         ensures holds { (D.shown self.now.device).lies ≡ 0
@@ -115,7 +115,7 @@ impl<D: BlockDev + Drop, R: Run> DataState<D, R> {
         self.done.as_slice()
     }
 
-    /// The device, and the requests that were handed to it.
+    /// Returns the device, and the requests that were passed to it.
     pub fn into_parts(self) -> (D, Vec<Done>)
         ensures device { result.0 ≡ self.device }
         ensures calls { result.1.items ≡ self.calls }
@@ -131,8 +131,8 @@ impl<D: BlockDev + Drop, R: Run> DataState<D, R> {
     }
 }
 
-// Hands a request over to a device: a write with flush as a
-// flush, and then the write where the flush succeeded.
+// Passes a request to a device: a write with flush as a flush, and then the write if the flush
+// succeeded.
 fn do_request<D: BlockDev>(device: &mut D, now: Ms, bio: &Bio) -> Result<(), DevError>
     requires tracked { is_tracked bio.now ≡ true }
     requires checked { check_answer bio.now (D.shown device.old).size ≡ Ok tt }
@@ -174,7 +174,7 @@ fn do_request<D: BlockDev>(device: &mut D, now: Ms, bio: &Bio) -> Result<(), Dev
     }
 }
 
-// Flushes a device, and writes whole sectors where that succeeded.
+// Flushes a device, and writes whole sectors if that succeeded.
 fn flush_and_write<D: BlockDev>(
     device: &mut D,
     now: Ms,

@@ -1,10 +1,10 @@
-//! A keeper and its holders, who provably agree on what each holder holds.
+//! A keeper and its holders, which provably agree on what each holder holds.
 //!
-//! The keeper lies inside a value that a lock guards; each thread has a holder of its own. When a
-//! thread takes the lock, nothing is known of what lies under it but its invariant. A call with
-//! both at hand shows that the keeper's list has, at the holder's number, just what the holder
-//! holds: so a fact that the invariant states of the keeper's list is known of what the thread
-//! itself holds. No call waits, and only the first takes memory.
+//! The keeper is inside a value that a lock guards; each thread has a holder of its own. When a
+//! thread takes the lock, nothing is known of the value under it but its invariant. A call with
+//! both shows that the keeper's list has, at the holder's number, exactly what the holder holds. So
+//! a fact that the invariant states for the keeper's list is known for what the thread itself
+//! holds. No call waits, and only the first takes memory.
 ghost use Rattle.std.specs.Prelude.{◌≡◌, ℕ, List, [], ◌∷◌, ◌++◌, length, Option, None, Some};
 ghost use Rattle.std.specs.Prelude.{slice_get, slice_set};
 ghost use Rattle.atomic_table.specs.Seated.{TableId};
@@ -53,7 +53,8 @@ impl Model for Fresh {
         × (f.board.shared.table_id.words ≡ 1) × (f.pass.me ≡ (keeper_of [], [])) };
 }
 
-/// Knows of each holder, by its number, what it holds. Contracts see it as the list of that.
+/// The keeper: it knows for each holder, by its number, what it holds. Contracts see it as the list
+/// of that.
 #[derive(Drop)]
 pub struct Keeper<W: Whose> {
     board: Board,
@@ -74,8 +75,8 @@ impl<W: Whose> Model for Keeper<W> {
         × (k.pass.me ≡ (keeper_of k.pass.me.0.all, [])) };
 }
 
-/// Holds a number, or nothing. It has no bytes. Contracts see it as its own number among the
-/// holders and what it holds.
+/// A holder: it holds a number, or nothing. It has no bytes. Contracts see it as its own number
+/// among the holders and what it holds.
 #[derive(Drop)]
 pub struct Holder<W: Whose> {
     pass: Seat<(), Knows>,
@@ -95,13 +96,13 @@ impl<W: Whose> Model for Holder<W> {
 }
 
 impl Fresh {
-    /// A keeper with no holder. `Err` where there is no memory.
+    /// Makes a keeper with no holder. Returns `Err` if there is no memory.
     pub fn new(alloc: Global) -> Result<Fresh, AllocError> {
         let (board, pass) = Board::of_words(alloc, &[0], &())?;
         Ok(Fresh { board, pass })
     }
 
-    /// It gets its name.
+    /// Gives the keeper its name.
     pub fn named<W: Whose>(self) -> Keeper<W>
         requires { self ≡ W.table }
         ensures { result ≡ [] }
@@ -116,7 +117,7 @@ impl Fresh {
 }
 
 impl<W: Whose> Keeper<W> {
-    /// One holder more, which holds nothing. It gets the next number.
+    /// Adds a holder, which holds nothing. It gets the next number.
     pub fn enrol(&mut self) -> Holder<W>
         ensures holder { result ≡ record { number = length self.old; held = None } }
         ensures keeper { self.new ≡ self.old ++ None ∷ [] }
@@ -133,7 +134,7 @@ impl<W: Whose> Keeper<W> {
         }
     }
 
-    /// The keeper knows what the holder holds.
+    /// Shows that the keeper knows what the holder holds.
     pub fn agree(&mut self, mine: &mut Holder<W>)
         ensures same { (self.new ≡ self.old) × (mine.new ≡ mine.old) }
         ensures knows { slice_get self.old mine.old.number ≡ Some mine.old.held }
@@ -149,8 +150,8 @@ impl<W: Whose> Keeper<W> {
         mine.pass = board.shared.split_seat::<Part>(pass);
     }
 
-    /// The holder holds this number from now on, in place
-    /// of what it held. Both learn of it in one step.
+    /// Makes the holder hold this number, in place of what it held. The keeper and the holder
+    /// change in one step.
     pub fn begin(&mut self, mine: &mut Holder<W>, number: u64)
         ensures knew { slice_get self.old mine.old.number ≡ Some mine.old.held }
         ensures keeper { self.new ≡ slice_set self.old mine.old.number (Some number) }
@@ -167,7 +168,7 @@ impl<W: Whose> Keeper<W> {
         mine.pass = board.shared.split_seat::<Part>(pass);
     }
 
-    /// The holder lets go of what it held. Both learn of it in one step.
+    /// Makes the holder hold nothing. The keeper and the holder change in one step.
     pub fn finish(&mut self, mine: &mut Holder<W>)
         ensures knew { slice_get self.old mine.old.number ≡ Some mine.old.held }
         ensures keeper { self.new ≡ slice_set self.old mine.old.number None }

@@ -1,9 +1,9 @@
-//! What a recorder that threads share keeps under its three locks, and the steps that are taken
-//! under each. No function of this crate waits or starts a thread.
+//! The values under the three locks of a recorder that threads share, and the steps that are taken
+//! under each lock. No function of this crate waits or starts a thread.
 //!
-//! When a lock is taken, nothing is known of the value under it but its type's invariant. So the
-//! whole truth about threads stands here: what holds under each lock, and what each step changes,
-//! of the value under the lock and of the caller's own seat.
+//! When a lock is taken, nothing is known of the value under it but its type's invariant. So
+//! everything about threads is stated here: what holds under each lock, and how each step changes
+//! the value under the lock and the caller's own seat.
 #![tactic(auto)]
 
 pub use closing::drain;

@@ -1,4 +1,4 @@
-// What seats note, and why a step wasn't taken.
+// The notes of seats, and why a step wasn't taken.
 use crate::run::{Ends, Run};
 use crate::stop::Shown;
 use bio::{Bio, CoreEvent, End, Id};
@@ -18,8 +18,8 @@ pub struct Item {
     pub entry: Entry,
 }
 
-/// A request that was handed to the recorded device: its
-/// id, where it is recorded, and whether it succeeded.
+/// A request that was passed to the recorded device: its id, if it is recorded, and whether it
+/// succeeded.
 #[derive(Debug, Drop)]
 pub struct Done {
     pub id: Option<Id>,
@@ -27,15 +27,15 @@ pub struct Done {
     pub ok: bool,
 }
 
-/// A call that was passed to the device unrecorded: where recording had ended, and the cause of the
-/// Stop by which it had; none if a Close ended it.
+/// A call that was passed to the device unrecorded: the place at which recording had ended, and the
+/// cause of the Stop that ended it; none if a Close ended it.
 #[derive(Clone, Copy, Debug, PartialEq, Eq)]
 pub struct PassedCall {
     pub place: Id,
     pub stop: Option<End>,
 }
 
-/// The causes that a seat was told as those by which logging ended.
+/// The causes that were reported to a seat as those that ended logging.
 #[derive(Clone, Copy, Debug, PartialEq, Eq)]
 pub struct Told {
     pub full: bool,
@@ -46,7 +46,7 @@ pub struct Told {
 /// Why a request wasn't recorded.
 #[derive(Clone, Copy, Debug, PartialEq, Eq)]
 pub enum Unrecorded {
-    /// There was no memory beside the core: nothing is changed.
+    /// There was no memory outside the core: nothing is changed.
     NoRoom,
     /// There was no memory in the core: logging has ended.
     Stopped,

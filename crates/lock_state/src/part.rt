@@ -1,4 +1,4 @@
-// What a seat keeps of its own calls.
+// The part of a seat: the notes of its own calls.
 ghost use Rattle.std.specs.Prelude.{◌≡◌, ◌==◌, None, is_none, length, true, false};
 ghost use Rattle.lock_state.specs.History.{new_part, told_also, with_calls};
 ghost use Rattle.lock_state.specs.PlacedItems.{awaited_in, settles_hand};
@@ -12,9 +12,9 @@ use std::marker::{Model, PhantomData};
 use std::mem::swap;
 use std::sync::ledger::Share;
 
-/// A seat's part: its number, its recorded events with their places,
-/// where its passed calls found that recording had ended,
-/// the causes that it was told, and its request that is under way.
+/// A seat's part: its number, its recorded events with their places, and its request that is under
+/// way. It also has the places at which its passed calls found that recording had ended, and the
+/// causes that were reported to it.
 #[derive(Drop)]
 pub struct SeatPart<R: Run> {
     pub(crate) number: u64,
@@ -46,7 +46,7 @@ impl<R: Run> Model for SeatPart<R> {
 }
 
 impl<R: Run> SeatPart<R> {
-    /// A seat of this number, with no call yet.
+    /// Makes a seat with this number, with no call yet.
     pub fn new(alloc: Global, number: u64, share: Share<R>, holder: Holder<R>) -> SeatPart<R>
         requires share { (share.parts ≡ 1) × (share.amount ≡ 0) }
         requires holder { (holder.number ≡ number) × (holder.held ≡ None) }
@@ -67,15 +67,15 @@ impl<R: Run> SeatPart<R> {
         }
     }
 
-    /// The request of the seat that is under way, if there is one.
+    /// Returns the request of the seat that is under way, if there is one.
     pub fn under_way(&self) -> Option<Id>
         ensures { result ≡ self.now.under_way }
     {
         self.under_way
     }
 
-    // Two seats' events and passed calls change places,
-    // where they have as many events; else nothing changes.
+    // Exchanges two seats' events and passed calls if they have as many events; else nothing
+    // changes.
     fn exchange_calls<C: Run>(&mut self, other: &mut SeatPart<C>) -> bool
         requires idle { (self.old.under_way ≡ None) × (other.old.under_way ≡ None) }
         ensures why { result ≡ (length self.old.own == length other.old.own) }
@@ -92,7 +92,7 @@ impl<R: Run> SeatPart<R> {
         true
     }
 
-    // A share of the seat's ledger that has no part and counts nothing.
+    // Returns a share of the seat's ledger that has no part and counts nothing.
     pub(crate) fn no_share(&mut self) -> Share<R>
         ensures share { (result.parts ≡ 0) × (result.amount ≡ 0) }
         ensures same { self.new ≡ self.old }
@@ -100,7 +100,7 @@ impl<R: Run> SeatPart<R> {
         self.share.empty()
     }
 
-    /// Notes a cause that the seat is told. Takes no memory.
+    /// Notes a cause that is reported to the seat. Takes no memory.
     pub fn tell(&mut self, cause: End)
         ensures { self.new ≡ told_also self.old cause }
     {
@@ -112,8 +112,8 @@ impl<R: Run> SeatPart<R> {
     }
 }
 
-/// What a caller has of its seat: between two calls no request of it is under way. Contracts see it
-/// as its part. Whoever is lent the part owes that again at the end.
+/// A caller's seat: between two calls no request of it is under way. Contracts see it as its part.
+/// Code that borrows the part ensures this again at the end.
 #[derive(Drop)]
 pub struct Seat<R: Run> {
     pub part: SeatPart<R>,
@@ -131,9 +131,9 @@ impl<R: Run> Model for Seat<R> {
 }
 
 impl<R: Run> Seat<R> {
-    /// Two seats' events and passed calls change places, where they have
-    /// as many events; else nothing changes. So a seat's list may be that
-    /// of another recorder, which a recorder that closes is to find.
+    /// Exchanges two seats' events and passed calls if they have as many events; else nothing
+    /// changes. So a seat's list may be that of another recorder, which a recorder that closes is
+    /// to find.
     pub fn exchange_calls<C: Run>(&mut self, other: &mut Seat<C>) -> bool
         ensures why { result ≡ (length self.old.own == length other.old.own) }
         ensures changed { result ≡ true
@@ -145,8 +145,8 @@ impl<R: Run> Seat<R> {
     }
 }
 
-/// The writer's part: the item that it took and hasn't
-/// placed yet, if there is one. Contracts see it as that.
+/// The writer's part: the item that it took and hasn't placed yet, if there is one. Contracts see
+/// it as that item.
 #[derive(Drop)]
 pub struct WriterPart<R: Run> {
     pub(crate) hand: Option<Item>,
@@ -166,7 +166,7 @@ impl<R: Run> Model for WriterPart<R> {
 }
 
 impl<R: Run> WriterPart<R> {
-    /// Nothing in hand.
+    /// Makes a part with nothing in hand.
     pub fn new() -> WriterPart<R>
         ensures { result ≡ None }
     {
@@ -176,14 +176,14 @@ impl<R: Run> WriterPart<R> {
         }
     }
 
-    /// Whether nothing is in hand.
+    /// Returns whether nothing is in hand.
     pub fn is_empty(&self) -> bool
         ensures { result ≡ is_none self.now }
     {
         self.hand.is_none()
     }
 
-    /// Whether what is in hand is to be settled at once: a write with FUA, or a mark.
+    /// Returns whether the item in hand is to be settled at once: a write with FUA, or a mark.
     pub fn settles(&self) -> bool
         ensures { result ≡ settles_hand self.now }
     {
@@ -193,7 +193,8 @@ impl<R: Run> WriterPart<R> {
         }
     }
 
-    /// The id of what is in hand, if that is to be settled at once: its seat waits for that.
+    /// Returns the id of the item in hand, if that is to be settled at once: its seat waits for
+    /// that.
     pub fn awaited(&self) -> Option<Id>
         ensures { result ≡ awaited_in self.now }
     {

@@ -1,13 +1,13 @@
-// What names one shared recorder.
+// The name of one shared recorder.
 use crate::holders::Whose;
 use std::marker::{Brand, PhantomData};
 use std::sync::ledger::Ledger;
 
-/// Names one shared recorder: the ledger of its seats, and three tables. On one its queue and seats
-/// agree, on one its queue and log about the first stop, and on one about the log's end. It also
-/// has the count of 512-byte sectors of the recorded device and that of bytes in a log sector, and
-/// what the log's device was before the log was begun. So the type refuses a seat of another
-/// recorder.
+/// The name of one shared recorder, with the ledger of its seats, and three tables. On one its
+/// queue and seats agree, on one its queue and log about the first stop, and on one about the log's
+/// end. It also has the number of 512-byte sectors of the recorded device, the number of bytes in a
+/// log sector, and the properties of the log's device before the log was begun. So the type refuses
+/// a seat of another recorder.
 pub trait Run: Ledger + Whose {
     ghost use Rattle.std.specs.Prelude.{ℕ};
     ghost use Rattle.lock_state.specs.PlacedItems.{Ground};
@@ -25,7 +25,7 @@ pub trait Run: Ledger + Whose {
     ghost ends: { TableId };
 }
 
-/// Names the table on which the queue and the log of a recorder agree about the first stop.
+/// The name of the table on which the queue and the log of a recorder agree about the first stop.
 pub struct Stops<R: Run> {
     run: PhantomData<R>,
 }
@@ -34,7 +34,7 @@ impl<R: Run> Whose for Stops<R> {
     ghost table = { R.stops };
 }
 
-/// Names the table on which the queue and the log of a recorder agree about the log's end.
+/// The name of the table on which the queue and the log of a recorder agree about the log's end.
 pub struct Ends<R: Run> {
     run: PhantomData<R>,
 }

@@ -1,5 +1,5 @@
-// Whether each request that ended Ok was done just once. One walk over the calls and one over the
-// events, with a note for each event.
+// The test whether each request that ended Ok was done exactly once. It walks over the calls once
+// and over the events once, with a note for each event.
 ghost use Rattle.std.specs.Prelude.{◌≡◌, ◌≤◌, ℕ, [], MatchBool, Some, length, slice_get};
 ghost use Rattle.lock_state.specs.declared.served.Seen.{Seen as Noted};
 ghost use Rattle.lock_state.specs.Comparison.{AllTell, Each, Fails, IsDoneOnce, IsNoted, IsServed};
@@ -20,8 +20,8 @@ pub enum Seen {
     Again,
 }
 
-/// Whether each request that ended Ok was done just once, as that request. There is to be a note
-/// for each event; what the notes were doesn't matter.
+/// Returns whether each request that ended Ok was done exactly once, as that request. The caller
+/// passes a note for each event; their values don't matter.
 pub fn is_served(events: &[CoreEvent], calls: &[Done], notes: &mut [Seen]) -> bool
     requires { length events.now ≤ length notes.old }
     ensures { MatchBool result (Each (IsServed events.now calls.now) events.now)
@@ -36,7 +36,7 @@ pub fn is_served(events: &[CoreEvent], calls: &[Done], notes: &mut [Seen]) -> bo
     true
 }
 
-// Notes of each request how often it was done.
+// Notes for each request how often it was done.
 fn note_all(calls: &[Done], notes: &mut [Seen])
     ensures told { AllTell calls.now notes.new }
     ensures size { length notes.new ≡ length notes.old }
@@ -47,7 +47,7 @@ fn note_all(calls: &[Done], notes: &mut [Seen])
     }
 }
 
-// Nothing is noted yet.
+// Clears the notes.
 fn clear(notes: &mut [Seen])
     ensures told { AllTell [] notes.new }
     ensures size { length notes.new ≡ length notes.old }
@@ -57,7 +57,7 @@ fn clear(notes: &mut [Seen])
     }
 }
 
-// Notes a call, that stands at this place.
+// Notes the call at this place.
 fn note(notes: &mut [Seen], place: usize, call: &Done)
     ensures noted { (id : ℕ) (seen : Noted) → slice_get notes.new id ≡ Some seen
         → IsNoted notes.old place call.now id seen }
@@ -76,7 +76,7 @@ fn note(notes: &mut [Seen], place: usize, call: &Done)
     notes[id] = more(notes[id], place);
 }
 
-// A call more that ended Ok.
+// Returns the note after one more call that ended Ok.
 fn more(seen: Seen, place: usize) -> Seen
     ensures { result ≡ seen_more seen place }
 {
@@ -86,7 +86,7 @@ fn more(seen: Seen, place: usize) -> Seen
     }
 }
 
-// Whether the event's request was done just once, where the event is an end with success.
+// Returns whether the event's request was done exactly once, if the event is an end with success.
 fn is_event_served(events: &[CoreEvent], calls: &[Done], notes: &[Seen], event: &CoreEvent) -> bool
     requires told { AllTell calls.now notes.now }
     requires size { length events.now ≤ length notes.now }
@@ -99,7 +99,7 @@ fn is_event_served(events: &[CoreEvent], calls: &[Done], notes: &[Seen], event: 
     }
 }
 
-// Whether the request of this id was done just once.
+// Returns whether the request with this id was done exactly once.
 fn is_done_once(events: &[CoreEvent], calls: &[Done], notes: &[Seen], id: u64) -> bool
     requires told { AllTell calls.now notes.now }
     requires size { length events.now ≤ length notes.now }
@@ -113,7 +113,7 @@ fn is_done_once(events: &[CoreEvent], calls: &[Done], notes: &[Seen], id: u64) -
     is_done_as(&events[at], calls, notes[at], id)
 }
 
-// Whether a request was done just once, of which this was seen, as this event submits it.
+// Returns whether a request with the note `seen` was done exactly once, as this event submits it.
 fn is_done_as(event: &CoreEvent, calls: &[Done], seen: Seen, id: u64) -> bool
     requires { Tells calls.now id seen }
     ensures { MatchBool result (IsDoneOnce calls.now id (Some event.now))

@@ -10,7 +10,7 @@ use crate::run::{Ends, Run, Stops};
 use bio::End;
 use std::marker::Model;
 
-/// Shows a cause to the one who has it: that of the first stop, or of the log's end. Contracts see
+/// A cause that was shown to its owner: that of the first stop, or of the log's end. Contracts see
 /// it as the cause. Only `QueueState::show_stop` and `LogState::place` make one.
 #[derive(Drop)]
 pub struct Shown<W: Whose> {
@@ -31,7 +31,7 @@ impl<W: Whose> Model for Shown<W> {
 }
 
 impl<W: Whose> Shown<W> {
-    /// The cause.
+    /// Returns the cause.
     pub fn cause(&self) -> End
         ensures { result ≡ self.now }
     {
@@ -59,7 +59,8 @@ impl<W: Whose> Shown<W> {
         Shown { cause, holder }
     }
 
-    // Where the keeper shows one cause alone, it is this one. Nothing changes.
+    // Confirms that the cause is the one that the keeper shows, if it shows only one. Nothing
+    // changes.
     pub(crate) fn confirm(&mut self, keeper: &mut Keeper<W>)
         ensures same { (self.new ≡ self.old) × (keeper.new ≡ keeper.old) }
         ensures shown { (shown : Option Cause) → IsShown shown keeper.old
@@ -70,7 +71,7 @@ impl<W: Whose> Shown<W> {
 }
 
 /// The cause of the first stop, if there was one. Contracts see it as that. A keeper knows whether
-/// the writer was shown it. Unless the cause is Memory, it is that of the log's end, as the log
+/// it was shown to the writer. Unless the cause is Memory, it is that of the log's end, as the log
 /// showed it.
 #[derive(Drop)]
 pub struct FirstStop<R: Run> {
@@ -91,7 +92,7 @@ impl<R: Run> Model for FirstStop<R> {
     ghost invariant = { λ s. IsShown s.cause s.keeper × HasStopCause s.cause s.ended };
 }
 
-/// Lets the writer be shown the first stop, once. Contracts see it as whether it wasn't yet.
+/// The writer's right to be shown the first stop, once. Contracts see it as whether it is unused.
 #[derive(Drop)]
 pub struct StopPart<R: Run> {
     holder: Option<Holder<Stops<R>>>,
@@ -106,7 +107,7 @@ impl<R: Run> Model for StopPart<R> {
 }
 
 impl<R: Run> FirstStop<R> {
-    /// No stop yet, and the writer's part.
+    /// Makes the value of no stop yet, and the writer's part.
     pub fn new(fresh: Fresh) -> (FirstStop<R>, StopPart<R>)
         requires { fresh ≡ R.stops }
         ensures stop { result.0 ≡ None }
@@ -126,15 +127,15 @@ impl<R: Run> FirstStop<R> {
         )
     }
 
-    /// The cause of the first stop.
+    /// Returns the cause of the first stop.
     pub fn cause(&self) -> Option<End>
         ensures { result ≡ self.now }
     {
         self.cause
     }
 
-    // Logging stops by this cause: Memory, or what was shown of the log's end. The first cause
-    // stays.
+    // Stops logging by this cause: Memory, or the one that was shown for the log's end. The first
+    // cause stays.
     pub(crate) fn keep(&mut self, cause: End, ended: Option<Shown<Ends<R>>>)
         requires { (cause ≡ Memory) ⊎ (ended ≡ Some cause) }
         ensures { self.new ≡ first_cause self.old (Some cause) }
@@ -145,7 +146,8 @@ impl<R: Run> FirstStop<R> {
         }
     }
 
-    /// Shows the first stop to the writer. None if there is none, or if it was shown before.
+    /// Shows the first stop to the writer. Returns None if there is none, or if it was shown
+    /// before.
     pub fn show(&mut self, mine: &mut StopPart<R>) -> Option<Shown<Stops<R>>>
         ensures same { self.new ≡ self.old }
         ensures shown { IfSome result (λ cause. self.old ≡ Some cause) }
@@ -160,7 +162,7 @@ impl<R: Run> FirstStop<R> {
         Some(Shown::to(holder, &mut self.keeper, cause))
     }
 
-    /// What was shown to the writer is the first stop. Nothing changes.
+    /// Confirms that what was shown to the writer is the first stop. Nothing changes.
     pub fn confirm(&mut self, stopped: &mut Shown<Stops<R>>)
         ensures same { (self.new ≡ self.old) × (stopped.new ≡ stopped.old) }
         ensures shown { self.old ≡ Some stopped.old }
@@ -168,7 +170,7 @@ impl<R: Run> FirstStop<R> {
         stopped.confirm(&mut self.keeper);
     }
 
-    // The first stop was for want of memory, or by the log's end. Nothing changes.
+    // Confirms that the first stop was for lack of memory, or by the log's end. Nothing changes.
     pub(crate) fn confirm_cause(&mut self, ends: &mut Keeper<Ends<R>>)
         ensures same { (self.new ≡ self.old) × (ends.new ≡ ends.old) }
         ensures cause { (end : Option Cause) → IsShown end ends.old → HasStopCause self.old end }
@@ -179,7 +181,7 @@ impl<R: Run> FirstStop<R> {
     }
 }
 
-// A number for each cause.
+// Returns a number for each cause.
 fn number_of(cause: End) -> u64
     ensures { result ≡ end_number cause }
 {

@@ -1,5 +1,5 @@
--- The steps of the reader over a body. `Grammar` and
--- `FirstFault` say in the grammar's words what they come to.
+-- The steps of the reader over a body. `Grammar` and `FirstFault` define the results in terms of
+-- the grammar.
 use Rattle.std.specs.Prelude.{◌≡◌, ℕ, Bool, false, List, [], ◌∷◌, ◌++◌, Option, Some, None, Result}
 use Rattle.std.specs.Prelude.{Ok, Err, length, nat_lt, slice_index_or, if◌then◌else◌}
 use Rattle.refusals.specs.declared.refusal.Refusal.{Refusal}
@@ -33,7 +33,7 @@ pub record IsFlags (n : ℕ) (flags : List Bool) (body : List Command) : Type 0 
   pub in_step : length flags ≡ n
   pub each : (request : ℕ) → slice_index_or flags request false ≡ is_ended request body
 
--- a draft's flags are those of its requests, and its moment is the one after its commands
+-- a draft's flags are those of its requests, and its time is the one after its commands
 pub record IsDraft (d : BodyReader) : Type 0 where
   pub flags : IsFlags (length d.names.keys) d.has_ended.items d.commands.items
   pub in_time : d.moment ≡ moment_after d.commands.items
@@ -48,22 +48,22 @@ abbrev pub ◌>>=◌ : {A B : Type 0} → Result A Refusal → (A → Result B R
 abbrev pub with_command : Body → Command → Body
 with_command b command = record b { body = b.body ++ command ∷ [] }
 
--- the next request's id, which must be new
+-- the body with the next request's id, which must be new
 abbrev pub named_next : Option ℕ → Body → ScriptId → Result Body Refusal
 named_next (Some request) b name = Err BadId
 named_next None b name = Ok (record b { names = b.names ++ name ∷ [] })
 
--- the next request's id, after a body
+-- the body with the next request's id
 abbrev pub with_name : Body → ScriptId → Result Body Refusal
 with_name b name = named_next (request_of name b.names) b name
 
--- what a test of sectors answers, as a refusal
+-- the result of a test of sectors, as a refusal
 abbrev pub as_refusal : Result (Unit {0}) BadBio → Result (Unit {0}) Refusal
 as_refusal (Ok fine) = Ok tt
 as_refusal (Err bad) = Err (bad_bio_refusal bad)
 
--- the test of a line that names no request, at this moment:
--- no `at` goes back, and sectors pass their test
+-- the test of a line that names no request, at this time: no `at` goes back, and sectors pass their
+-- test
 abbrev pub step_test : (bytes sectors moment : ℕ) → Step → Result (Unit {0}) Refusal
 step_test bytes sectors moment steps.Close = Ok tt
 step_test bytes sectors moment (steps.Read first count) =
@@ -79,8 +79,8 @@ ended_next None b = Err BadId
 ended_next (Some request) b =
     if is_ended request b.body then Err BadId else Ok (with_command b (commands.Complete request))
 
--- the body after one more line, for a log of sectors of so
--- many bytes and a data disk of so many sectors
+-- the body after one more line, for a log with sectors of `bytes` bytes and a data disk of
+-- `sectors` sectors
 abbrev pub body_step : (bytes sectors : ℕ) → Body → BodyLine → Result Body Refusal
 body_step bytes sectors b (body_lines.Submit name submission) = do
   submitted ← with_name b name
@@ -91,7 +91,7 @@ body_step bytes sectors b (body_lines.Step step) = do
   fine ← step_test bytes sectors (moment_after b.body) step
   Ok (with_command b (commands.Step step))
 
--- what a call answers that leaves this value, where a step says what it should come to
+-- the result of a call that leaves this value is that of this step
 abbrev pub Follows : {A : Type 0} → Result (Unit {0}) LineError → A → Result A Refusal → Type 0
 Follows (Ok done) after step = step ≡ Ok after
 Follows (Err (line_errors.Refused refusal)) after step = step ≡ Err refusal

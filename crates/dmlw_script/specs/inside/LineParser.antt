@@ -1,5 +1,5 @@
--- What a line says, as the reader finds it. `Grammar` says
--- it in the grammar's words; the two agree by proof.
+-- The meaning of a line, as the reader finds it. `Grammar` defines it in terms of the grammar; the
+-- two agree by proof.
 use Rattle.std.specs.Prelude.{◌≡◌, ◌⊎◌, ℕ, ◌==◌, Bool, true, false, List, [], ◌∷◌, Option, Some}
 use Rattle.std.specs.Prelude.{None, Result, Ok, Err, codes, if◌then◌else◌}
 use Rattle.std.proofs.Common.{inl, inr}
@@ -45,14 +45,14 @@ submit name submission = parsed_lines.Body (body_lines.Submit name submission)
 abbrev pub step : Step → LineMeaning
 step it = parsed_lines.Body (body_lines.Step it)
 
--- whether this word stands first among others, and what is left behind it
+-- whether this word is the first of these, and the words left after it
 abbrev pub take_word : List ℕ → Option (List ℕ) → Bool × Option (List ℕ)
 take_word word None = (false, None)
 take_word word (Some words) =
     if bytes_eq (before_byte 32 words) word then (true, after_byte 32 words) else
     (false, Some words)
 
--- the options that were found, where no word is left
+-- the options that were found, if no word is left
 abbrev pub found_options : Bool → Bool → Bool → Option (List ℕ) → Option WriteOptions
 found_options flush fua meta None = Some (record { flush = flush; fua = fua; meta = meta })
 found_options flush fua meta (Some words) = None
@@ -65,7 +65,7 @@ options_of words =
     let meta = take_word (codes "meta") fua.1 in
     found_options flush.0 fua.0 meta.0 meta.1
 
--- the write that these words say: the first sector, the number of sectors, the byte and the options
+-- the write with these words: the first sector, the number of sectors, the byte and the options
 abbrev pub write_words : List ℕ → Option Submission
 write_words words = do
   from_count ← after_byte 32 words
@@ -76,7 +76,7 @@ write_words words = do
   options ← options_of (after_byte 32 from_byte)
   Some (submits.Write first count byte options)
 
--- the sectors that these words say: the first one, and how many
+-- the sectors with these words: the first one, and their number
 abbrev pub sectors_of : List ℕ → Option (ℕ × ℕ)
 sectors_of words = do
   first ← number_of (before_byte 32 words)
@@ -84,13 +84,13 @@ sectors_of words = do
   count ← number_of count_word
   Some (first, count)
 
--- the discard that these words say: the first sector and the number of sectors
+-- the discard with these words: the first sector and the number of sectors
 abbrev pub discard_words : List ℕ → Option Submission
 discard_words words = do
   sectors ← sectors_of words
   Some (submits.Discard sectors.0 sectors.1)
 
--- the write that these words say: an id, and the other words
+-- the write with these words: an id, and the other words
 abbrev pub write_of : List ℕ → Option LineMeaning
 write_of words = do
   from_first ← after_byte 32 words
@@ -98,7 +98,7 @@ write_of words = do
   submission ← write_words from_first
   Some (submit name submission)
 
--- the discard that these words say: an id, and the other words
+-- the discard with these words: an id, and the other words
 abbrev pub discard_of : List ℕ → Option LineMeaning
 discard_of words = do
   from_first ← after_byte 32 words
@@ -106,20 +106,20 @@ discard_of words = do
   submission ← discard_words from_first
   Some (submit name submission)
 
--- the read that these words say: the first sector and the number of sectors
+-- the read with these words: the first sector and the number of sectors
 abbrev pub read_of : List ℕ → Option LineMeaning
 read_of words = do
   sectors ← sectors_of words
   Some (step (steps.Read sectors.0 sectors.1))
 
--- what a line of this one word says
+-- the meaning of a line of this one word
 abbrev pub lone_word : List ℕ → Option LineMeaning
 lone_word verb =
     if bytes_eq verb (codes "close") then Some (step steps.Close)
     else if bytes_eq verb (codes "turn") then Some (step steps.Turn)
     else None
 
--- what a line of the body says, of this first word, whose other words are these
+-- the meaning of a line of the body with this first word and these other words
 abbrev pub body_words : List ℕ → List ℕ → Option LineMeaning
 body_words verb words =
     if bytes_eq verb (codes "w") then write_of words
@@ -140,27 +140,27 @@ abbrev pub asked_from : {words : List (List ℕ)}
 asked_from (inl asks) = Ok asks.0
 asked_from (inr fails) = Err fails.0
 
--- what a table line asks for
+-- the layer that a table line asks for
 abbrev pub asked_of : List ℕ → Result LayerSpec TableError
 asked_of text = asked_from (asks_or_fails (words_of text))
 
--- the line of a layer over this disk, whose table line is this
+-- the line of a layer over this disk, with this table line
 abbrev pub layer_of : DiskName → List ℕ → HeadLine
 layer_of over text = head_lines.Layer over (asked_of text)
 
--- the size of a log's sectors that a word says, or 512 bytes where there is none
+-- the size of a log's sectors that a word gives, or 512 bytes if there is none
 abbrev pub size_of : Option (List ℕ) → Option SectorSize
 size_of None = Some sizes.B512
 size_of (Some word) = if bytes_eq word (codes "4096") then Some sizes.B4096 else None
 
--- the line of the log disk that these words say: its sectors and the size of the log's sectors
+-- the line of the log disk with these words: its sectors and the size of the log's sectors
 abbrev pub log_of : List ℕ → Option HeadLine
 log_of words = do
   sectors ← number_of (before_byte 32 words)
   size ← size_of (after_byte 32 words)
   Some (head_lines.Log sectors size)
 
--- what a line of the head says, of this first word, whose other words are these
+-- the meaning of a line of the head with this first word and these other words
 abbrev pub head_words : List ℕ → List ℕ → Option HeadLine
 head_words verb words =
     if bytes_eq verb (codes "data") then option_map head_lines.Data (number_of words)
@@ -169,12 +169,12 @@ head_words verb words =
     else if bytes_eq verb (codes "log-layer") then Some (layer_of disks.Log words)
     else None
 
--- what a line of this first word says, whose other words are these
+-- the meaning of a line with this first word and these other words
 abbrev pub parse_words : List ℕ → List ℕ → Option LineMeaning
 parse_words verb words =
     option_or (option_map parsed_lines.Head (head_words verb words)) (body_words verb words)
 
--- the words of a text, which stand behind one space each but for the first
+-- the words of a text, with one space between them
 abbrev pub split_words : List ℕ → List (List ℕ)
 split_words bytes = slice_split (λ byte. byte == 32) bytes
 
@@ -189,12 +189,12 @@ abbrev pub numbers_of : List (List ℕ) → Option (List ℕ)
 numbers_of [] = Some []
 numbers_of (word ∷ words) = with_number (number_of word) (numbers_of words)
 
--- the picks that these words say, if there are any
+-- the picks in these words, if there are any
 abbrev pub picks_of : Option (List ℕ) → Option (List ℕ)
 picks_of None = Some []
 picks_of (Some words) = numbers_of (split_words words)
 
--- the mark of this text, where a space stands behind the first word
+-- the mark with this text, if there is a space after the first word
 abbrev pub mark_of : Option (List ℕ) → Option LineMeaning
 mark_of None = None
 mark_of (Some text) = if is_line_text text then Some (step (steps.Mark text)) else None
@@ -206,15 +206,15 @@ disk_of_word word =
     else if bytes_eq word (codes "log") then Some disks.Log
     else None
 
--- the message to a layer of this disk that these words say:
--- the layer's number, and behind one space the text
+-- the message to a layer of this disk with these words: the layer's number, and the text after one
+-- space
 abbrev pub message_to : DiskName → List ℕ → Option LineMeaning
 message_to over words = do
   layer ← number_of (before_byte 32 words)
   text ← after_byte 32 words
   if is_line_text text then Some (step (steps.Message over layer text)) else None
 
--- the message that these words say, if there are any: its disk, and the others
+-- the message with these words, if there are any: its disk, and the others
 abbrev pub message_of : Option (List ℕ) → Option LineMeaning
 message_of None = None
 message_of (Some words) = do
@@ -222,13 +222,13 @@ message_of (Some words) = do
   from_layer ← after_byte 32 words
   message_to over from_layer
 
--- what a line of this first word says that is no crash, no mark and no message, whose other words
--- are these, if it has any
+-- the meaning of a line with this first word and these other words, if it has any; the line is no
+-- crash, no mark and no message
 abbrev pub plain_parts : List ℕ → Option (List ℕ) → Option LineMeaning
 plain_parts verb (Some words) = parse_words verb words
 plain_parts verb None = lone_word verb
 
--- what a line of this first word says, whose other words are these, if it has any
+-- the meaning of a line with this first word and these other words, if it has any
 abbrev pub parse_parts : List ℕ → Option (List ℕ) → Option LineMeaning
 parse_parts verb words =
     if bytes_eq verb (codes "crash") then option_map (λ picks. parsed_lines.Crash picks)
@@ -237,6 +237,6 @@ parse_parts verb words =
     else if bytes_eq verb (codes "message") then message_of words
     else plain_parts verb words
 
--- what a line says, if it is of the grammar
+-- the meaning of a line, if it is of the grammar
 abbrev pub parse_line : List ℕ → Option LineMeaning
 parse_line line = parse_parts (before_byte 32 line) (after_byte 32 line)

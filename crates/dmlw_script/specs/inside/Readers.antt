@@ -1,5 +1,5 @@
--- The steps of the reader over lines. `Grammar` and
--- `FirstFault` say in the grammar's words what they come to.
+-- The steps of the reader over lines. `Grammar` and `FirstFault` define the results in terms of the
+-- grammar.
 use Rattle.std.specs.Prelude.{◌≡◌, ℕ, ◌+◌, Bool, true, false, not, List, [], ◌∷◌, Option, Some}
 use Rattle.std.specs.Prelude.{None, Result, Ok, Err, if◌then◌else◌}
 use Rattle.bio.specs.Sizes.{bytes_of}
@@ -65,12 +65,12 @@ parsed_step p (parsed_lines.Head line) = with_head p (head_step p.head (has_begu
 parsed_step p (parsed_lines.Body line) = body_line p.head p line
 parsed_step p (parsed_lines.Crash picks) = crash_line p.head p picks
 
--- one more line that isn't skipped, which must say something
+-- one more line that isn't skipped, which must have a meaning
 abbrev pub step_if : {S W : Type 0} → (S → W → Result S Refusal) → S → Option W → Result S Refusal
 step_if step s None = Err BadLine
 step_if step s (Some said) = step s said
 
--- one more line, of which this is heard and then this step taken
+-- one more line: it is parsed by `parse`, and then this step is taken
 abbrev pub line_by : {S W : Type 0} → (List ℕ → Option W) → (S → W → Result S Refusal) → S → List ℕ
     → Result S Refusal
 line_by parse step s line =
@@ -82,11 +82,11 @@ line_by parse step s line =
 abbrev pub step_if_parsed : Progress → Option LineMeaning → Result Progress Refusal
 step_if_parsed p said = step_if parsed_step p said
 
--- one more line of it
+-- one more line of a recorder's script
 abbrev pub line_step : Progress → List ℕ → Result Progress Refusal
 line_step p line = line_by parse_line parsed_step p line
 
--- the text ends here: a whole head stands before it
+-- the text ends here: a whole head is before it
 abbrev pub finished : Stage → Body → Result ScriptValue Refusal
 finished (heads.Whole data_disk log_disk log_size) body =
     Ok (record {
@@ -112,7 +112,7 @@ finished _ body = Err BadLine
 abbrev pub finish_step : Progress → Result ScriptValue Refusal
 finish_step p = finished p.head p.body
 
--- the answer to the line of this number
+-- the result for the line with this number
 abbrev pub at_line : {A : Type 0} → ℕ → Result A Refusal → Result A Fault
 at_line number (Ok x) = Ok x
 at_line number (Err refusal) = Err (record { line = Some number; refusal = refusal })
@@ -122,15 +122,15 @@ abbrev pub and_then : {A B : Type 0} → Result A Fault → (A → Result B Faul
 and_then (Ok x) f = f x
 and_then (Err fault) f = Err fault
 
--- what is read of these lines, the first of which has this number, by this step for a line and this
--- one for the end of the text
+-- the result of reading these lines by one step for each line and one for the end of the text;
+-- `number` is that of the first line
 abbrev pub read_by : {S A : Type 0} → (S → List ℕ → Result S Refusal) → (S → Result A Refusal) → S
     → ℕ → List (List ℕ) → Result A Fault
 read_by step finish s number [] = at_line number (finish s)
 read_by step finish s number (line ∷ lines) =
     and_then (at_line number (step s line)) (λ t. read_by step finish t (number + 1) lines)
 
--- what is read of these lines, the first of which has this number
+-- the result of reading these lines; `number` is that of the first
 abbrev pub read_lines : Progress → ℕ → List (List ℕ) → Result ScriptValue Fault
 read_lines p number lines = read_by line_step finish_step p number lines
 
@@ -138,32 +138,32 @@ read_lines p number lines = read_by line_step finish_step p number lines
 abbrev pub nothing : Progress
 nothing = record { head = heads.Empty; body = record { names = []; body = [] } }
 
--- what is read of a text
+-- the result of reading a text
 abbrev pub read_text : List ℕ → Result ScriptValue Fault
 read_text text = read_lines nothing 1 (lines_of text)
 
--- a fault with a line is what is read, and one with none is that memory ran out
+-- a fault with a line is the result of reading, and one with none is that memory ran out
 abbrev pub IsFault : {A : Type 0} → Option ℕ → Fault → Result A Fault → Type 0
 IsFault (Some line) fault read = read ≡ Err fault
 IsFault None fault read = fault.refusal ≡ Memory
 
--- what a reader answers, where this is read of its text: the same, unless memory ran out
+-- the result of a reader, if `read` is that of its text: the same, unless memory ran out
 abbrev pub Reads : {A : Type 0} → Result A Fault → Result A Fault → Type 0
 Reads (Ok script) read = read ≡ Ok script
 Reads (Err fault) read = IsFault fault.line fault read
 
--- what the end of a text answers, where a step says this
+-- the result at the end of a text, if `step` is that of the step
 abbrev pub Finishes : {A : Type 0} → Result A LineError → Result A Refusal → Type 0
 Finishes (Ok script) step = step ≡ Ok script
 Finishes (Err (line_errors.Refused refusal)) step = step ≡ Err refusal
 Finishes (Err line_errors.Memory) step = Unit {0}
 
--- the fault that a line's end of reading is shown by
+-- the fault that reports an error at a line
 abbrev pub fault_of : ℕ → LineError → Fault
 fault_of line (line_errors.Refused refusal) = record { line = Some line; refusal = refusal }
 fault_of line line_errors.Memory = record { line = None; refusal = Memory }
 
--- no picks are read: by a bad line, or memory ran out
+-- no picks are read: the line is bad, or memory ran out
 abbrev pub HasNoPicks : LineError → Option (List ℕ) → Type 0
 HasNoPicks (line_errors.Refused refusal) read = (refusal ≡ BadLine) × (read ≡ None)
 HasNoPicks line_errors.Memory read = Unit {0}

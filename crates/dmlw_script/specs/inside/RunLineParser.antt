@@ -1,5 +1,5 @@
--- What a line of a run's script says, as the reader finds it. `RunGrammar` says it in the grammar's
--- words; the two agree by proof.
+-- The meaning of a line of a run's script, as the reader finds it. `RunGrammar` defines it in terms
+-- of the grammar; the two agree by proof.
 use Rattle.std.specs.Prelude.{◌≡◌, ℕ, ◌==◌, List, [], ◌∷◌, Option, Some, None, codes, if◌then◌else◌}
 use Rattle.std.specs.Option.{option_map, option_or}
 use Rattle.std.specs.Str.{bytes_eq}
@@ -16,24 +16,24 @@ use Rattle.dmlw_script.specs.Lines.{is_line_text}
 use Rattle.dmlw_script.specs.inside.LineParser.{◌>>=◌, discard_words, head_words, write_words}
 use Rattle.refusals.specs.Words.{after_byte, before_byte, number_of}
 
--- the request that a seat submits by this first word, with other words behind it
+-- the request that a seat submits with this first word and these other words
 abbrev pub submission_with : List ℕ → List ℕ → Option Submission
 submission_with verb words =
     if bytes_eq verb (codes "w") then write_words words
     else if bytes_eq verb (codes "d") then discard_words words
     else None
 
--- the request that a seat submits by this first word, whose other words are these, if there are any
+-- the request that a seat submits with this first word and these other words, if there are any
 abbrev pub submission_of : List ℕ → Option (List ℕ) → Option Submission
 submission_of verb (Some words) = submission_with verb words
 submission_of verb None = if bytes_eq verb (codes "f") then Some submits.Flush else None
 
--- the mark of this text, where a space stands behind the first word
+-- the mark with this text, if there is a space after the first word
 abbrev pub mark_call : Option (List ℕ) → Option Call
 mark_call None = None
 mark_call (Some text) = if is_line_text text then Some (calls.Mark text) else None
 
--- what a seat does by this first word, whose other words are these, if there are any
+-- the call of a seat with this first word and these other words, if there are any
 abbrev pub call_of : List ℕ → Option (List ℕ) → Option Call
 call_of verb words =
     if bytes_eq verb (codes "mark") then mark_call words
@@ -44,33 +44,33 @@ abbrev pub seat_of : List ℕ → Option ℕ
 seat_of [] = None
 seat_of (byte ∷ word) = if byte == 115 then number_of word else None
 
--- what a line of the body says, of this first word, whose other words are these
+-- the meaning of a line of the body with this first word and these other words
 abbrev pub seat_line : List ℕ → List ℕ → Option RunLine
 seat_line verb words = do
   seat ← seat_of verb
   call ← call_of (before_byte 32 words) (after_byte 32 words)
   Some (run_lines.Body (record { seat = seat; call = call }))
 
--- what a line of the head of a run's script says, of this first word, whose other words are these
+-- the meaning of a line of the head of a run's script with this first word and these other words
 abbrev pub run_head_line : List ℕ → List ℕ → Option RunLine
 run_head_line verb words =
     if bytes_eq verb (codes "seats") then option_map run_lines.Seats (number_of words)
     else option_map run_lines.Head (head_words verb words)
 
--- what a line of this first word says, whose other words are these, if it has any
+-- the meaning of a line with this first word and these other words, if it has any
 abbrev pub run_line_parts : List ℕ → Option (List ℕ) → Option RunLine
 run_line_parts verb None = None
 run_line_parts verb (Some words) = option_or (run_head_line verb words) (seat_line verb words)
 
--- what a line of a run's script says, if it is of the grammar
+-- the meaning of a line of a run's script, if it is of the grammar
 abbrev pub parse_run_line : List ℕ → Option RunLine
 parse_run_line line = run_line_parts (before_byte 32 line) (after_byte 32 line)
 
--- nothing was read: nothing is said, or memory ran out
+-- nothing was read: the words have no meaning, or memory ran out
 abbrev pub IsUnread : {A : Type 0} → LineError → Option A → Type 0
 IsUnread (line_errors.Refused refusal) parsed = (refusal ≡ BadLine) × (parsed ≡ None)
 IsUnread line_errors.Memory parsed = Unit {0}
 
--- the same, of a line
+-- as above, for a line
 abbrev pub IsNoRunLine : LineError → Option RunLine → Type 0
 IsNoRunLine error parsed = IsUnread error parsed

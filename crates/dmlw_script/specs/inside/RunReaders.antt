@@ -1,5 +1,5 @@
--- The steps of the reader of a run's script over lines. `RunGrammar` and `RunFirstFault` say in the
--- grammar's words what they come to.
+-- The steps of the reader of a run's script over lines. `RunGrammar` and `RunFirstFault` define the
+-- results in terms of the grammar.
 use Rattle.std.specs.Prelude.{ℕ, ◌&&◌, Bool, true, false, List, [], ◌∷◌, ◌++◌, Option, Some, None}
 use Rattle.std.specs.Prelude.{Result, Ok, Err, nat_le, nat_lt, if◌then◌else◌}
 use Rattle.bio.specs.Sizes.{bytes_of}
@@ -46,22 +46,22 @@ with_run_head p read = read >>= λ head. Ok (record p { head = head })
 abbrev pub run_head_step : RunProgress → HeadLine → Result RunProgress Refusal
 run_head_step p line = with_run_head p (head_step p.head (is_closed p.seats p.calls) line)
 
--- a script may have so many seats
+-- a script may have this number of seats
 abbrev pub is_seat_count : ℕ → Bool
 is_seat_count count = nat_le 1 count && nat_le count 64
 
--- the number of seats, which comes once, behind both disks
+-- the number of seats, which comes once, after both disks
 abbrev pub seats_line : Stage → Option ℕ → RunProgress → ℕ → Result RunProgress Refusal
 seats_line (heads.Whole data_disk log_disk log_size) None p count =
     if is_seat_count count then Ok (record p { seats = Some count }) else Err BadLine
 seats_line _ _ p count = Err BadLine
 
--- the body after one more line, of which a test of sectors answers this
+-- the body after one more line, if the test of its sectors has this result
 abbrev pub with_call : RunProgress → SeatCall → Result (Unit {0}) Refusal
     → Result RunProgress Refusal
 with_call p line test = test >>= λ fine. Ok (record p { calls = p.calls ++ line ∷ [] })
 
--- one more line of the body, which comes behind the number of seats and is of one of them
+-- one more line of the body, which comes after the number of seats and has one of them
 abbrev pub call_line : Stage → Option ℕ → RunProgress → SeatCall → Result RunProgress Refusal
 call_line (heads.Whole data_disk log_disk log_size) (Some seats) p line =
     if nat_lt line.seat seats then with_call p line
@@ -78,7 +78,7 @@ said_step p (run_lines.Body line) = call_line p.head p.seats p line
 abbrev pub run_line_step : RunProgress → List ℕ → Result RunProgress Refusal
 run_line_step p line = line_by parse_run_line said_step p line
 
--- the text ends here: both disks and the number of seats stand before it
+-- the text ends here: both disks and the number of seats are before it
 abbrev pub finished_run : Stage → Option ℕ → List SeatCall → Result RunPlan Refusal
 finished_run (heads.Whole data_disk log_disk log_size) (Some seats) calls =
     Ok (record {
@@ -98,10 +98,10 @@ run_finish_step p = finished_run p.head p.seats p.calls
 abbrev pub nothing_read : RunProgress
 nothing_read = record { head = heads.Empty; seats = None; calls = [] }
 
--- what is read of these lines, the first of which has this number
+-- the result of reading these lines; `number` is that of the first
 abbrev pub read_run_lines : RunProgress → ℕ → List (List ℕ) → Result RunPlan Fault
 read_run_lines p number lines = read_by run_line_step run_finish_step p number lines
 
--- what is read of a text
+-- the result of reading a text
 abbrev pub read_run_text : List ℕ → Result RunPlan Fault
 read_run_text text = read_run_lines nothing_read 1 (lines_of text)

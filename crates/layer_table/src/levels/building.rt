@@ -1,5 +1,5 @@
-//! Puts a layer into the lowest free slot of one, two or three, and takes the disk from beneath.
-//! A `Stack` is built with it (stack/building).
+//! Puts a layer into the lowest free slot of one, two or three, and returns the disk below them. A
+//! `Stack` is built with it (stack/building).
 ghost use Rattle.std.specs.Prelude.{◌≡◌, ◌∷◌, List, false, true};
 ghost use Rattle.blockdev.specs.Calls.{IsRange};
 ghost use Rattle.table_line.specs.Ranges.{IsLayerSpec};
@@ -24,7 +24,7 @@ use std::alloc::Global;
 use table_line::{LayerSpec, Target};
 
 impl One {
-    // The layer in the slot, which is free.
+    // Puts the layer into the slot, which is free.
     pub(crate) fn put(self, alloc: Global, spec: LayerSpec, load: Ms) -> One
         requires spec { IsLayerSpec spec }
         requires fits { IsRange (one_shown self).size spec.offset spec.length }
@@ -42,7 +42,7 @@ impl One {
         }
     }
 
-    // The disk beneath.
+    // Returns the disk below.
     pub(crate) fn into_disk(self) -> SectorDisk
         ensures { result ≡ disk_one self }
     {
@@ -51,7 +51,7 @@ impl One {
 }
 
 impl Two {
-    // The layer in the lowest free slot.
+    // Puts the layer into the lowest free slot.
     pub(crate) fn put(self, alloc: Global, spec: LayerSpec, load: Ms) -> Two
         requires spec { IsLayerSpec spec }
         requires fits { IsRange (two_shown self).size spec.offset spec.length }
@@ -78,7 +78,7 @@ impl Two {
         }
     }
 
-    // The disk beneath.
+    // Returns the disk below.
     pub(crate) fn into_disk(self) -> SectorDisk
         ensures { result ≡ disk_two self }
     {
@@ -87,7 +87,7 @@ impl Two {
 }
 
 impl Three {
-    // The layer in the lowest free slot.
+    // Puts the layer into the lowest free slot.
     pub(crate) fn put(self, alloc: Global, spec: LayerSpec, load: Ms) -> Three
         requires spec { IsLayerSpec spec }
         requires fits { IsRange (three_shown self).size spec.offset spec.length }
@@ -114,7 +114,7 @@ impl Three {
         }
     }
 
-    // The disk beneath.
+    // Returns the disk below.
     pub(crate) fn into_disk(self) -> SectorDisk
         ensures { result ≡ disk_three self }
     {
@@ -122,7 +122,7 @@ impl Three {
     }
 }
 
-// The layer over the device, in a slot.
+// Puts the layer over the device, in a slot.
 pub(crate) fn layer<D: BlockDev + Drop>(
     alloc: Global,
     lower: D,

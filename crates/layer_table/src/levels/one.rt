@@ -1,5 +1,5 @@
-//! The lowest slot of a stack as a device: each call and message goes to the slot.
-//! What it shows and does is said in specs/OneLevel.
+//! The lowest slot of a stack as a device: each call and message goes to the slot. specs/OneLevel
+//! defines its view and its calls.
 use crate::slot::Slot;
 use bio::{DevError, Ms};
 use blockdev::{BlockDev, Message, MessageError};

@@ -1,5 +1,5 @@
 //! The third slot of a stack, over the second, as a device: calls and messages go to the slot.
-//! What it shows and does is said in specs/ThreeLevel.
+//! specs/ThreeLevel defines its view and its calls.
 use crate::levels::Two;
 use crate::slot::Slot;
 use bio::{DevError, Ms};

@@ -1,5 +1,5 @@
 //! The second slot of a stack, over the lowest, as a device: calls and messages go to the slot.
-//! What it shows and does is said in specs/TwoLevel.
+//! specs/TwoLevel defines its view and its calls.
 use crate::levels::One;
 use crate::slot::Slot;
 use bio::{DevError, Ms};

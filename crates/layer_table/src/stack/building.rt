@@ -1,5 +1,5 @@
-//! Builds a stack: the disk alone, then layers over it, and the refusal of one that cannot stand.
-//! The clauses say which layers then stand and what the stack shows.
+//! Builds a stack: first the disk, then layers over it; a layer that doesn't fit is refused. The
+//! clauses state which layers the stack then has, and its view.
 ghost use Rattle.std.specs.Prelude.{◌≡◌, ◌⊎◌, ◌<◌, ◌≤◌, ◌+◌, [], ◌∷◌, IfErr, IfOk, IsOk, OnErr};
 ghost use Rattle.std.specs.Prelude.{OnOk, false, length, true};
 ghost use Rattle.refusals.specs.declared.refusal.Refusal.TheVariants as refusals;
@@ -25,7 +25,7 @@ use std::alloc::Global;
 use table_line::LayerSpec;
 
 impl Stack {
-    /// The disk under no layer.
+    /// Makes a stack of the disk and no layer.
     pub fn new(disk: SectorDisk) -> Stack
         ensures layers { layers_of result ≡ [] }
         ensures disk { disk_of result ≡ disk }
@@ -42,10 +42,10 @@ impl Stack {
         }
     }
 
-    /// Puts a layer over what stands, loaded at the moment `load`, in milliseconds; what it lists
-    /// later takes its memory from `alloc`. It is refused with OutOfRange exactly where its last
-    /// sector is past the end of what stands, or where four layers stand; then the stack is handed
-    /// back as it was.
+    /// Puts a layer over the stack, loaded at the time `load`, in milliseconds; its lists later
+    /// take their memory from `alloc`. The error is OutOfRange exactly if the layer's last sector
+    /// is past the end of the stack, or the stack has four layers; then the stack is returned as it
+    /// was.
     #[tactic(auto, using(crate::specs::StackLaws::full_stack, crate::specs::StackLaws::free_stack))]
     pub fn over(self, alloc: Global, spec: LayerSpec, load: Ms) -> Result<Stack, (Stack, Refusal)>
         requires { IsLayerSpec spec }
@@ -70,9 +70,9 @@ impl Stack {
         })
     }
 
-    /// Puts layers over what stands, the first of them lowest, each loaded at the moment `load`, in
-    /// milliseconds. They are refused with OutOfRange where `over` refuses one of them; then the
-    /// stack is handed back with those beneath it.
+    /// Puts layers over the stack, the first of them lowest, each loaded at the time `load`, in
+    /// milliseconds. The error is OutOfRange if `over` refuses one of them; then the stack is
+    /// returned with the layers below that one.
     pub fn under(
         self,
         alloc: Global,
@@ -99,7 +99,7 @@ impl Stack {
         Ok(stack)
     }
 
-    /// The disk beneath, with no layer over it.
+    /// Returns the disk below, with no layer over it.
     pub fn into_disk(self) -> SectorDisk
         ensures { result ≡ disk_of self }
     {
@@ -107,7 +107,7 @@ impl Stack {
     }
 }
 
-// The layer in the lowest free slot.
+// Puts the layer into the lowest free slot.
 fn put(alloc: Global, top: Slot<Three>, spec: LayerSpec, load: Ms) -> Slot<Three>
     requires spec { IsLayerSpec spec }
     requires fits { IsRange (slot_shown top).size spec.offset spec.length }

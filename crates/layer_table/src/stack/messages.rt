@@ -1,12 +1,12 @@
-//! Hands a message to the layer of a stack that its number names, the lowest being 1.
-//! Scripts reach the bad blocks of a layer by it.
+//! Passes a message to the layer of a stack with its number; the lowest is 1. Scripts use it to
+//! change the bad blocks of a layer.
 ghost use Rattle.layer_table.specs.StackMessages.{StackAnswers};
 
 use crate::stack::Stack;
 use blockdev::{Message, MessageError};
 
-/// A message goes to the layer of its number, which counts from 1, the lowest. A number at which no
-/// layer stands, or one without bad blocks, is refused by BadMessage.
+/// A message goes to the layer with its number, counted from 1, the lowest. If there is no such
+/// layer, or it has no bad blocks, the error is BadMessage.
 impl Message for Stack {
     ghost answers = { λ old layer text result new. StackAnswers old layer text result new };
 

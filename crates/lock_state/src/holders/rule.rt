@@ -1,11 +1,11 @@
-// The rule over the passes of a keeper and its holders, and the steps that they take under it.
+// The rule over the passes of a keeper and its holders, and their steps under it.
 
 use atomic_table::{Join, Play, Split, Table, TableRule};
 use std::alloc::Global;
 use std::collections::LinkedList;
 
-// What a pass knows: a keeper what all holders hold, a holder
-// its number and what it holds. No value of it is made.
+// The knowledge of a pass: a keeper knows what all holders hold, a holder its number and what it
+// holds. No value of it is made.
 pub struct Knows {
     pub keeps: bool,
     pub all: LinkedList<Option<u64>>,
@@ -29,7 +29,7 @@ impl TableRule<(), Knows, ()> for Law {
 // Its one word is the number that was begun last; nothing is read from it.
 pub type Board = Table<(), Knows, (), Law, Global>;
 
-// One holder more.
+// One more holder.
 pub struct Enrol;
 
 impl Play<(), Knows> for Enrol {

@@ -1,5 +1,5 @@
-// Calls of a device, and what each tells: the harness of all these tests. A call stands in a row,
-// in words, or in a line of words, in letters.
+// Calls of a device, and what each shows: the harness of all these tests. A call is written in
+// words, in a row, or in letters, in a line of words.
 use bio::{DevError, Ms};
 use blockdev::{BlockDev, Message};
 use fault_layers::Kind;
@@ -14,7 +14,7 @@ use test_devices::{is_same, is_told};
 // The bytes of 16 sectors.
 const MOST: usize = 8192;
 
-/// A call: its sectors, at most 16, and the byte that a write puts to each of them.
+/// A call: its sectors, at most 16, and the byte that a write puts in each of them.
 #[derive(Clone, Copy, Debug)]
 pub struct Call {
     pub kind: Kind,
@@ -24,7 +24,7 @@ pub struct Call {
     pub fua: bool,
 }
 
-/// When a call ended, or its error, and the bytes that it read, 255 where it read none.
+/// When a call ended, or its error, and the bytes that it read; 255 for bytes that it didn't read.
 #[derive(Drop)]
 pub struct Answer {
     pub end: Result<Ms, DevError>,
@@ -66,7 +66,7 @@ fn discard<D: BlockDev + Drop>(
     device.discard(now, first, count)
 }
 
-/// Makes a call.
+/// Makes a call, and returns its answer.
 pub fn ask<D: BlockDev + Drop>(rt: &impl Abort, device: &mut D, now: Ms, call: Call) -> Answer {
     let mut bytes = [255; MOST];
     let byte = call.byte;
@@ -80,13 +80,13 @@ pub fn ask<D: BlockDev + Drop>(rt: &impl Abort, device: &mut D, now: Ms, call: C
 }
 
 impl Answer {
-    /// The byte that the first sector is full of that was read, or 254.
+    /// Returns the byte that fills the first sector that was read, or 254.
     pub fn byte(&self) -> u8 {
         byte_of(&self.bytes[..512])
     }
 }
 
-/// A read of one sector.
+/// Returns a read of one sector.
 pub fn read_of(sector: u64) -> Call {
     Call {
         kind: Kind::Read,
@@ -97,7 +97,7 @@ pub fn read_of(sector: u64) -> Call {
     }
 }
 
-/// The byte that a sector is full of, or 254.
+/// Returns the byte that fills a sector, or 254.
 pub fn byte_of(sector: &[u8]) -> u8 {
     let byte = sector.first().copied().unwrap_or(254);
     if sector.iter().all(|other| *other == byte) {
@@ -107,8 +107,8 @@ pub fn byte_of(sector: &[u8]) -> u8 {
     }
 }
 
-/// What calls on a device give, and then what becomes of the device. Only here is a device held
-/// that may be of many parts, and here it may be of any.
+/// Returns the result of calls on a device, and then the result of `end` for the device. For the
+/// prover: only here a device of many parts is held, and here its type is a parameter.
 pub fn asked<D, T, U, F, G>(device: D, calls: F, end: G) -> Result<(T, U), Fail>
 where
     D: Drop,
@@ -125,7 +125,7 @@ where
 
 // ---- rows
 
-// When a call ended, in milliseconds, or its error.
+// Returns when a call ended, in milliseconds, or its error.
 fn end_text(alloc: Global, end: Result<Ms, DevError>) -> Result<String, AllocError> {
     match end {
         Ok(end) => end.milliseconds().to_string(alloc),
@@ -134,7 +134,7 @@ fn end_text(alloc: Global, end: Result<Ms, DevError>) -> Result<String, AllocErr
     }
 }
 
-// The numbers that stand in these words; 0 where there are fewer.
+// Returns the numbers of these words; 0 for each that is missing.
 fn numbers_of(text: &str) -> [u64; 3] {
     let mut numbers = text.split(' ').map(|word| word.parse::<u64>().unwrap_or(0));
     [
@@ -144,8 +144,8 @@ fn numbers_of(text: &str) -> [u64; 3] {
     ]
 }
 
-// The call of these words: `w 5 4 1` writes 1s to 4 sectors from sector 5 on, `F` does with FUA,
-// `d 5 4` discards them, `f` flushes, and `r 5 4` reads them.
+// Returns the call of these words. `w 5 4 1` writes 1s to 4 sectors from sector 5 on, and `F` does
+// with FUA. `d 5 4` discards them, `f` flushes, and `r 5 4` reads them.
 fn call_of(words: &str) -> Call {
     let (kind, rest) = words.split_once(' ').unwrap_or((words, ""));
     let [first, count, byte] = numbers_of(rest);
@@ -163,8 +163,8 @@ fn call_of(words: &str) -> Call {
     }
 }
 
-// What a call tells: its end, and where a read ended Ok the
-// byte of each sector. `#` tells the faults and the lies.
+// Returns what a call shows: its end, and the byte of each sector if it is a read that ended Ok.
+// `#` shows the faults and the lies.
 fn told<D: BlockDev + Drop>(
     rt: &impl Abort,
     alloc: Global,
@@ -186,7 +186,7 @@ fn told<D: BlockDev + Drop>(
     Ok(told)
 }
 
-/// The answer to a message, by its number and its name, or `ok`.
+/// Returns the answer to a message, by its number and its name, or `ok`.
 pub fn answer_of<D: Message + Drop>(
     alloc: Global,
     device: &mut D,
@@ -199,7 +199,7 @@ pub fn answer_of<D: Message + Drop>(
     }
 }
 
-// Makes the call of a row: a moment in milliseconds, the call, and behind `|` what it tells.
+// Makes the call of a row: a time in milliseconds, the call, and after `|` what it shows.
 fn call_row<D: BlockDev + Drop>(
     rt: &(impl Abort + Print),
     alloc: Global,
@@ -214,7 +214,7 @@ fn call_row<D: BlockDev + Drop>(
     Ok(())
 }
 
-// Puts the message of a row: a layer, the message, and behind `|` its answer.
+// Sends the message of a row: a layer, the message, and after `|` its answer.
 fn message_row<D: Message + Drop>(
     rt: &(impl Abort + Print),
     alloc: Global,
@@ -229,8 +229,8 @@ fn message_row<D: Message + Drop>(
     Ok(())
 }
 
-/// Makes the calls of these rows, one after another: a moment
-/// in milliseconds, the call, and behind `|` what it tells.
+/// Makes the calls of these rows, one after another: a time in milliseconds, the call, and after
+/// `|` what it shows.
 pub fn calls<D: BlockDev + Drop>(
     rt: &(impl Abort + Print),
     alloc: Global,
@@ -243,8 +243,8 @@ pub fn calls<D: BlockDev + Drop>(
     Ok(())
 }
 
-/// Makes calls and puts messages, one after another: a row of a message has `m`, a layer, the
-/// message, and behind `|` its answer.
+/// Makes calls and sends messages, one after another. The row of a message has `m`, a layer, the
+/// message, and after `|` its answer.
 pub fn talk<D: Message + Drop>(
     rt: &(impl Abort + Print),
     alloc: Global,
@@ -266,9 +266,9 @@ fn digit(byte: u8) -> u8 {
     byte.saturating_sub(48) % 10
 }
 
-// The call of a word: `w31` writes 1s to sector 3, `F31` does with FUA,
-// `d32` discards 2 sectors from sector 3 on, `f` flushes, `r31` reads
-// 1s from sector 3, and `r3` reads none. No other word is a call.
+// Returns the call of a word. `w31` writes 1s to sector 3, and `F31` does with FUA. `d32` discards
+// 2 sectors from sector 3 on, and `f` flushes. `r31` reads 1s from sector 3, and `r3` reads none.
+// No other word is a call.
 fn call_in(word: &[u8]) -> Option<Call> {
     let (kind, first, count, byte) = match word {
         [b'w' | b'F', first, byte] => (Kind::Write, digit(*first), 1, digit(*byte)),
@@ -287,8 +287,8 @@ fn call_in(word: &[u8]) -> Option<Call> {
     })
 }
 
-/// Makes the call of a word: it ends at this moment, or fails by Io where the word has `-` behind
-/// it. `#21` says that there were 2 faults and 1 lie.
+/// Makes the call of a word. It must end at this time, or fail by Io if the word ends with `-`.
+/// `#21` means that there were 2 faults and 1 lie.
 pub fn step<D: BlockDev + Drop>(
     rt: &(impl Abort + Print),
     device: &mut D,
@@ -312,8 +312,8 @@ pub fn step<D: BlockDev + Drop>(
     }
 }
 
-/// Makes the calls of a line's words, one after another, the first at the moment 0. `@12` is the
-/// moment from there on, in milliseconds.
+/// Makes the calls of a line's words, one after another, the first at time 0. `@12` sets the time
+/// of the later calls, in milliseconds.
 pub fn play<D: BlockDev + Drop>(rt: &(impl Abort + Print), device: D, line: &str) -> D {
     let mut device = device;
     let mut now = Ms::new(0);
@@ -326,8 +326,8 @@ pub fn play<D: BlockDev + Drop>(rt: &(impl Abort + Print), device: D, line: &str
     device
 }
 
-/// Fails the power of a disk, and looks at its sectors: `c12` fails it with the picks 1 and 2, `=`
-/// says what each sector holds, and `!` what each holds once it failed with no picks.
+/// Fails the power of a disk, and checks its sectors. `c12` fails it with the picks 1 and 2. `=`
+/// gives the content of each sector, and `!` the content after a crash with no picks.
 pub fn look(rt: &(impl Abort + Print), disk: &mut SectorDisk, word: &str, line: &str) {
     let bytes = word.as_bytes();
     if let [b'c', digits @ ..] = bytes {

@@ -1,4 +1,4 @@
-//! Chains of values: put in, joined, taken, replaced, walked past and lifted, with rows used again.
+//! Chains of values: added, joined, taken, replaced, walked and lifted, with rows used again.
 ghost use Rattle.std.specs.Prelude.{◌<◌, ◌≡◌, ◌==◌, IsTrue, None, length};
 ghost use Rattle.std.specs.List.{list_any};
 ghost use Rattle.chains.specs.Edits.{chain_in};
@@ -11,14 +11,14 @@ fn number_of(word: Option<&str>) -> u64 {
     word.unwrap_or_default().parse::<u64>().unwrap_or(0)
 }
 
-// Whether a chain of this number is there to be used.
+// Returns whether a chain of this number can be used.
 fn is_there(chains: &Chains<u64>, chain: usize) -> bool
     ensures { IsTrue result → 0 < chain × chain < length chains.now.chains }
 {
     0 < chain && chain < chains.chains()
 }
 
-// Whether no chain is walked, and the two are there and aren't the same.
+// Returns whether no chain is walked, and both chains exist and differ.
 fn are_two(chains: &Chains<u64>, one: usize, two: usize) -> bool
     ensures rests { IsTrue result → chains.now.walked ≡ None }
     ensures one { IsTrue result → 0 < one × one < length chains.now.chains }
@@ -28,7 +28,7 @@ fn are_two(chains: &Chains<u64>, one: usize, two: usize) -> bool
     chains.walked().is_none() && is_there(chains, one) && is_there(chains, two) && one != two
 }
 
-// Puts a value in, or takes one.
+// Adds a value, or takes one.
 fn change(
     chains: &mut Chains<u64>,
     word: &str,
@@ -65,8 +65,8 @@ fn go(chains: &mut Chains<u64>, word: &str, one: usize, two: usize) {
     }
 }
 
-// The values of each chain, the chains parted by a bar; then how many rows there are by what is
-// told of links that were changed.
+// Returns the values of each chain, the chains separated by a bar, and the number of links that
+// were changed.
 fn shown(alloc: Global, chains: &Chains<u64>) -> Result<String, AllocError> {
     let mut text = String::new(alloc);
     for chain in 1..chains.chains() {
@@ -80,8 +80,8 @@ fn shown(alloc: Global, chains: &Chains<u64>) -> Result<String, AllocError> {
     Ok(text)
 }
 
-// What is shown after these steps, parted by commas, of
-// three chains: a word and one or two numbers each.
+// Returns what is shown for three chains after these steps, which are separated by commas. A step
+// is a word and one or two numbers.
 fn played(alloc: Global, steps: &str) -> Result<String, AllocError> {
     let mut chains = Chains::new(alloc, 3)?;
     for step in steps.split(",") {
@@ -97,7 +97,7 @@ fn played(alloc: Global, steps: &str) -> Result<String, AllocError> {
     shown(alloc, &chains)
 }
 
-// Steps, and then what is shown: the values of each chain, and how many links were changed.
+// Steps, and what is then shown: the values of each chain, and how many links were changed.
 const ROWS: &str = "add 1 10,add 1 11,add 2 20=10 11 | 20 | | 9
 add 1 10,add 1 11,add 2 20,join 1 2=| 20 10 11 | | 13
 add 1 10,add 1 11,add 2 20,join 2 1,join 3 1=10 11 20 | | | 13
@@ -121,7 +121,7 @@ fn chains_are_changed(rt: HostRuntime) -> Result<(), Fail> {
     Ok(())
 }
 
-// Whether a value stands in a chain.
+// Returns whether a value is in a chain.
 fn has(chains: &Chains<u64>, chain: usize, value: u64) -> bool
     requires { 0 < chain × chain < length chains.now.chains }
     ensures { result ≡ list_any (λ x. x == value) (chain_in chains.now.chains chain) }

@@ -9,8 +9,8 @@ use std::process::Abort;
 use std::test::Fail;
 use test_devices::{Failing, Lying, holds, is_same};
 
-// Goes through the words of a line: `w31` writes 1s to sector 3, `F31` does with FUA, `d32`
-// discards 2 sectors from sector 3 on, `c12` crashes with the picks 1 and 2.
+// Takes the words of a line. `w31` writes 1s to sector 3, and `F31` does with FUA. `d32` discards 2
+// sectors from sector 3 on, and `c12` crashes with the picks 1 and 2.
 fn go(rt: &(impl Abort + Print), disk: &mut SectorDisk, line: &str) {
     for word in line.split(' ') {
         step(rt, disk, Ms::new(5), word, line);
@@ -19,14 +19,14 @@ fn go(rt: &(impl Abort + Print), disk: &mut SectorDisk, line: &str) {
     assert_eq!(rt; (disk.faults(), disk.lies()), (0, 0));
 }
 
-// The bytes of a disk of four sectors of 7s once it went through the words of a line.
+// Returns the bytes of a disk of four sectors of 7s after the words of a line.
 fn image_after(rt: &(impl Abort + Print), alloc: Global, line: &str) -> Result<Vec<u8>, Fail> {
     let mut disk = SectorDisk::from_bytes(alloc, vec![in alloc; 7; 2048]?)?;
     go(rt, &mut disk, line);
     Ok(disk.into_bytes()?)
 }
 
-// An image is given back with the sectors that were put since, also after a crash.
+// An image is returned with the sectors that were written since, also after a crash.
 #[test]
 fn images_are_given_back(rt: HostRuntime) -> Result<(), Fail> {
     for (line, wanted) in [
@@ -42,14 +42,14 @@ fn images_are_given_back(rt: HostRuntime) -> Result<(), Fail> {
     Ok(())
 }
 
-// The disk has these bytes, and is given back as them.
+// Checks that the disk has these bytes, and is returned as them.
 fn check_bytes(rt: &impl Abort, disk: SectorDisk, wanted: &[u8]) -> Result<(), Fail> {
     assert!(rt; disk.bytes()?.as_slice() == wanted);
     assert!(rt; disk.into_bytes()?.as_slice() == wanted);
     Ok(())
 }
 
-// A disk of these bytes, once it is discarded whole.
+// Returns a disk of these bytes after all of it was discarded.
 fn discarded(rt: &impl Abort, alloc: Global, image: &Vec<u8>) -> Result<SectorDisk, Fail> {
     let length = image.len();
     assert!(rt; 0 < length && length <= 3_072_000 && length % 512 == 0);
@@ -59,7 +59,7 @@ fn discarded(rt: &impl Abort, alloc: Global, image: &Vec<u8>) -> Result<SectorDi
     Ok(disk)
 }
 
-// A new disk, once it is written whole with FUA, and its power failed.
+// Returns a new disk after all of it was written with FUA, and its power failed.
 fn written(rt: &impl Abort, alloc: Global, image: &Vec<u8>) -> Result<SectorDisk, Fail> {
     let length = image.len();
     assert!(rt; 0 < length && length <= 3_072_000 && length % 512 == 0);
@@ -69,7 +69,7 @@ fn written(rt: &impl Abort, alloc: Global, image: &Vec<u8>) -> Result<SectorDisk
     Ok(disk)
 }
 
-// Images of so many sectors of 65s and of zeroes are made, written, discarded and given back.
+// Images of `sectors` sectors of 65s and of zeroes are made, written, discarded and returned.
 fn check_size(
     rt: &impl Abort,
     alloc: Global,
@@ -99,7 +99,8 @@ fn disks_of_each_size_are_kept(rt: HostRuntime) -> Result<(), Fail> {
     Ok(())
 }
 
-// What a round of calls puts in a sector of 64: zeroes by a discard, or its number by a write.
+// Returns the byte that a round of calls puts in a sector of 64: zero by a discard, or its number
+// by a write.
 fn put_in_round(round: u64, sector: u64) -> u8 {
     if (round % 16 + sector % 16) % 16 == 0 {
         (round % 200) as u8
@@ -108,7 +109,7 @@ fn put_in_round(round: u64, sector: u64) -> u8 {
     }
 }
 
-// The rounds of calls up to this one.
+// Makes the rounds of calls up to this one.
 fn put_rounds(rt: &impl Abort, disk: &mut SectorDisk, rounds: u64) -> Result<(), DevError> {
     for round in 0..rounds {
         for sector in 0..64 {
@@ -122,7 +123,7 @@ fn put_rounds(rt: &impl Abort, disk: &mut SectorDisk, rounds: u64) -> Result<(),
     Ok(())
 }
 
-// The disk holds what this round put.
+// Checks that the disk holds what this round wrote.
 fn check_round(rt: &impl Abort, disk: &mut SectorDisk, round: u64) {
     for sector in 0..64 {
         let answer = ask(rt, disk, Ms::new(7), read_of(sector));
@@ -130,8 +131,8 @@ fn check_round(rt: &impl Abort, disk: &mut SectorDisk, round: u64) {
     }
 }
 
-// 256,000 calls are kept, each of them as fast as the first: a disk that walks over its calls at
-// each call takes far more than a test may.
+// 256,000 calls are kept, and each is as fast as the first. A disk that walks over its calls at
+// each call takes far longer than a test may.
 #[test]
 fn thousands_of_calls_are_kept(rt: HostRuntime) -> Result<(), Fail> {
     let mut disk = SectorDisk::new(rt.alloc(), 64)?;
@@ -155,7 +156,7 @@ fn the_device_laws_hold() {
     blockdev::laws::devices_keep_their_size::<SectorDisk>();
 }
 
-// The law has other members than the disk: a device that lies, and one that fails.
+// Other devices than the disk keep the law too: one that lies, and one that fails.
 #[test]
 fn devices_lie_and_fail(rt: HostRuntime) -> Result<(), Fail> {
     let lying = Lying::new(SectorDisk::new(rt.alloc(), 1)?);

@@ -11,19 +11,19 @@ use std::test::Fail;
 
 mod orders;
 
-// Blocks of 1,024 bytes over a device.
+// Returns a layer with blocks of 1,024 bytes over a device.
 #[tactic(auto, using(dust_layer::specs::Sizes::of_1024))]
 fn over<D: BlockDev + Drop>(alloc: Global, lower: D) -> Dust<D> {
     Dust::new(alloc, lower, 1024)
 }
 
-// Blocks of a sector each.
+// Returns a layer with blocks of one sector over a device.
 #[tactic(auto, using(dust_layer::specs::Sizes::of_512))]
 fn by_sector<D: BlockDev + Drop>(alloc: Global, lower: D) -> Dust<D> {
     Dust::new(alloc, lower, 512)
 }
 
-// Makes the calls of these rows and puts their messages, over blocks of 1,024 bytes.
+// Makes the calls of these rows and sends their messages, over blocks of 1,024 bytes.
 fn talk_over<D: BlockDev + Drop>(
     rt: &(impl Abort + Print),
     alloc: Global,
@@ -35,13 +35,13 @@ fn talk_over<D: BlockDev + Drop>(
     Ok(())
 }
 
-// A disk of 16 sectors.
+// Returns a disk of 16 sectors.
 fn disk_of_16(alloc: Global) -> Result<SectorDisk, Fail> {
     Ok(SectorDisk::new(alloc, 16)?)
 }
 
-// The write of four sectors over blocks of two: its bad
-// block stops it once, and leaves the list the next time.
+// The write of four sectors over blocks of two. Its bad block stops it once, and leaves the list
+// the next time.
 const ONCE: &str = "m 1 addbadblock 3 1|ok
 m 1 enable|ok
 0 w 5 4 7|Io
@@ -71,7 +71,7 @@ fn bad_blocks_fail_once(rt: HostRuntime) -> Result<(), Fail> {
     Ok(())
 }
 
-// Lists every other one of the first 2,000 blocks.
+// Lists every second one of the first 2,000 blocks.
 fn list_many<D: Message + Drop>(
     rt: &impl Abort,
     alloc: Global,
@@ -96,7 +96,7 @@ fn write_many<D: BlockDev + Drop>(
     Ok(())
 }
 
-// A write of 2,048 sectors over a thousand blocks that are listed, each of which leaves the list.
+// A write of 2,048 sectors over a thousand listed blocks, each of which leaves the list.
 fn mend_many<D: Message + Drop>(
     rt: &(impl Abort + Print),
     alloc: Global,

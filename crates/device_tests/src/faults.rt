@@ -9,11 +9,11 @@ use std::process::Abort;
 use std::test::Fail;
 use table_line::Feature;
 
-// Layers over a disk of 8 sectors of zeroes, a line each: the layer, then its calls. `@12` is the
-// moment from here on, in milliseconds. `w31+` writes 1s to sector 3, `F31+` does with FUA, `d32+`
-// discards 2 sectors from sector 3 on, `f+` flushes and `r31+` reads 1s from sector 3: `+` is an Ok
-// at that moment, and `-` is Io. `#21` is 2 faults and 1 lie. `=` says what the disk beneath holds
-// after it all, and `!` what it holds after a crash with no picks.
+// Layers over a disk of 8 sectors of zeroes, a line each: the layer, then its calls. `@12` sets the
+// time of the later calls, in milliseconds. `w31+` writes 1s to sector 3, and `F31+` does with FUA.
+// `d32+` discards 2 sectors from sector 3 on. `f+` flushes, and `r31+` reads 1s from sector 3. `+`
+// is an Ok at that time, and `-` is Io. `#21` is 2 faults and 1 lie. `=` gives the content of the
+// disk below after all calls, and `!` its content after a crash with no picks.
 const CALLS: &str = "error w31- F31- d32- r3- f- #50 =00000000
 fuse0 r30+ w31- d31- f- r30+ #30 =00000000
 fuse1 r30+ F31+ r31+ w32- r31+ d31- f- #30 =00010000 !00010000
@@ -29,7 +29,7 @@ flakey-fuse w31+ w32- @10000 w33+ @15000 r31+ w34- #21 =00010000
 fuse-flakey @10000 w33+ w34- @15000 r30+ #11 =00000000
 linear-linear w01+ F02+ r02+ #00 =12325678 !12325678";
 
-// What a flakey layer of this name does while it is down, and its load.
+// Returns what a flakey layer of this name does while it is down, and its load time.
 fn turns_of(name: &str) -> Option<(Feature, u64)> {
     match name {
         "none" => Some((Feature::None, 0)),
@@ -41,12 +41,12 @@ fn turns_of(name: &str) -> Option<(Feature, u64)> {
     }
 }
 
-// How many calls a fuse of this name passes.
+// Returns how many calls a fuse of this name passes.
 fn calls_of(name: &str) -> Option<u64> {
     name.strip_prefix("fuse")?.parse::<u64>().ok()
 }
 
-// The disk after the calls of a line, its layer taken off again.
+// Returns the disk after the calls of a line, with the layer removed again.
 fn played(rt: &(impl Abort + Print), disk: SectorDisk, line: &str) -> SectorDisk {
     let name = line.split(' ').next().unwrap_or_default();
     if name == "error" {
@@ -68,7 +68,7 @@ fn played(rt: &(impl Abort + Print), disk: SectorDisk, line: &str) -> SectorDisk
     }
 }
 
-// The same for a part of the disk, and for two layers.
+// As above, for a part of the disk, and for two layers.
 fn played_deep(rt: &(impl Abort + Print), disk: SectorDisk, line: &str) -> SectorDisk {
     let start = Ms::new(0);
     assert_eq!(rt; disk.sectors(), 8);
@@ -97,7 +97,7 @@ fn played_deep(rt: &(impl Abort + Print), disk: SectorDisk, line: &str) -> Secto
     }
 }
 
-// What each layer passes, fails and drops was worked out by hand.
+// What each layer passes, fails and drops was computed by hand.
 #[test]
 fn layers_do_what_their_rules_say(rt: HostRuntime) -> Result<(), Fail> {
     for line in CALLS.lines() {
@@ -115,8 +115,8 @@ fn layers_do_what_their_rules_say(rt: HostRuntime) -> Result<(), Fail> {
     Ok(())
 }
 
-// A delay of reads, of writes and discards, and of flushes;
-// then one of flushes alone, over a flakey layer.
+// A delay of reads, of writes and discards, and of flushes; then one of flushes only, over a flakey
+// layer.
 const DELAYED: &str = "100 w 0 1 1|120
 100 r 0 1|110 1
 100 d 0 1|120
@@ -128,7 +128,7 @@ const LATER: &str = "9979 f|9999
 9980 f|Io
 0 #|1 0";
 
-// A delayed call ends as much later as its kind is delayed; a discard is delayed as a write is.
+// A delayed call ends later by the delay of its kind. A discard is delayed like a write.
 #[test]
 fn delayed_calls_begin_later(rt: HostRuntime) -> Result<(), Fail> {
     let disk = SectorDisk::new(rt.alloc(), 1)?;

@@ -4,7 +4,7 @@ use refusals::{Fault, Refusal};
 use std::test::Fail;
 use test_devices::is_told;
 
-// A fault without a line, or at one.
+// Returns a fault without a line, or at one.
 fn fault(line: Option<u64>, refusal: Refusal) -> Fault {
     Fault { line, refusal }
 }

@@ -21,7 +21,7 @@ use test_devices::is_same;
 
 mod plain;
 
-// Lines for the lower layer over a disk of 16 sectors, which count from the moment 0 on, and for
+// Lines for the lower layer over a disk of 16 sectors, which counts time from 0 on. Then lines for
 // the upper one, which counts from 3000 on.
 const LOWER: &str = "0 12 linear disk 2
 0 12 error
@@ -42,7 +42,7 @@ const UPPER: &str = "0 8 linear disk 4
 0 8 dust disk 2 512
 0 8 delay disk 3 1";
 
-// At both sides of each bound of the flakey layers, in milliseconds, and at the last moment.
+// Times on both sides of each bound of the flakey layers, in milliseconds, and the last time.
 const MOMENTS: [u64; 12] = [
     0,
     2_999,
@@ -58,7 +58,7 @@ const MOMENTS: [u64; 12] = [
     18_446_744_073_709_551_615,
 ];
 
-// What a line asks for.
+// Returns the layer that a line asks for.
 fn spec_of(rt: &impl Abort, line: &str) -> LayerSpec
     ensures { IsLayerSpec result }
 {
@@ -68,7 +68,7 @@ fn spec_of(rt: &impl Abort, line: &str) -> LayerSpec
     }
 }
 
-// Either stack, and the refusal where one was refused.
+// Returns either stack, and the refusal if one was refused.
 fn either<D: Drop>(put: Result<D, (D, Refusal)>) -> (D, Option<Refusal>) {
     match put {
         Ok(device) => (device, None),
@@ -76,8 +76,8 @@ fn either<D: Drop>(put: Result<D, (D, Refusal)>) -> (D, Option<Refusal>) {
     }
 }
 
-// The disk under the layers of these lines, the lowest first, each loaded at its moment. A line
-// that is refused puts no layer; so the last of them ends.
+// Returns the disk under the layers of these lines, the lowest first, each loaded at its time. A
+// line that is refused puts no layer. Checks that `ends` is the refusal of the last line.
 fn stack_of(
     rt: &impl Abort,
     alloc: Global,
@@ -96,7 +96,8 @@ fn stack_of(
     stack
 }
 
-// What calls give on a disk under the layers of these lines, and the bytes that the disk then has.
+// Returns the result of calls on a disk under the layers of these lines, and the bytes that the
+// disk then has.
 fn on_stack<T: Drop, F: FnOnce(&mut Stack) -> Result<T, Fail>>(
     rt: &impl Abort,
     alloc: Global,
@@ -122,7 +123,7 @@ const KINDS: [Kind; 7] = [
     Kind::Read,
 ];
 
-// The call of this kind in a round, of one sector, or of two that are discarded.
+// Returns the call of this kind in a round, of one sector, or of two for a discard.
 fn call_in(round: usize, kind: Kind) -> Call {
     let first = round as u64 % 4;
     Call {
@@ -134,10 +135,10 @@ fn call_in(round: usize, kind: Kind) -> Call {
     }
 }
 
-// What a call answers: the byte that is read or 0, or that it failed.
+// Returns the answer to a call: the byte that is read or 0, or none if it failed.
 fn told<D: BlockDev + Drop>(rt: &impl Abort, device: &mut D, now: Ms, call: Call) -> Option<u8> {
     let answer = ask(rt, device, now, call);
-    // A delay of a millisecond may are among the layers.
+    // A delay of a millisecond may be among the layers.
     match answer.end {
         Ok(end) if end != now && end != now.later_by(Ms::new(1)) => None,
         Ok(_) if call.kind == Kind::Read => Some(answer.byte()),
@@ -146,7 +147,7 @@ fn told<D: BlockDev + Drop>(rt: &impl Abort, device: &mut D, now: Ms, call: Call
     }
 }
 
-// The same calls of a device and of plain layers.
+// Makes the same calls on a device and on plain layers, and compares the answers.
 fn play<D: BlockDev + Drop>(
     rt: &(impl Abort + Print),
     device: &mut D,
@@ -163,7 +164,7 @@ fn play<D: BlockDev + Drop>(
     }
 }
 
-// These layers, told in plain words.
+// Returns these layers as plain layers.
 fn plain_layers(rt: &impl Abort, alloc: Global, lines: &[(&str, u64)]) -> Result<Vec<Plain>, Fail> {
     let mut layers = Vec::new(alloc);
     for (line, load) in lines {
@@ -172,8 +173,8 @@ fn plain_layers(rt: &impl Abort, alloc: Global, lines: &[(&str, u64)]) -> Result
     Ok(layers)
 }
 
-// Plays the calls on a device and on plain layers, and looks
-// at the counts; what the plain layers' disk then holds.
+// Makes the calls on a device and on plain layers, and checks the counts. Returns the content of
+// the plain layers' disk.
 fn play_all<D: BlockDev + Drop>(
     rt: &(impl Abort + Print),
     alloc: Global,
@@ -188,7 +189,7 @@ fn play_all<D: BlockDev + Drop>(
     Ok(disk)
 }
 
-// Plays the calls on these layers, and looks at the counts and at the disk beneath.
+// Makes the calls on these layers, and checks the counts and the disk below.
 fn check(rt: &(impl Abort + Print), alloc: Global, lines: &[(&str, u64)]) -> Result<(), Fail> {
     let under = SectorDisk::new(alloc, 16)?;
     let (disk, image) = on_stack(rt, alloc, under, lines, None, |stack| {
@@ -200,7 +201,7 @@ fn check(rt: &(impl Abort + Print), alloc: Global, lines: &[(&str, u64)]) -> Res
     Ok(())
 }
 
-// Plays the calls on each upper layer over each lower one, under these layers.
+// Makes the calls on each upper layer over each lower one, under these layers.
 fn check_each(rt: &(impl Abort + Print), alloc: Global, top: &[(&str, u64)]) -> Result<(), Fail> {
     for lower in LOWER.split('\n') {
         for upper in UPPER.split('\n') {
@@ -227,7 +228,7 @@ fn fuses_over_layers(rt: HostRuntime) -> Result<(), Fail> {
     Ok(())
 }
 
-// The specs of a linear layer of so many sectors from sector `offset` on.
+// Returns the specs of a linear layer of `length` sectors from sector `offset` on.
 fn linear(length: u64, offset: u64) -> LayerSpec
     ensures { result ≡ record { length = length; offset = offset; target = Linear } }
 {
@@ -238,7 +239,7 @@ fn linear(length: u64, offset: u64) -> LayerSpec
     }
 }
 
-// The sectors of what was put, or why it was refused.
+// Returns the sectors of the device that was put, or the refusal.
 fn sectors_of<D: BlockDev + Drop>(put: Result<D, (D, Refusal)>) -> Result<u64, Refusal> {
     match put {
         Ok(device) => Ok(device.sectors()),
@@ -246,7 +247,8 @@ fn sectors_of<D: BlockDev + Drop>(put: Result<D, (D, Refusal)>) -> Result<u64, R
     }
 }
 
-// How a disk of 16 sectors takes these layers at once: the sectors of their top, or the refusal.
+// Puts these layers at once over a disk of 16 sectors. Returns the sectors of their top, or the
+// refusal.
 fn under(alloc: Global, layers: &[LayerSpec]) -> Result<Result<u64, Refusal>, Fail>
     requires { AllByRecursion IsLayerSpec layers.now }
 {

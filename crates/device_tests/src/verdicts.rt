@@ -7,7 +7,7 @@ use std::process::Abort;
 use std::test::Fail;
 use test_devices::{holds, rows_are_told};
 
-// A write of so many bytes, each this one, with no flush.
+// Returns a write of `length` bytes, each this one, with no flush.
 fn write(
     alloc: Global,
     first: u64,
@@ -24,12 +24,12 @@ fn write(
     }))
 }
 
-// A mark whose text is this byte.
+// Returns a mark whose text is this byte.
 fn mark(alloc: Global, byte: u8) -> Result<CoreEvent, AllocError> {
     Ok(CoreEvent::Mark(Bytes::from_vec(vec![in alloc; byte; 1]?)))
 }
 
-// The event that a word says with its numbers.
+// Returns the event that a word and its numbers mean.
 fn event_of(alloc: Global, word: &str, number: u64, byte: u8) -> Result<CoreEvent, AllocError> {
     match word {
         "w" => write(alloc, number, 512, byte, false),
@@ -55,7 +55,7 @@ fn event_of(alloc: Global, word: &str, number: u64, byte: u8) -> Result<CoreEven
     }
 }
 
-// The events that the steps say.
+// Returns the events that the steps mean.
 pub fn events_of(alloc: Global, steps: &str) -> Result<Vec<CoreEvent>, AllocError> {
     let mut events = Vec::new(alloc);
     for step in steps.split(",") {
@@ -70,7 +70,7 @@ pub fn events_of(alloc: Global, steps: &str) -> Result<Vec<CoreEvent>, AllocErro
     Ok(events)
 }
 
-// An image of zeroes, but for the sectors and the bytes that the words name.
+// Returns an image of zeroes, except for the sectors and the bytes that the words name.
 pub fn image_of(alloc: Global, sectors: u8, words: &str) -> Result<Vec<u8>, AllocError> {
     let mut image = vec![in alloc; 0; sectors as usize * 512]?;
     for word in words.split(" ") {
@@ -90,13 +90,13 @@ pub fn image_of(alloc: Global, sectors: u8, words: &str) -> Result<Vec<u8>, Allo
     Ok(image)
 }
 
-// Whether all these bytes are zeroes.
+// Returns whether all these bytes are zeroes.
 fn has_zeroes(bytes: &[u8]) -> bool {
     bytes.iter().all(|byte| *byte == 0)
 }
 
-// The verdict on images of one length, where the events are
-// lawful: a sector, and the place of a request.
+// Returns the verdict on images of one length, if the events are lawful. It names a sector, and the
+// place of a request.
 fn verdict_of(
     alloc: Global,
     events: &[CoreEvent],
@@ -124,8 +124,8 @@ fn verdict_of(
     }
 }
 
-// The verdict of a row: how many sectors, the events, the
-// moment, and the sectors of both images that aren't zeroes.
+// Returns the verdict of a row: the number of sectors, the events, the moment, and the sectors of
+// both images that aren't zeroes.
 fn judged(alloc: Global, row: &str) -> Result<String, AllocError> {
     let mut parts = row.split("|");
     let sectors = parts.next().unwrap_or_default().parse::<u8>().unwrap_or(0);
@@ -136,10 +136,10 @@ fn judged(alloc: Global, row: &str) -> Result<String, AllocError> {
     verdict_of(alloc, &events, moment, &first, &image)
 }
 
-// Two writes of one sector, at moments before a flush and after it. Then: three writes of which two
-// are flushed; a FUA write over a plain one; two flushes of which the later ends first; a discard
-// after a write; a flush and a FUA write that failed; a value that isn't submitted yet; a write of
-// three sectors, in part; a first content that isn't zero; no event, and no sector.
+// Two writes of one sector, at moments before a flush and after it. Then: three writes, two of them
+// flushed; a FUA write over a plain one; two flushes of which the later ends first. A discard after
+// a write; a flush and a FUA write that failed; a value that isn't submitted yet. A write of three
+// sectors, in part; a first content that isn't zero; no event, and no sector.
 pub const ROWS: &str = "16|w 3 1,w 3 2,c 0,c 1,f,c 4|4||=yes
 16|w 3 1,w 3 2,c 0,c 1,f,c 4|4||3:1=yes
 16|w 3 1,w 3 2,c 0,c 1,f,c 4|4||3:2=yes
@@ -192,10 +192,10 @@ fn images_are_judged(rt: HostRuntime) -> Result<(), Fail> {
     Ok(())
 }
 
-// Lists, with `=` where they are lawful for 8 sectors, and `!` where one rule is broken: an end of
-// what wasn't submitted, of what has ended, of itself, of an end or of a read; what comes after a
-// stop or a close; a close with an open request; a read; a mark with a zero byte; a request that
-// isn't whole, that is past the end, or before another.
+// Lists, with `=` if they are lawful for 8 sectors, and `!` if they break one rule. Broken rules
+// for ends: an end of what wasn't submitted, of what has ended, of itself, of an end or of a read.
+// Events after a stop or a close; a close with an open request; a read; a mark with a zero byte. A
+// request that isn't whole, that is past the end, or before another.
 const LISTS: &str = "
 =w 7 1
 =w 7 1,c 0,d 0,f,m 0 120,x 2,c 3,close
@@ -237,7 +237,7 @@ fn lawful_lists_are_told_apart(rt: HostRuntime) -> Result<(), Fail> {
     Ok(())
 }
 
-// Writes each of the first so many numbers to a sector of 4,096, and flushes them.
+// Returns writes of each of the first `count` numbers to a sector of 4,096, and a flush.
 fn many_writes(alloc: Global, count: u64) -> Result<Vec<CoreEvent>, AllocError> {
     let mut events = Vec::new(alloc);
     for number in 0..count {
@@ -251,7 +251,7 @@ fn many_writes(alloc: Global, count: u64) -> Result<Vec<CoreEvent>, AllocError> 
     Ok(events)
 }
 
-// The image that these writes leave.
+// Returns the image that these writes leave.
 fn many_sectors(alloc: Global, count: u64) -> Result<Vec<u8>, AllocError> {
     let mut image = vec![in alloc; 0; 4096 * 512]?;
     for number in 0..count {
@@ -266,7 +266,7 @@ fn many_sectors(alloc: Global, count: u64) -> Result<Vec<u8>, AllocError> {
     Ok(image)
 }
 
-// The verdict on the image that so many writes leave, after the events.
+// Returns the verdict on the image that `count` writes leave, after the events.
 fn verdict_on_many(
     rt: &impl Abort,
     alloc: Global,
@@ -280,8 +280,8 @@ fn verdict_on_many(
     could_hold(alloc, events, 20_000, First::Image(&first), &image)
 }
 
-// Of 20,000 events over 4,096 sectors the last values are
-// possible, and an earlier one in the last sector isn't.
+// After 20,000 events over 4,096 sectors the last values are possible, and an earlier one in the
+// last sector isn't.
 #[test]
 fn long_lists_are_judged(rt: HostRuntime) -> Result<(), Fail> {
     let alloc = rt.alloc();

@@ -6,7 +6,7 @@ use std::process::Abort;
 use std::test::Fail;
 use test_devices::rows_are_told;
 
-// What a word is read as, and printed as again; or that it is no number.
+// Returns what a word is parsed as, and printed as again; or that it is no number.
 fn answer(alloc: Global, word: &str) -> Result<String, Fail> {
     match number_of(word.as_bytes()) {
         Some(number) => {
@@ -18,7 +18,7 @@ fn answer(alloc: Global, word: &str) -> Result<String, Fail> {
     }
 }
 
-// Words, and what each is read as.
+// Words, and what each is parsed as.
 const NUMBERS: &str = "0=0
 7=7
 00000000000000000042=42
@@ -51,7 +51,7 @@ fn texts_are_cut(rt: HostRuntime) -> Result<(), Fail> {
     Ok(())
 }
 
-// The words of a line, each with a bar behind it; there is none behind the last.
+// Returns the words of a line, with a bar after each.
 fn barred(rt: &impl Abort, alloc: Global, line: &str) -> Result<String, AllocError> {
     let (line, mut shown) = (line.as_bytes(), String::new(alloc));
     for place in 0..count_words(line) {

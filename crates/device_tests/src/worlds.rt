@@ -9,13 +9,13 @@ use std::test::Fail;
 use test_devices::{holds, rows_are_told};
 use world::{Step, StepError, World, reach};
 
-// A device that holds these bytes, as many as are whole sectors.
+// Returns a device that holds these bytes, up to the last whole sector.
 fn world_of(alloc: Global, first: &[u8]) -> Result<World, AllocError> {
     let whole = first.len() / 512 * 512;
     World::new(alloc, &first[..whole])
 }
 
-// Takes a step, where the events are lawful for the device.
+// Takes a step, if the events are lawful for the device.
 fn take(world: &mut World, events: &[CoreEvent], step: &Step) -> Result<(), StepError> {
     if !is_lawful(events, (world.image().len() / 512) as u64) {
         return Err(StepError::BadStep);
@@ -23,7 +23,7 @@ fn take(world: &mut World, events: &[CoreEvent], step: &Step) -> Result<(), Step
     world.step(events, step)
 }
 
-// Whether a device that held the first image takes each step, and leaves the other image.
+// Returns whether a device that held the first image takes each step, and leaves the other image.
 fn leaves(
     alloc: Global,
     events: &[CoreEvent],
@@ -40,7 +40,7 @@ fn leaves(
     Ok(world.image() == image)
 }
 
-// The steps, one after another.
+// Returns the steps as text, one after another.
 fn run_text(alloc: Global, run: &[Step]) -> Result<String, AllocError> {
     let mut text = String::new(alloc);
     for step in run {
@@ -52,7 +52,7 @@ fn run_text(alloc: Global, run: &[Step]) -> Result<String, AllocError> {
     Ok(text)
 }
 
-// The run that leaves the image, where there is one and a device takes it.
+// Returns the run that leaves the image, if there is one and a device takes it.
 fn path(
     alloc: Global,
     events: &[CoreEvent],
@@ -78,8 +78,8 @@ fn path(
     }
 }
 
-// The run of a row: how many sectors, the events, the
-// moment, and the sectors of both images that aren't zeroes.
+// Returns the run of a row: the number of sectors, the events, the moment, and the sectors of both
+// images that aren't zeroes.
 fn path_of(alloc: Global, row: &str) -> Result<String, AllocError> {
     let mut parts = row.split("|");
     let sectors = parts.next().unwrap_or_default().parse::<u8>().unwrap_or(0);
@@ -116,7 +116,7 @@ fn runs_are_reached(rt: HostRuntime) -> Result<(), Fail> {
     Ok(())
 }
 
-// Of the judge's rows, each image that is possible is left by a run, and no other.
+// For each of the judge's rows, a run leaves each possible image, and no other.
 #[test]
 fn possible_images_are_reached(rt: HostRuntime) -> Result<(), Fail> {
     let alloc = rt.alloc();
@@ -133,7 +133,7 @@ fn possible_images_are_reached(rt: HostRuntime) -> Result<(), Fail> {
     Ok(())
 }
 
-// The step that these words say.
+// Returns the step that these words mean.
 fn step_of(text: &str) -> Step {
     let mut words = text.split(" ");
     let word = words.next().unwrap_or_default();
@@ -148,7 +148,7 @@ fn step_of(text: &str) -> Step {
     }
 }
 
-// What the last of these steps is answered, after the others: `ok`, or its refusal.
+// Returns the answer to the last of these steps, after the others: `ok`, or its refusal.
 fn answer_of(alloc: Global, row: &str) -> Result<String, AllocError> {
     let (list, steps) = row.split_once("|").unwrap_or_default();
     let events = events_of(alloc, list)?;
@@ -170,10 +170,10 @@ fn answer_of(alloc: Global, row: &str) -> Result<String, AllocError> {
     }
 }
 
-// A second submission, and one of an end; landings before a submission, after an end, elsewhere and
-// twice; a destage where nothing landed, and past the device's end; ends before a landing, on half
-// of the sectors, of a FUA write that isn't destaged after it landed, and of a flush after what is
-// only in the cache; what comes after power.
+// A second submission, and one of an end. Landings before a submission, after an end, elsewhere and
+// twice. A destage of a sector on which nothing landed, and past the device's end. Ends before a
+// landing, or with half of the sectors landed. The end of a FUA write that isn't destaged after it
+// landed, and of a flush while something is only in the cache. Steps after power.
 const STEPS: &str = "w 3 1|submit 0=ok
 w 3 1|submit 0,submit 0=35 BadStep
 w 3 1,c 0|submit 1=35 BadStep
@@ -214,14 +214,14 @@ fn steps_are_answered(rt: HostRuntime) -> Result<(), Fail> {
     Ok(())
 }
 
-// What lands later isn't durable until the next destage, and a discard leaves zeroes.
+// A write that lands later isn't durable until the next destage, and a discard leaves zeroes.
 const IMAGES: &str = "w 3 1,w 3 2|submit 0,submit 1,land 0 3,destage 3,land 1 3=3:1
 w 3 1,w 3 2|submit 0,submit 1,land 0 3,destage 3,land 1 3,destage 3=3:2
 w 3 1,w 3 2|submit 0,submit 1,land 1 3,land 0 3,destage 3,power=3:1
 w 3 1,d 3|submit 0,submit 1,land 0 3,destage 3,land 1 3,destage 3=
 w3 0 7|submit 0,land 0 2,land 0 0,destage 2,destage 0=0:7 2:7";
 
-// Whether the steps leave the image of a row.
+// Returns whether the steps leave the image of a row.
 fn is_left(alloc: Global, row: &str) -> Result<bool, AllocError> {
     let (asked, words) = row.split_once("=").unwrap_or_default();
     let (list, steps) = asked.split_once("|").unwrap_or_default();

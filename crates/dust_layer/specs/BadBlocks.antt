@@ -9,7 +9,7 @@ use Rattle.dust_layer.specs.declared.bad_blocks.BadBlocks.{BadBlocks}
 abbrev pub Bad : Type 0
 Bad = ℕ → Option ℕ
 
--- what a list of bad blocks lists
+-- the bad blocks of this list, each with its count
 abbrev pub listed : BadBlocks → Bad
 listed blocks = get nat_cmp blocks.counts
 
@@ -21,7 +21,7 @@ IsList new old = (block : ℕ) → new block ≡ old block
 abbrev pub IsNoList : Bad → Type 0
 IsNoList bad = (block : ℕ) → bad block ≡ None
 
--- the count that a block has left: none where it isn't listed
+-- the count that a block has left: 0 if it isn't listed
 abbrev pub left_at : Bad → ℕ → ℕ
 left_at bad block = unwrap_or (bad block) 0
 
@@ -29,6 +29,6 @@ left_at bad block = unwrap_or (bad block) 0
 abbrev pub with_entry : ℕ → Option ℕ → Bad → Bad
 with_entry place entry bad block = if place == block then entry else bad block
 
--- the list without the blocks from the first of these to before the second
+-- the list without the blocks from `from` to before `to`
 abbrev pub without : ℕ → ℕ → Bad → Bad
 without from to bad block = if nat_le from block && nat_lt block to then None else bad block

@@ -1,5 +1,6 @@
--- What a device does beneath bad blocks, said of what is made of that device: where each of its
--- calls is carried over, so is a call that goes block by block.
+-- The calls of a device with bad blocks, over a lower device that a function `f` maps to another
+-- one. If `f` carries over each call of the lower device, it carries over a call that goes block by
+-- block.
 use Rattle.std.proofs.Common.{ℕ, zero, suc, ◌+◌, Ok, Err, ap, subst, sym}
 use Rattle.std.specs.Prelude.{Result}
 use Rattle.bio.specs.declared.outcome.DevError.{DevError}
@@ -16,18 +17,18 @@ use Rattle.dust_layer.specs.Walk.{begin_of, blocks_of, part_of, ByBlock, DoesPar
 abbrev pub Doing : Type 0 → Type 1
 Doing D = D → Call → ℕ → Result ℕ DevError → D → Type 0
 
--- each call of a device for which this holds is a call of
--- what f makes of it, and then it holds still
+-- If `fine` holds for a device, each of its calls is also a call of `f` of that device. `fine` then
+-- holds for the new device too.
 abbrev pub IsCarried : {D E : Type 0} → Doing D → Doing E → (D → Type 0) → (D → E) → Type 0
 IsCarried {D} {E} does other fine f =
     (old : D) (call : Call) (now : ℕ) (result : Result ℕ DevError) (new : D) → fine old
     → does old call now result new → other (f old) call now result (f new) × fine new
 
--- what f makes of what a device with bad blocks holds
+-- the device with bad blocks whose lower device is `f` of the old one
 abbrev pub held_as : {D E : Type 0} → (D → E) → Held D → Held E
 held_as f it = record { lower = f it.lower; bad = it.bad; faults = it.faults }
 
--- parts one after another
+-- carries over parts that are done one after another
 parts_carried : {D E : Type 0} (does : Doing D) (other : Doing E) (fine : D → Type 0) (f : D → E)
     → IsCarried does other fine f
     → (part : ℕ → Call) (begin count : ℕ) (old : D) (now : ℕ) (new : D) (end : ℕ) → fine old
@@ -41,7 +42,7 @@ parts_carried does other fine f each part begin (suc count) old now new end hold
     let next = each mid (part (begin + count)) at (Ok end) new first.1 last in
     ((f mid, at, first.0, next.0), next.1)
 
--- blocks that don't stop a call
+-- carries over the blocks that don't stop a call
 passes_carried : {D E : Type 0} (does : Doing D) (other : Doing E) (fine : D → Type 0) (f : D → E)
     → IsCarried does other fine f
     → (block : ℕ) (call : Call) (bad : Bad) (count : ℕ) (old : D) (now : ℕ) (new : D) (end : ℕ)
@@ -54,7 +55,7 @@ passes_carried does other fine f each block call bad count old now new end holds
     (begin_of block call) count old now new end holds is.parts in
     (record { free = is.free; parts = parts.0 }, parts.1)
 
--- a call that goes block by block
+-- carries over a call that goes block by block
 blocks_carried : {D E : Type 0} (does : Doing D) (other : Doing E) (fine : D → Type 0) (f : D → E)
     → IsCarried does other fine f
     → (block : ℕ) (call : Call) (bad after : Bad) (old : D) (now : ℕ) (new : D)
@@ -103,7 +104,7 @@ blocks_carried does other fine f each block call bad after old now new
       last.1,
     )
 
--- a call that is passed, and one that is checked
+-- carries over a call that is passed, and one that is checked
 passed_carried : {D E : Type 0} (does : Doing D) (other : Doing E) (fine : D → Type 0) (f : D → E)
     → IsCarried does other fine f
     → (call : Call) (now : ℕ) (result : Result ℕ DevError) (old new : Held D) → fine old.lower
@@ -124,7 +125,7 @@ checked_carried does other fine f each block call now result old new holds is =
     is.stop holds is.blocks in
     (record { stop = is.stop; blocks = blocks.0; answer = is.answer; faults = is.faults }, blocks.1)
 
--- a call by the mode
+-- carries over a call, whatever the mode is
 pub done_carried : {D E : Type 0} (does : Doing D) (other : Doing E) (fine : D → Type 0) (f : D → E)
     → IsCarried does other fine f
     → (mode : Mode) (block : ℕ) (call : Call) (now : ℕ) (result : Result ℕ DevError)

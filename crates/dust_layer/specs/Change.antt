@@ -9,7 +9,7 @@ abbrev pub call_of : ℕ → ℕ → Change → Call
 call_of first count (changes.Write bytes fua) = Writes first bytes.now fua
 call_of first count changes.Discard = Discards first count
 
--- whether it is durable at its end
+-- whether the change is durable when it ends
 abbrev pub fua_of : Change → Bool
 fua_of (changes.Write bytes fua) = fua
 fua_of changes.Discard = false

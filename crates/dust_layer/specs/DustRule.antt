@@ -12,8 +12,8 @@ use Rattle.dust_layer.specs.declared.parts.Stop.TheVariants.{Below, Struck}
 use Rattle.dust_layer.specs.BadBlocks.{Bad, IsList, listed}
 use Rattle.dust_layer.specs.Walk.{ByBlock}
 
--- What a device with bad blocks holds: the lower device,
--- the list, and how often a bad block failed a call.
+-- What a device with bad blocks holds: the lower device, the list, and how many calls a bad block
+-- failed.
 pub record Held (D : Type 0) : Type 0 where
   pub lower : D
   pub bad : Bad
@@ -22,7 +22,7 @@ pub record Held (D : Type 0) : Type 0 where
 abbrev pub held : {D : Type 0} → Dust D → Held D
 held device = record { lower = device.lower; bad = listed device.bad; faults = device.faults }
 
--- The lower device did the call, and the list and the own faults stay.
+-- The lower device does the call. The list and the count of faults stay.
 pub record IsPassed {D : Type 0} (does : D → Call → ℕ → Result ℕ DevError → D → Type 0)
     (call : Call) (now : ℕ) (result : Result ℕ DevError)
     (old new : Held D) : Type 0 where
@@ -30,19 +30,19 @@ pub record IsPassed {D : Type 0} (does : D → Call → ℕ → Result ℕ DevEr
   pub list : IsList new.bad old.bad
   pub faults : new.faults ≡ old.faults
 
--- what a call answers that went block by block: Io where a bad block stopped it
+-- the answer of a call that went block by block: Io if a bad block stopped it
 abbrev pub answer_of : Result ℕ Stop → Result ℕ DevError
 answer_of (Ok end) = Ok end
 answer_of (Err Struck) = Err Io
 answer_of (Err (Below error)) = Err error
 
--- the own faults after it: one more where a bad block stopped it
+-- the count of faults after the call: one more if a bad block stopped it
 abbrev pub faults_after : Result ℕ Stop → ℕ → ℕ
 faults_after (Ok end) faults = faults
 faults_after (Err Struck) faults = one_more faults
 faults_after (Err (Below error)) faults = faults
 
--- The call went block by block, over blocks of so many sectors.
+-- The call goes block by block, over blocks of `block` sectors.
 pub record IsChecked {D : Type 0} (does : D → Call → ℕ → Result ℕ DevError → D → Type 0) (block : ℕ)
     (call : Call) (now : ℕ) (result : Result ℕ DevError)
     (old new : Held D) : Type 0 where
@@ -51,8 +51,8 @@ pub record IsChecked {D : Type 0} (does : D → Call → ℕ → Result ℕ DevE
   pub answer : result ≡ answer_of stop
   pub faults : new.faults ≡ faults_after stop old.faults
 
--- in bypass every call is passed; else a flush is, and what
--- reads, writes or discards goes block by block
+-- In bypass every call is passed. In the other mode a flush is passed, and a read, a write or a
+-- discard goes block by block.
 abbrev pub IsDoneBy : {D : Type 0} → (D → Call → ℕ → Result ℕ DevError → D → Type 0) → Mode → ℕ
     → Call → ℕ → Result ℕ DevError → Held D → Held D → Type 0
 IsDoneBy does Bypass block call now result old new = IsPassed does call now result old new
@@ -65,7 +65,7 @@ IsDoneBy does FailReadOnBadBlock block (Discards first count) now result old new
 IsDoneBy does FailReadOnBadBlock block Flushes now result old new =
     IsPassed does Flushes now result old new
 
--- the call is done by the device's mode, and the mode and the blocks' size stay
+-- The call is done by the device's mode. The mode and the blocks' size stay.
 pub record IsDusted {D : Type 0} (does : D → Call → ℕ → Result ℕ DevError → D → Type 0)
     (call : Call) (now : ℕ) (result : Result ℕ DevError)
     (old new : Dust D) : Type 0 where

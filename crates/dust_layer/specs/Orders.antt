@@ -1,5 +1,5 @@
--- The orders that a device with bad blocks takes as messages: which words ask for each, and what
--- each answers and leaves.
+-- The orders that a device with bad blocks takes as messages: the words that ask for each, its
+-- answers, and the state after it.
 use Rattle.std.specs.Prelude.{◌≡◌, ℕ, ◌*◌, ◌<◌, ◌≤◌, Bool, true, false, List, [], ◌∷◌, Some, None}
 use Rattle.std.specs.Prelude.{Result, Ok, Err, codes, is_some}
 use Rattle.std.specs.List.{join_with_byte}
@@ -12,17 +12,17 @@ use Rattle.dust_layer.specs.BadBlocks.{Bad, IsList, with_entry}
 
 -- ---- words
 
--- words with one space between each two
+-- the words, with one space between each two
 abbrev pub spaced : List (List ℕ) → List ℕ
 spaced words = join_with_byte 32 words
 
--- no word is count 0, and one word is a count from 0 to 255
+-- no word means count 0, and one word is a count from 0 to 255
 abbrev pub IsCount : List (List ℕ) → ℕ → Type 0
 IsCount [] count = count ≡ 0
 IsCount (word ∷ []) count = IsNumber word count × (count ≤ 255)
 IsCount (word ∷ more ∷ words) count = ⊥
 
--- the text lists a block: its word, the block's number, and its count or none
+-- the text lists a block: the order's word, the block's number, and its count or none
 pub record AsksToAdd (text : List ℕ) (block count : ℕ) : Type 0 where
   pub block_word : List ℕ
   pub count_words : List (List ℕ)
@@ -30,7 +30,7 @@ pub record AsksToAdd (text : List ℕ) (block count : ℕ) : Type 0 where
   pub counted : IsCount count_words count
   pub spelled : text ≡ spaced (codes "addbadblock" ∷ block_word ∷ count_words)
 
--- the text takes a block from the list: its word, and the block's number
+-- the text takes a block from the list: the order's word, and the block's number
 pub record AsksToRemove (text : List ℕ) (block : ℕ) : Type 0 where
   pub block_word : List ℕ
   pub number : IsNumber block_word block
@@ -46,18 +46,18 @@ AsksFor text orders.Disable = text ≡ codes "disable"
 
 -- ---- answers
 
--- the first sector of a block of so many sectors is within a layer of so many
+-- the first sector of a block of `size` sectors is within a layer of `sectors`
 abbrev pub IsWithin : ℕ → ℕ → ℕ → Type 0
 IsWithin block size sectors = block * size < sectors
 
--- a block is listed, or it isn't
+-- the block is listed
 abbrev pub IsListed : Bad → ℕ → Type 0
 IsListed bad block = is_some (bad block) ≡ true
 
 abbrev pub IsUnlisted : Bad → ℕ → Type 0
 IsUnlisted bad block = is_some (bad block) ≡ false
 
--- nothing refuses an order but memory
+-- nothing but a lack of memory refuses the order
 abbrev pub CanBeDone : ℕ → ℕ → Order → Bad → Type 0
 CanBeDone size sectors (orders.Add block count) bad =
     IsWithin block size sectors × IsUnlisted bad block
@@ -66,9 +66,9 @@ CanBeDone size sectors orders.Clear bad = Unit {0}
 CanBeDone size sectors orders.Enable bad = Unit {0}
 CanBeDone size sectors orders.Disable bad = Unit {0}
 
--- An order is refused by this: a block that isn't within the layer by BadMessage; within it, a
--- listed one can't be added, and one that isn't listed can't be removed; memory refuses only what
--- could be added. No other order is refused.
+-- Why an order is refused. A block that isn't within the layer is refused by BadMessage. Within it,
+-- adding a listed block is refused by AlreadyBad, and removing an unlisted one by NotBad. A lack of
+-- memory refuses only adding an unlisted block. No other order is refused.
 abbrev pub IsRefused : ℕ → ℕ → Order → Bad → MessageError → Type 0
 IsRefused size sectors (orders.Add block count) bad errors.BadMessage = sectors ≤ block * size
 IsRefused size sectors (orders.Add block count) bad errors.AlreadyBad =
@@ -85,7 +85,7 @@ IsRefused size sectors orders.Clear bad error = ⊥
 IsRefused size sectors orders.Enable bad error = ⊥
 IsRefused size sectors orders.Disable bad error = ⊥
 
--- the list that an order leaves if it is done
+-- the list after an order that is done
 abbrev pub list_ordered : Order → Bad → Bad
 list_ordered (orders.Add block count) bad = with_entry block (Some count) bad
 list_ordered (orders.Remove block) bad = with_entry block None bad
@@ -93,7 +93,7 @@ list_ordered orders.Clear bad = λ block. None
 list_ordered orders.Enable bad = bad
 list_ordered orders.Disable bad = bad
 
--- whether the bad blocks count after an order that is done
+-- whether bad blocks fail calls after an order that is done
 abbrev pub mode_ordered : Order → Bool → Bool
 mode_ordered (orders.Add block count) enabled = enabled
 mode_ordered (orders.Remove block) enabled = enabled
@@ -101,8 +101,8 @@ mode_ordered orders.Clear enabled = enabled
 mode_ordered orders.Enable enabled = true
 mode_ordered orders.Disable enabled = false
 
--- What an order answers over blocks of so many sectors in a layer of so many, and what it leaves:
--- what it is for if it is done, and all as it was if it is refused.
+-- The answer to an order over blocks of `size` sectors in a layer of `sectors`, and the state after
+-- it. If the order is refused, nothing changes.
 abbrev pub IsAnswered : ℕ → ℕ → Order → Result (Unit {0}) MessageError → Bad → Bool → Bad → Bool
     → Type 0
 IsAnswered size sectors order (Ok done) old was new enabled =

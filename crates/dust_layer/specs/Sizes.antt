@@ -1,4 +1,4 @@
--- The sizes of blocks, and the words for what a device does about bad ones.
+-- The sizes of blocks, and the words for the two modes.
 use Rattle.std.specs.Prelude.{ℕ, ◌<◌, ◌≤◌, List, codes}
 use Rattle.std.proofs.Common.{refl, arith}
 use Rattle.table_line.specs.Ranges.{IsBlockSize}
@@ -15,7 +15,7 @@ abbrev pub mode_text : Mode → List ℕ
 mode_text Bypass = codes "bypass"
 mode_text FailReadOnBadBlock = codes "fail_read_on_bad_block"
 
--- blocks may have 512 bytes, and 1,024
+-- blocks may have 512 bytes, and 1,024 bytes
 pub of_512 : IsBlockSize 512
 unfolding lib.Count.ones
 of_512 = record { power = refl; some = omega arith; few = omega arith }

@@ -11,7 +11,7 @@ use Rattle.dust_layer.specs.declared.parts.Stop.{Stop}
 use Rattle.dust_layer.specs.declared.parts.Stop.TheVariants.{Below, Struck}
 use Rattle.dust_layer.specs.BadBlocks.{Bad, IsList, left_at, with_entry, without}
 
--- the first sector of a call, and how many it has
+-- the first sector of a call, and its number of sectors
 abbrev pub first_of : Call → ℕ
 first_of (Reads first before after) = first
 first_of (Writes first bytes fua) = first
@@ -24,21 +24,21 @@ count_of (Writes first bytes fua) = length bytes / 512
 count_of (Discards first count) = count
 count_of Flushes = 0
 
--- the values that a call puts into its sectors
+-- the values that a call writes to its sectors
 abbrev pub patch_of : Call → Patch
 patch_of (Reads first before after) = nothing
 patch_of (Writes first bytes fua) = writes first bytes
 patch_of (Discards first count) = discards first count
 patch_of Flushes = nothing
 
--- the first block that a range of sectors touches, and the block behind its last
+-- the first block that a range of sectors touches, and the block after the last one
 abbrev pub block_of_first : ℕ → ℕ → ℕ
 block_of_first block first = first / block
 
 abbrev pub block_behind : ℕ → ℕ → ℕ → ℕ
 block_behind block first count = suc ((first + count - 1) / block)
 
--- how many blocks it touches
+-- the number of blocks that a call touches
 abbrev pub blocks_of : ℕ → Call → ℕ
 blocks_of block call =
     block_behind block (first_of call) (count_of call) - block_of_first block (first_of call)
@@ -51,11 +51,11 @@ begin_of block call = block_of_first block (first_of call)
 abbrev pub reach : ℕ → ℕ → ℕ → ℕ → ℕ
 reach block first count place = min (first + count) (max first (place * block))
 
--- the bytes of some sectors of a call
+-- the bytes of a call's sectors from `from` to before `to`
 abbrev pub bytes_within : ℕ → ℕ → ℕ → List ℕ → List ℕ
 bytes_within first from to bytes = take (512 * (to - from)) (drop (512 * (from - first)) bytes)
 
--- a call for its sectors from the first of these to before the second
+-- the part of a call with the sectors from `from` to before `to`
 abbrev pub part_within : ℕ → ℕ → Call → Call
 part_within from to (Reads first before after) =
     Reads from (bytes_within first from to before) (bytes_within first from to after)
@@ -69,8 +69,8 @@ part_of block call place =
     part_within (reach block (first_of call) (count_of call) place)
     (reach block (first_of call) (count_of call) (suc place)) call
 
--- The parts of so many blocks, from one on, are done one after another, each Ok, and each begun at
--- the moment at which the one before ended. `does` says what the lower device does.
+-- The parts of `count` blocks, from block `begin` on, are done one after another. Each ends Ok, and
+-- starts at the time at which the one before ended. `does` describes the lower device.
 abbrev pub DoesParts : {D : Type 0} → (D → Call → ℕ → Result ℕ DevError → D → Type 0) → (ℕ → Call)
     → ℕ → ℕ → D → ℕ → D → ℕ → Type 0
 DoesParts does part begin zero old now new end = (new ≡ old) × (end ≡ now)
@@ -78,24 +78,24 @@ DoesParts {D} does part begin (suc count) old now new end =
     (mid : D) × (at : ℕ) × DoesParts does part begin count old now mid at
     × does mid (part (begin + count)) at (Ok end) new
 
--- whether a bad block stops a call: a listed one stops a
--- read, and one with a count above 0 a write or a discard
+-- Whether a bad block stops a call. A listed block stops a read, and one with a count above 0 stops
+-- a write or a discard.
 abbrev pub stops : Call → Bad → ℕ → Bool
 stops (Reads first before after) bad place = is_some (bad place)
 stops (Writes first bytes fua) bad place = nat_lt 0 (left_at bad place)
 stops (Discards first count) bad place = nat_lt 0 (left_at bad place)
 stops Flushes bad place = false
 
--- the list after so many blocks, from one on, whose parts were done: a read leaves it, and what was
--- written or discarded is in it no more
+-- The list after the parts of `count` blocks, from block `begin` on, were done. A read leaves the
+-- list, and a block that was written or discarded leaves it.
 abbrev pub list_passed : Call → ℕ → ℕ → Bad → Bad
 list_passed (Reads first before after) begin count bad = bad
 list_passed (Writes first bytes fua) begin count bad = without begin (begin + count) bad
 list_passed (Discards first count) begin blocks bad = without begin (begin + blocks) bad
 list_passed Flushes begin count bad = bad
 
--- the list after a block that stopped a call: a read leaves
--- it, and of a write or a discard its count is one less
+-- The list after a block stopped a call. A read leaves the list, and a write or a discard lowers
+-- the block's count by one.
 abbrev pub list_struck : Call → ℕ → Bad → Bad
 list_struck (Reads first before after) place bad = bad
 list_struck (Writes first bytes fua) place bad = with_entry place (Some (left_at bad place - 1)) bad
@@ -110,15 +110,15 @@ pub record Passes {D : Type 0} (does : D → Call → ℕ → Result ℕ DevErro
       → stops call bad place ≡ false
   pub parts : DoesParts does (part_of block call) (begin_of block call) count old now new end
 
--- A call is done: no block stops it, and all its parts are done.
+-- The call is done: no block stops it, and all its parts are done.
 pub record IsDone {D : Type 0} (does : D → Call → ℕ → Result ℕ DevError → D → Type 0) (block : ℕ)
     (call : Call) (bad after : Bad)
     (old : D) (now : ℕ) (new : D) (end : ℕ) : Type 0 where
   pub passes : Passes does block call bad (blocks_of block call) old now new end
   pub list : IsList after (list_passed call (begin_of block call) (blocks_of block call) bad)
 
--- of a read, the bytes of its buffer behind the sectors of its first so many blocks are as they
--- were; another call has no buffer
+-- The bytes of a read's buffer after the sectors of its first `count` blocks don't change. Another
+-- call has no buffer.
 abbrev pub KeepsRest : ℕ → Call → ℕ → Type 0
 KeepsRest block (Reads first before after) count =
     drop (512 * (reach block first (length before / 512)
@@ -129,22 +129,22 @@ KeepsRest block (Writes first bytes fua) count = Unit {0}
 KeepsRest block (Discards first sectors) count = Unit {0}
 KeepsRest block Flushes count = Unit {0}
 
--- A bad block stops a call: the parts before it are done,
--- and nothing else is; a read leaves the rest of its buffer.
+-- A bad block stops the call. The parts before it are done, and no others. A read leaves the rest
+-- of its buffer.
 pub record IsStopped {D : Type 0} (does : D → Call → ℕ → Result ℕ DevError → D → Type 0) (block : ℕ)
     (call : Call) (bad after : Bad)
     (old : D) (now : ℕ) (new : D) : Type 0 where
   pub count : ℕ
   pub end : ℕ
   pub passes : Passes does block call bad count old now new end
-  -- this is the block
+  -- this is the block that stops it
   pub within : count < blocks_of block call
   pub stopped : stops call bad (begin_of block call + count) ≡ true
   pub rest : KeepsRest block call count
   pub list : IsList after (list_struck call (begin_of block call + count)
       (list_passed call (begin_of block call) count bad))
 
--- A part of a call fails beneath: the parts before it are done, and nothing is after it.
+-- The lower device fails a part of the call. The parts before it are done, and no part after it.
 pub record FailsBelow {D : Type 0} (does : D → Call → ℕ → Result ℕ DevError → D → Type 0)
     (block : ℕ) (call : Call) (bad after : Bad)
     (old : D) (now : ℕ) (new : D) (error : DevError) : Type 0 where
@@ -152,15 +152,15 @@ pub record FailsBelow {D : Type 0} (does : D → Call → ℕ → Result ℕ Dev
   pub mid : D
   pub end : ℕ
   pub passes : Passes does block call bad count old now mid end
-  -- this is the block, which doesn't stop the call, and stays in the list
+  -- this is the block: it doesn't stop the call, and stays in the list
   pub within : count < blocks_of block call
   pub free : stops call bad (begin_of block call + count) ≡ false
   pub fails : does mid (part_of block call (begin_of block call + count)) end (Err error) new
-  -- a read leaves the rest of its buffer, behind the part that failed
+  -- a read leaves the rest of its buffer, after the part that failed
   pub rest : KeepsRest block call (suc count)
   pub list : IsList after (list_passed call (begin_of block call) count bad)
 
--- A call that goes block by block, from one list of bad blocks to another.
+-- The call goes block by block, and changes the list of bad blocks from `bad` to `after`.
 abbrev pub ByBlock : {D : Type 0} → (D → Call → ℕ → Result ℕ DevError → D → Type 0) → ℕ → Call → Bad
     → Bad → D → ℕ → D → Result ℕ Stop → Type 0
 ByBlock does block call bad after old now new (Ok end) =
@@ -170,13 +170,13 @@ ByBlock does block call bad after old now new (Err Struck) =
 ByBlock does block call bad after old now new (Err (Below error)) =
     FailsBelow does block call bad after old now new error
 
--- The cause of an end that isn't at a bad block: beneath.
+-- If a part of the call failed in the lower device, that device has a cause for it.
 abbrev pub HasCauseBelow : ℕ → View → View → Result ℕ Stop → Type 0
 HasCauseBelow now v w (Ok end) = HasCause now v w (Ok end)
 HasCauseBelow now v w (Err Struck) = Unit {0}
 HasCauseBelow now v w (Err (Below error)) = HasCause now v w (Err error)
 
--- sectors of this block are among so many from the first on
+-- the block has sectors among the `count` sectors from `first` on
 pub record IsTouched (block first count place : ℕ) : Type 0 where
   pub low : block_of_first block first ≤ place
   pub high : place < block_behind block first count

@@ -1,5 +1,5 @@
 //! Does what a message to a device with bad blocks asks for, or refuses it.
-//! `Dust` calls `apply` for each order that `order` reads.
+//! `Dust` calls `apply` for each order that `order_of` parses.
 ghost use Rattle.std.specs.Prelude.{◌<◌, ◌↔◌, IsTrue};
 ghost use Rattle.dust_layer.specs.BadBlocks.{listed};
 ghost use Rattle.dust_layer.specs.Orders.{IsAnswered, IsWithin};
@@ -8,7 +8,8 @@ use crate::bad_blocks::BadBlocks;
 use crate::order::Order;
 use blockdev::MessageError;
 
-/// Whether the first sector of a block is within a layer, both of so many sectors.
+/// Returns whether the first sector of a block is within a layer of `sectors` sectors. A block has
+/// `size` sectors.
 pub(crate) fn is_within(block: u64, size: u64, sectors: u64) -> bool
     requires some { 0 < size }
     ensures { IsTrue result ↔ IsWithin block size sectors }
@@ -16,10 +17,10 @@ pub(crate) fn is_within(block: u64, size: u64, sectors: u64) -> bool
     sectors > 0 && block <= (sectors - 1) / size
 }
 
-/// Does an order over blocks of `size` sectors, in a layer of `sectors`. Refused by BadMessage
-/// where its block isn't within the layer; within it, one to be listed by AlreadyBad where it is
-/// listed, and else by Memory; one to be taken from the list by NotBad where it isn't listed. The
-/// list and the mode then stay.
+/// Does an order over blocks of `size` sectors, in a layer of `sectors`. A block that isn't within
+/// the layer is refused by BadMessage. Listing a listed block is refused by AlreadyBad, and listing
+/// another by Memory if memory lacks. Removing an unlisted block is refused by NotBad. After a
+/// refusal the list and the mode are unchanged.
 pub(crate) fn apply(
     bad: &mut BadBlocks,
     enabled: &mut bool,

@@ -17,7 +17,7 @@ pub(crate) struct BadBlocks {
 }
 
 impl BadBlocks {
-    /// No bad blocks.
+    /// Returns an empty list.
     pub(crate) fn new(alloc: Global) -> BadBlocks
         ensures { IsNoList (listed result) }
     {
@@ -26,15 +26,15 @@ impl BadBlocks {
         }
     }
 
-    /// Whether a block is listed.
+    /// Returns whether a block is listed.
     pub(crate) fn has(&self, block: u64) -> bool
         ensures { result ≡ is_some (listed self.now block) }
     {
         self.counts.contains_key(&block)
     }
 
-    /// Whether a block fails a write or a discard: where it is
-    /// listed with a count above 0, which is then one less.
+    /// Returns whether a block fails a write or a discard. It does if it is listed with a count
+    /// above 0, and its count is then lowered by one.
     pub(crate) fn strike(&mut self, block: u64) -> bool
         ensures struck { result ≡ nat_lt 0 (left_at (listed self.old) block) }
         ensures less { result ≡ true
@@ -51,14 +51,14 @@ impl BadBlocks {
         }
     }
 
-    /// Takes a block from the list, if it is there.
+    /// Removes a block from the list, if it is listed.
     pub(crate) fn forget(&mut self, block: u64)
         ensures { IsList (listed self.new) (with_entry block None (listed self.old)) }
     {
         let _count = self.counts.remove(&block);
     }
 
-    /// Lists a block with its count. Refused if there is no memory, and the list then stays.
+    /// Lists a block with its count. If memory lacks, it is refused, and the list stays.
     pub(crate) fn add(&mut self, block: u64, count: u8) -> Result<(), AllocError>
         ensures added { OnOk result
             (IsList (listed self.new) (with_entry block (Some count) (listed self.old))) }
@@ -68,15 +68,16 @@ impl BadBlocks {
         Ok(())
     }
 
-    /// Takes all blocks from the list.
+    /// Removes all blocks from the list.
     pub(crate) fn clear(&mut self)
         ensures { IsNoList (listed self.new) }
     {
         self.counts.clear();
     }
 
-    /// Lists a block with its count, where it isn't listed yet. Refused by AlreadyBad where it is,
-    /// and else by Memory; the list then stays.
+    /// Lists a block with its count, if it isn't listed yet. A listed block is refused by
+    /// AlreadyBad, and another one by Memory if memory lacks. After a refusal the list is
+    /// unchanged.
     pub(crate) fn list(&mut self, block: u64, count: u8) -> Result<(), MessageError>
         ensures added { OnOk result
             (IsList (listed self.new) (with_entry block (Some count) (listed self.old))) }
@@ -94,8 +95,8 @@ impl BadBlocks {
         }
     }
 
-    /// Takes a block from the list. Refused by NotBad where
-    /// it isn't listed, and the list then stays.
+    /// Removes a block from the list. If it isn't listed, this is refused by NotBad, and the list
+    /// stays.
     pub(crate) fn unlist(&mut self, block: u64) -> Result<(), MessageError>
         ensures removed { is_some (listed self.old block) ≡ true →
             (result ≡ Ok tt) × IsList (listed self.new) (with_entry block None (listed self.old)) }

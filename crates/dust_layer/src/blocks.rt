@@ -1,5 +1,5 @@
-//! Writes, discards and reads that go block by block, as far as the first block that fails them.
-//! `Dust` does its calls so where bad blocks fail calls.
+//! Writes, discards and reads that go block by block, up to the first block that fails them. `Dust`
+//! does its calls by them when bad blocks fail calls.
 ghost use Rattle.std.specs.Prelude.{◌≡◌, ◌<◌, ◌≤◌, ◌/◌, OnOk, length};
 ghost use Rattle.blockdev.specs.Calls.{IsByteRange, IsRange, Reads};
 ghost use Rattle.blockdev.specs.Law.{DeviceFrame, WriteDone, NoLie, CrashSetKept};
@@ -13,9 +13,9 @@ use crate::parts::{Change, Stop, change_part, reach, read_part};
 use bio::{Ms, SECTOR_BYTES};
 use blockdev::BlockDev;
 
-/// Does a write or a discard block by block, each part from the moment on at which the one before
-/// ended. A block with a count above 0 stops it, and the count is then one less; another listed
-/// block leaves the list once its part is done.
+/// Does a write or a discard block by block. Each part starts at the time at which the one before
+/// ended. A block with a count above 0 stops the call, and its count is lowered by one. Any other
+/// listed block leaves the list when its part is done.
 pub(crate) fn change_blocks<D: BlockDev>(
     lower: &mut D,
     bad: &mut BadBlocks,
@@ -58,8 +58,8 @@ pub(crate) fn change_blocks<D: BlockDev>(
     Ok(end)
 }
 
-/// Does a read block by block, each part from the moment on at which the one before ended. The
-/// first listed block stops it; the list stays.
+/// Does a read block by block. Each part starts at the time at which the one before ended. The
+/// first listed block stops the read. The list stays.
 pub(crate) fn read_blocks<D: BlockDev>(
     lower: &mut D,
     bad: &BadBlocks,

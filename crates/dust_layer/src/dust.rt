@@ -1,5 +1,5 @@
 //! The layer with bad blocks, as Linux's dm-dust has them: `Dust`, a block device over another one.
-//! In bypass it passes every call; else reads, writes and discards go block by block.
+//! In bypass it passes every call. In the other mode reads, writes and discards go block by block.
 ghost use Rattle.std.proofs.Props.{props};
 ghost use Rattle.table_line.specs.Ranges.{IsBlockSize};
 ghost use Rattle.dust_layer.specs.Sizes.{IsBlock};
@@ -18,11 +18,11 @@ use std::alloc::Global;
 #[derive(Drop)]
 pub struct Dust<D: Drop> {
     lower: D,
-    // The sectors of a block.
+    // The number of sectors of a block.
     block: u64,
     bad: BadBlocks,
     mode: Mode,
-    // How often a bad block failed a call; it stops at 2^64 - 1.
+    // How many calls a bad block failed; at most 2^64 - 1.
     faults: u64,
     ghost fits: { IsBlock block } by { Prim.hlevel props },
 }
@@ -33,8 +33,8 @@ impl<D: BlockDev + Drop> Dust<D> {
     ghost use Rattle.dust_layer.specs.DustRule.{answer_of, faults_after};
     ghost use Rattle.dust_layer.specs.declared.mode.Mode.TheVariants.{Bypass};
 
-    /// The device over this one whose blocks have `block_bytes` bytes, a power of two from 512 to
-    /// 1,073,741,824. It has no bad block, and is in bypass.
+    /// Returns a device over `lower` whose blocks have `block_bytes` bytes, a power of two from 512
+    /// to 1,073,741,824. It has no bad block, and is in bypass.
     pub fn new(alloc: Global, lower: D, block_bytes: u64) -> Dust<D>
         requires { IsBlockSize block_bytes }
         ensures lower { result.lower ≡ lower }
@@ -52,21 +52,22 @@ impl<D: BlockDev + Drop> Dust<D> {
         }
     }
 
-    /// Whether its bad blocks fail calls.
+    /// Returns the mode: whether bad blocks fail calls.
     pub fn mode(&self) -> Mode
         ensures { result ≡ self.now.mode }
     {
         self.mode
     }
 
-    /// The lower device.
+    /// Returns the lower device.
     pub fn into_lower(self) -> D
         ensures { result ≡ self.lower }
     {
         self.lower
     }
 
-    // The answer to a call that went block by block.
+    // Returns the answer to a call that went block by block, and counts the fault if a bad block
+    // stopped it.
     fn answer(&mut self, end: Result<Ms, Stop>) -> Result<Ms, DevError>
         ensures answer { result ≡ answer_of end }
         ensures faults { self.new.faults ≡ faults_after end self.old.faults }
@@ -93,7 +94,7 @@ impl<D: BlockDev + Drop> BlockDev for Dust<D> {
 
     ghost shown = { λ device. counted (D.shown device.lower) device.faults 0 false };
 
-    // What it does by its mode.
+    // What the device does, by its mode.
     ghost does = { λ old call now result new. IsDusted D.does call now result old new };
 
     fn sectors(&self) -> u64 {
@@ -168,8 +169,8 @@ impl<D: Message + Drop> Dust<D> {
     ghost use Rattle.std.specs.Prelude.{◌≡◌};
     ghost use Rattle.blockdev.specs.Messages.{Unchanged};
 
-    /// Hands a message to the lower device, whose layers count from 1; its bad blocks stay.
-    /// Refused as that device refuses it.
+    /// Passes a message to the lower device, whose layers count from 1. The bad blocks stay. It is
+    /// refused if the lower device refuses it.
     pub fn message_below(&mut self, layer: u64, text: &str) -> Result<(), MessageError>
         ensures same { Unchanged (D.shown self.old.lower) (D.shown self.new.lower) }
         ensures answers { D.answers self.old.lower layer text.now result self.new.lower }

@@ -1,5 +1,5 @@
-//! The law of a device with bad blocks, apart from the code: the function does nothing.
-//! Where bad blocks fail calls, what ended Ok touched no block that fails it.
+//! The law of a device with bad blocks, apart from the code: the function does nothing. If bad
+//! blocks fail calls, a call that ended Ok touched no block that fails it.
 ghost use Rattle.std.specs.Prelude.{◌≡◌, ◌/◌, Bool, List, None, Ok, length, ℕ};
 ghost use Rattle.blockdev.specs.Calls.{Discards, Reads, Writes};
 ghost use Rattle.dust_layer.specs.declared.dust.Dust.{Dust};
@@ -10,8 +10,8 @@ ghost use Rattle.dust_layer.specs.Walk.{IsTouched};
 
 use blockdev::BlockDev;
 
-/// Where bad blocks fail calls, a write or a discard that ends Ok touched no block that had a count
-/// above 0, and a read that ends Ok touched no listed block.
+/// If bad blocks fail calls, a write or a discard that ends Ok touched no block that had a count
+/// above 0. A read that ends Ok touched no listed block.
 #[tactic(auto, using(crate::proofs::OnlyGood::good_writes, crate::proofs::OnlyGood::good_discards, crate::proofs::OnlyGood::good_reads))]
 pub fn only_good_blocks_are_passed<D: BlockDev + Drop>()
     ensures writes { (old new : Dust D) (first : ℕ) (bytes : List ℕ) (fua : Bool)

@@ -1,5 +1,5 @@
-//! A device over any other one that has bad blocks: what is
-//! read or written there fails, until it is written well.
+//! A device over any other one that has bad blocks: reading or writing there fails, until it is
+//! written well.
 #![tactic(auto)]
 
 pub use dust::Dust;

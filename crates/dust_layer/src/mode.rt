@@ -3,10 +3,10 @@
 ghost use Rattle.dust_layer.specs.MessageRule.{is_enabled};
 ghost use Rattle.dust_layer.specs.Sizes.{mode_text};
 
-/// What a device does about its bad blocks.
+/// What a device does with calls at its bad blocks.
 #[derive(Clone, Copy, Debug, PartialEq, Eq)]
 pub enum Mode {
-    /// Nothing: every call is passed.
+    /// Every call is passed.
     Bypass,
     /// Calls at bad blocks fail.
     FailReadOnBadBlock,
@@ -15,7 +15,7 @@ pub enum Mode {
 impl Mode {
     ghost use Rattle.std.specs.Prelude.{◌≡◌};
 
-    /// Its word, as dm-dust tells it.
+    /// Returns the mode's word, as dm-dust prints it.
     pub fn text(self) -> &'static str
         ensures { result.now ≡ mode_text self }
     {
@@ -25,7 +25,7 @@ impl Mode {
         }
     }
 
-    // The mode in which bad blocks fail calls, or the other one.
+    // Returns the mode in which bad blocks fail calls, or the other one.
     pub(crate) fn of(enabled: bool) -> Mode
         ensures { is_enabled result ≡ enabled }
     {
@@ -36,7 +36,7 @@ impl Mode {
         }
     }
 
-    // Whether bad blocks fail calls.
+    // Returns whether bad blocks fail calls.
     pub(crate) fn is_enabled(self) -> bool
         ensures { result ≡ is_enabled self }
     {

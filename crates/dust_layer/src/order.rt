@@ -1,5 +1,5 @@
-//! Reads the order that a message to a device with bad blocks gives, in dm-dust's words.
-//! `Dust` hands the order to `apply`; a message that gives none is a bad one.
+//! Parses the order that a message to a device with bad blocks gives, in dm-dust's words. `Dust`
+//! passes the order to `apply`, and refuses a message that gives none.
 ghost use Rattle.std.specs.Prelude.{◌≡◌, ◌↔◌, ◌<◌, Some, option_copied};
 ghost use Rattle.dust_layer.specs.declared.order.Order.{Order};
 ghost use Rattle.dust_layer.specs.Orders.{AsksFor};
@@ -14,11 +14,11 @@ use refusals::{cut, number_of};
 #[derive(Clone, Copy, Debug, PartialEq, Eq)]
 pub enum Order {
     /// `addbadblock <block> [<count>]`: lists a block, with the count of writes and discards that
-    /// it fails before one goes through.
+    /// it fails before one passes.
     Add { block: u64, count: u8 },
-    /// `removebadblock <block>`: takes a block from the list.
+    /// `removebadblock <block>`: removes a block from the list.
     Remove { block: u64 },
-    /// `clearbadblocks`: takes all blocks from the list.
+    /// `clearbadblocks`: removes all blocks from the list.
     Clear,
     /// `enable`: calls at listed blocks fail from now on.
     Enable,
@@ -26,16 +26,16 @@ pub enum Order {
     Disable,
 }
 
-/// The order that a message asks for, if it asks for one, as dm-dust's messages do: its words stand
-/// behind one space each, numbers have 1 to 20 decimal digits and are below 2^64, and a count is 0
-/// to 255, or 0 where none is given.
+/// Returns the order that a message asks for, if it asks for one, by the grammar of dm-dust's
+/// messages. One space is between each two words. Numbers have 1 to 20 decimal digits and are below
+/// 2^64. A count is 0 to 255, or 0 if none is given.
 pub fn order_of(text: &[u8]) -> Option<Order>
     ensures { (order : Order) → (result ≡ Some order) ↔ AsksFor text.now order }
 {
     read_order(text)
 }
 
-// The same, word by word.
+// Parses the order, word by word.
 fn read_order(text: &[u8]) -> Option<Order>
     ensures { result ≡ the_order text.now }
 {
@@ -45,7 +45,7 @@ fn read_order(text: &[u8]) -> Option<Order>
     }
 }
 
-// The order of this one word.
+// Returns the order of one word.
 fn lone_order(verb: &[u8]) -> Option<Order>
     ensures { result ≡ the_lone_order verb.now }
 {
@@ -60,7 +60,7 @@ fn lone_order(verb: &[u8]) -> Option<Order>
     }
 }
 
-// The order of this first word, whose other words are these.
+// Returns the order with this first word and these other words.
 fn order_with(verb: &[u8], words: &[u8]) -> Option<Order>
     ensures { result ≡ the_order_with verb.now words.now }
 {
@@ -75,7 +75,7 @@ fn order_with(verb: &[u8], words: &[u8]) -> Option<Order>
     }
 }
 
-// The block that these words list, and its count.
+// Returns the order to list a block that these words ask for, with its count.
 fn add_of(words: &[u8]) -> Option<Order>
     ensures { result ≡ the_add words.now }
 {
@@ -86,7 +86,7 @@ fn add_of(words: &[u8]) -> Option<Order>
     })
 }
 
-// The count that a word is, if it is one; no word is count 0.
+// Returns the count that a word is, if it is one; no word means count 0.
 fn count_of(word: Option<&[u8]>) -> Option<u8>
     ensures { result ≡ the_count (option_copied word.entry) }
 {

@@ -1,5 +1,5 @@
-//! The part of a call that falls on some of its sectors, done on the lower device.
-//! `blocks` calls it for each block that a write, a discard or a read touches.
+//! The part of a call that covers some of its sectors, done on the lower device. `blocks` calls it
+//! for each block that a write, a discard or a read touches.
 ghost use Rattle.std.specs.Prelude.{◌≡◌, ◌<◌, ◌≤◌, ◌+◌, ◌-◌, ◌*◌, ◌/◌, OnOk, drop, length};
 ghost use Rattle.std.specs.Prelude.{take};
 ghost use Rattle.blockdev.specs.Calls.{IsByteRange, IsRange, Reads};
@@ -11,24 +11,24 @@ ghost use Rattle.dust_layer.specs.Walk.{bytes_within, count_of, part_within, pat
 use bio::{DevError, Ms, SECTOR_BYTES};
 use blockdev::BlockDev;
 
-/// Why a call goes no further.
+/// Why a call stops before its end.
 pub(crate) enum Stop {
-    /// At a bad block.
+    /// A bad block.
     Struck,
-    /// At an error of the lower device.
+    /// An error of the lower device.
     Below(DevError),
 }
 
 /// What a call does to its sectors.
 #[derive(Clone, Copy)]
 pub(crate) enum Change<'a> {
-    /// It writes these bytes, durable at its end or not.
+    /// It writes these bytes; the flag says if the write is durable when it ends.
     Write(&'a [u8], bool),
     /// It discards them.
     Discard,
 }
 
-/// The sector at which a call's part before this block ends; `block` is the sectors of a block.
+/// Returns the sector at which a call's part before this block ends. A block has `block` sectors.
 pub(crate) fn reach(block: u64, first: u64, count: u64, place: u64) -> u64
     requires block { place * block < 18446744073709551616 }
     requires end { first + count < 18446744073709551616 }
@@ -37,7 +37,7 @@ pub(crate) fn reach(block: u64, first: u64, count: u64, place: u64) -> u64
     (first + count).min(first.max(place * block))
 }
 
-// The bytes of a write's sectors from `from` to before `to`.
+// Returns the bytes of a write's sectors from `from` to before `to`.
 fn bytes_within(bytes: &[u8], first: u64, from: u64, to: u64) -> &[u8]
     requires from { first ≤ from }
     requires order { from ≤ to }
@@ -49,7 +49,7 @@ fn bytes_within(bytes: &[u8], first: u64, from: u64, to: u64) -> &[u8]
     part
 }
 
-/// Does the part of a write or a discard from one sector to before another.
+/// Does the part of a write or a discard from sector `from` to before `to`.
 pub(crate) fn change_part<D: BlockDev>(
     lower: &mut D,
     now: Ms,
@@ -81,7 +81,7 @@ pub(crate) fn change_part<D: BlockDev>(
     }
 }
 
-/// Does the part of a read from one sector to before another.
+/// Does the part of a read from sector `from` to before `to`.
 pub(crate) fn read_part<D: BlockDev>(
     lower: &mut D,
     now: Ms,

@@ -1,4 +1,4 @@
-//! What `execute` and `refuse` do, where a transcript can't show it.
+//! Tests of `execute` and `refuse` that a transcript can't show.
 use dmlw_cli::{execute, refuse};
 use dmlw_files::{Files, HostFiles, Session};
 use std::alloc::{AllocError, Global};
@@ -13,8 +13,8 @@ use test_devices::{Folder, OneFile, holds, is_told};
 // A script of a write, a flush and a close.
 const FIRST: &str = "data 16\nlog 32\nw a 5 1 41\nc a\nf b\nc b\nclose\n";
 
-/// What a command line after the program's name tells of a folder's files: its status, its output
-/// and its faults, parted by `|`. A line feed is shown as `;`.
+/// Returns what a command line, after the program's name, prints for a folder's files: its status,
+/// its output and its faults, separated by `|`. A line feed is shown as `;`.
 pub fn output_of<F: Files>(
     rt: &(impl Threads + Wait + Sync),
     alloc: Global,
@@ -33,7 +33,7 @@ pub fn output_of<F: Files>(
     told(alloc, ended.exit.status(), &session.out, &session.err)
 }
 
-// The program's name, and the words of a command line after it.
+// Returns the program's name, and the words of a command line after it.
 fn words_of<'a>(alloc: Global, line: &'a str) -> Result<Vec<&'a str>, AllocError> {
     let mut words = vec![in alloc; "dmlw"]?;
     for word in line.split(' ') {
@@ -42,7 +42,7 @@ fn words_of<'a>(alloc: Global, line: &'a str) -> Result<Vec<&'a str>, AllocError
     Ok(words)
 }
 
-// A status, an output and faults as one text.
+// Returns a status, an output and faults as one text.
 fn told(alloc: Global, status: u8, out: &[u8], err: &[u8]) -> Result<String, Fail> {
     let out = str::from_utf8(out).unwrap_or_default();
     let err = str::from_utf8(err).unwrap_or_default();
@@ -50,7 +50,7 @@ fn told(alloc: Global, status: u8, out: &[u8], err: &[u8]) -> Result<String, Fai
     with_semicolons(alloc, told.as_str())
 }
 
-/// A text with `;` for each line feed.
+/// Returns a text with `;` for each line feed.
 pub fn with_semicolons(alloc: Global, text: &str) -> Result<String, Fail> {
     let mut shown = String::new(alloc);
     for letter in text.chars() {
@@ -59,7 +59,7 @@ pub fn with_semicolons(alloc: Global, text: &str) -> Result<String, Fail> {
     Ok(shown)
 }
 
-/// A folder with a script.
+/// Returns a folder with a script.
 pub fn folder_of(alloc: Global, script: &str) -> Result<Folder, AllocError> {
     let mut folder = Folder::new(alloc);
     let script = Vec::from_slice(alloc, script.as_bytes())?;
@@ -67,12 +67,12 @@ pub fn folder_of(alloc: Global, script: &str) -> Result<Folder, AllocError> {
     Ok(folder)
 }
 
-// Command lines over a script of a write, a flush and a close, and what each puts out.
+// Command lines over a script of a write, a flush and a close, and the output of each.
 const OUTPUTS: &str = "record script log=a ok;b ok;3 4;
 list log=super version 1 entries 3 sectorsize 512;0 @1 write 5+1;1 @3 flush;2 @4 mark dm-log-writes-end;
 status log=3 4;";
 
-// A command line puts this out, or tells that memory is wanted.
+// Checks that a command line prints this output, or a lack of memory.
 fn check_output<F: Files>(
     rt: &(impl Abort + Print + Threads + Wait + Sync),
     alloc: Global,
@@ -92,7 +92,7 @@ fn check_output<F: Files>(
     Ok(())
 }
 
-// So does each of these.
+// As above, for each of these.
 fn check_outputs<F: Files>(
     rt: &(impl Abort + Print + Threads + Wait + Sync),
     alloc: Global,
@@ -105,15 +105,14 @@ fn check_outputs<F: Files>(
     Ok(())
 }
 
-// Where an allocation is refused (`rt try --test --fail-alloc N`)
-// that is what is shown, in place of an answer.
+// If an allocation fails (`rt try --test --fail-alloc N`), the output says so and has no answer.
 #[test]
 fn shows_want_of_memory(rt: HostRuntime) -> Result<(), Fail> {
     let mut folder = folder_of(rt.alloc(), FIRST)?;
     check_outputs(&rt, rt.alloc(), &mut folder)
 }
 
-// The log of the first script, recorded in its folder.
+// Returns the log of the first script, recorded in its folder.
 fn log_of(
     rt: &(impl Threads + Wait + Sync),
     alloc: Global,
@@ -123,7 +122,7 @@ fn log_of(
     Ok(Vec::from_slice(alloc, folder.bytes("log").unwrap_or_default())?)
 }
 
-// What a command line tells begins with this status.
+// Checks that a command line ends with this status.
 fn check_status<F: Files>(
     rt: &(impl Abort + Print + Threads + Wait + Sync),
     alloc: Global,
@@ -136,7 +135,7 @@ fn check_status<F: Files>(
     Ok(())
 }
 
-// So it does of an image that takes so many bytes.
+// As above, for an image of `length` bytes.
 fn check_length(
     rt: &(impl Abort + Print + Threads + Wait + Sync),
     alloc: Global,
@@ -150,7 +149,7 @@ fn check_length(
     check_status(rt, alloc, &mut files, line, status)
 }
 
-// An image may have 2^29 bytes and no more.
+// An image may have 2^29 bytes, but not more.
 #[test]
 fn refuses_a_longer_image(rt: HostRuntime) -> Result<(), Fail> {
     let alloc = rt.alloc();
@@ -211,7 +210,7 @@ const ROWS: &str = "| 0 | done |
 | 33 | PastEntries |
 | 34 | BadMoment |";
 
-// A session over a file of no bytes.
+// Returns a session over a file of no bytes.
 fn session_of_nothing(alloc: Global) -> Session<OneFile<'static>, Vec<u8>, Vec<u8>> {
     Session {
         alloc,
@@ -235,14 +234,14 @@ fn prints_the_formats(rt: HostRuntime) {
     check_page(&rt, page);
 }
 
-// The page has each of these rows.
+// Checks that the page has each of these rows.
 fn check_page(rt: &(impl Abort + Print), page: &str) {
     for row in ROWS.split('\n') {
         assert!(rt; holds(rt, page.contains(row), row));
     }
 }
 
-// A command line of no word at all is none of the program's.
+// A command line without a word isn't one of the program's.
 #[test]
 fn shows_help_where_no_word_is_given(rt: HostRuntime) {
     let mut session = session_of_nothing(rt.alloc());
@@ -251,7 +250,7 @@ fn shows_help_where_no_word_is_given(rt: HostRuntime) {
     assert!(rt; ended.exit.status() == 2 && session.out.is_empty() && !session.err.is_empty());
 }
 
-// The status of a word that can't be read for this reason.
+// Returns the status of a word that can't be read for this reason.
 fn refused(alloc: Global, kind: io::ErrorKind, err: &mut Vec<u8>) -> u8 {
     refuse(alloc, io::Error::from(kind), err)
 }
@@ -267,7 +266,7 @@ fn refuses_unreadable_words(rt: HostRuntime) {
     assert!(rt; err.as_slice() == shown.as_bytes());
 }
 
-// The reasons that are told for files.
+// Checks the reasons that are printed for files.
 fn check_reasons<F: Files>(
     rt: &(impl Abort + Print + Threads + Wait + Sync),
     alloc: Global,
@@ -290,7 +289,7 @@ fn check_reasons<F: Files>(
     Ok(())
 }
 
-// The system's reason for a file of it.
+// The system's reason for a file.
 #[test]
 fn explains_files(rt: HostRuntime) -> Result<(), Fail> {
     let mut files = HostFiles::new(&rt, rt.alloc());

@@ -1,5 +1,5 @@
-// On generated scripts: each beginning of a copied log
-// replays to what that prefix of the log replays to.
+// On generated scripts: each prefix of a copied log replays to the same content as that prefix of
+// the log.
 use crate::crashed_logs::{SECTORS, Sizes, log_of, script_of};
 use bio::SectorSize;
 use blockdev::BlockDev;
@@ -13,13 +13,13 @@ use std::process::Abort;
 use std::test::Fail;
 use test_devices::is_same;
 
-// Logs with sectors of 512 bytes, of which each request is whole sectors of 4,096.
+// Logs with sectors of 512 bytes, in which each request is whole sectors of 4,096 bytes.
 const WIDE: Sizes = Sizes {
     log: SectorSize::B512,
     unit: 8,
 };
 
-// The copy of a log, in sectors of 4,096 bytes: as many entries as the log has.
+// Returns the copy of a log, in sectors of 4,096 bytes, with as many entries as the log has.
 fn copy_of<L: BlockDev + Drop>(
     rt: &impl Abort,
     alloc: Global,
@@ -38,8 +38,8 @@ fn copy_of<L: BlockDev + Drop>(
     )
 }
 
-// Replays both logs one entry after another, each on a disk
-// of zeroes, and compares what they leave after each.
+// Replays both logs one entry after another, each on a disk of zeroes, and compares the disks after
+// each.
 fn compare<L: BlockDev + Drop, M: BlockDev + Drop>(
     rt: &impl Abort,
     alloc: Global,
@@ -58,7 +58,7 @@ fn compare<L: BlockDev + Drop, M: BlockDev + Drop>(
     Ok(count)
 }
 
-// How many beginnings were compared of the log of a seed.
+// Returns the number of prefixes that were compared for the log of a seed.
 fn compare_seed(rt: &(impl Abort + Print), alloc: Global, seed: u64) -> Result<u64, Fail> {
     let steps = script_of(alloc, seed)?;
     let mut copied = log_of(rt, alloc, &steps, WIDE)?;

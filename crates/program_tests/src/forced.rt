@@ -1,6 +1,6 @@
-// Generated scripts under layers, crashed at each of their lines: the log
-// that is found lists with no fault, and each beginning of it replays to
-// an image of which the verdict is yes at one of the moments at least.
+// Generated scripts under layers, crashed at each of their lines. The log that is found lists with
+// no fault. Each prefix of it replays to an image that the judge allows at one of the moments at
+// least.
 use crate::commands::{folder_of, output_of};
 use std::alloc::{AllocError, Global};
 use std::io::Print;
@@ -10,7 +10,7 @@ use std::test::Fail;
 use std::thread::Threads;
 use test_devices::{Folder, Numbers, holds};
 
-// The heads of scripts: their disks, and layers that fail calls and tell no lie.
+// The heads of scripts: their disks, and layers that fail calls and never lie.
 const HEADS: [&str; 7] = [
     "data 6\nlog 40\n",
     "data 6\nlog 40\nlog-layer 0 40 fuse disk 0 9\n",
@@ -21,12 +21,12 @@ const HEADS: [&str; 7] = [
     "data 6\nlog 12\nlog-layer 0 12 fuse disk 0 30\nlog-layer 0 11 linear disk 0\n",
 ];
 
-// How many sectors a script's requests use, and how many lines it has behind its head.
+// The number of sectors that a script's requests use, and of its lines after its head.
 const SECTORS: u64 = 6;
 
 const LINES: u64 = 12;
 
-// A line that submits the request of a number.
+// Returns a line that submits the request of a number.
 fn submission(alloc: Global, numbers: &mut Numbers, id: u64) -> Result<String, AllocError> {
     let first = numbers.below(SECTORS);
     let options = match numbers.below(6) {
@@ -45,7 +45,7 @@ fn submission(alloc: Global, numbers: &mut Numbers, id: u64) -> Result<String, A
     }
 }
 
-// The next line of a script, where these requests are open.
+// Returns the next line of a script, when these requests are open.
 fn next_line(
     alloc: Global,
     numbers: &mut Numbers,
@@ -68,7 +68,7 @@ fn next_line(
     }
 }
 
-// The lines of a seed's script behind its head.
+// Returns the lines of a seed's script after its head.
 fn lines_of(alloc: Global, numbers: &mut Numbers) -> Result<Vec<String>, AllocError> {
     let mut open = Vec::new(alloc);
     let mut lines = Vec::new(alloc);
@@ -78,7 +78,7 @@ fn lines_of(alloc: Global, numbers: &mut Numbers) -> Result<Vec<String>, AllocEr
     Ok(lines)
 }
 
-// A script up to one of its lines, and a crash there.
+// Returns a script up to one of its lines, and a crash there.
 fn crashed(
     alloc: Global,
     numbers: &mut Numbers,
@@ -106,12 +106,12 @@ fn push_crash(alloc: Global, numbers: &mut Numbers, text: &mut String) -> Result
 // What was seen of all cases.
 #[derive(Debug, Drop)]
 struct Seen {
-    // Logs that were found after a crash, and beginnings of them.
+    // The logs that were found after a crash, and their prefixes.
     logs: u64,
     beginnings: u64,
 }
 
-// Whether the verdict on the image is yes at one of so many moments.
+// Returns whether the verdict on the image is yes at one of the `moments`.
 fn is_held(
     rt: &(impl Threads + Wait + Sync),
     alloc: Global,
@@ -127,7 +127,7 @@ fn is_held(
     Ok(false)
 }
 
-// A folder with a script, and an image of zeroes.
+// Returns a folder with a script, and an image of zeroes.
 fn folder_with_zeroes(alloc: Global, script: &str) -> Result<Folder, AllocError> {
     let zeroes = vec![in alloc; 0; 3072]?;
     let mut folder = folder_of(alloc, script)?;
@@ -135,7 +135,7 @@ fn folder_with_zeroes(alloc: Global, script: &str) -> Result<Folder, AllocError>
     Ok(folder)
 }
 
-// Replays so many entries of the log, and judges what they leave.
+// Replays `entries` entries of the log, and judges the result.
 fn judge_beginning(
     rt: &(impl Abort + Print + Threads + Wait + Sync),
     alloc: Global,
@@ -150,8 +150,7 @@ fn judge_beginning(
     Ok(())
 }
 
-// Records a script that ends by a crash, and replays and
-// judges each beginning of the log that is found.
+// Records a script that ends by a crash. Replays and judges each prefix of the log that is found.
 fn force(
     rt: &(impl Abort + Print + Threads + Wait + Sync),
     alloc: Global,
@@ -171,7 +170,7 @@ fn force(
     Ok(())
 }
 
-// Forces the script of a seed, crashed at each of its lines.
+// Runs the script of a seed, crashed at each of its lines.
 fn force_seed(
     rt: &(impl Abort + Print + Threads + Wait + Sync),
     alloc: Global,

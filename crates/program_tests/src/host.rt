@@ -11,10 +11,10 @@ use std::process::Abort;
 use std::test::Fail;
 use std::{fs, io};
 
-// The most bytes that are read here.
+// The most bytes that these tests read.
 const LIMIT: u64 = 1_000_000;
 
-// A disk of so many sectors of zeroes, of which this one has this byte throughout.
+// Returns a disk of `sectors` sectors of zeroes, except that one sector is filled with this byte.
 pub(crate) fn disk_with(
     alloc: Global,
     sectors: u64,
@@ -29,12 +29,12 @@ pub(crate) fn disk_with(
     Ok(disk)
 }
 
-// A disk of one sector, which has this byte throughout.
+// Returns a disk of one sector, which is filled with this byte.
 pub(crate) fn disk_of(alloc: Global, byte: u8) -> Result<SectorDisk, Fail> {
     disk_with(alloc, 1, 0, byte)
 }
 
-// Whether the file of a name holds these bytes.
+// Returns whether the file of a name has these bytes.
 pub(crate) fn holds<R: std::rt::Files>(
     runtime: &R,
     alloc: Global,
@@ -47,7 +47,7 @@ pub(crate) fn holds<R: std::rt::Files>(
     }
 }
 
-// Whether an image is these bytes.
+// Returns whether an image is these bytes.
 pub(crate) fn has_bytes(alloc: Global, image: &Image, bytes: &[u8]) -> bool {
     match image.to_vec(alloc) {
         Ok(read) => read.as_slice() == bytes,
@@ -55,7 +55,7 @@ pub(crate) fn has_bytes(alloc: Global, image: &Image, bytes: &[u8]) -> bool {
     }
 }
 
-// A file is replaced by a shorter one, and read where it isn't too long.
+// A file is replaced by a shorter one, and read if it isn't too long.
 fn check_lengths<F: Files>(
     rt: &impl Abort,
     alloc: Global,
@@ -70,8 +70,8 @@ fn check_lengths<F: Files>(
     Ok(())
 }
 
-// The image of a disk is written and read again: of several pieces, with zeroes before and behind
-// the one sector that has this byte.
+// The image of a disk is written and read again. It has several pieces, with zeroes before and
+// after the one sector that has this byte.
 fn check_written<F: Files>(
     rt: &impl Abort,
     alloc: Global,
@@ -90,7 +90,7 @@ fn check_written<F: Files>(
     Ok(())
 }
 
-// Zeroes are there before, between and behind what was written, though none was written.
+// Zeroes are there before, between and after what was written, though none was written.
 fn check_zeroes<F: Files>(
     rt: &impl Abort,
     alloc: Global,
@@ -104,8 +104,8 @@ fn check_zeroes<F: Files>(
     check_written(rt, alloc, files, name, 1499, 7)
 }
 
-// Nothing is left beside a file that was written, and one
-// that isn't there, or has no folder, is refused.
+// Nothing else is left next to a file that was written. A file that doesn't exist, or has no
+// folder, is refused.
 fn check_gone<R: std::rt::Files + Abort, F: Files>(
     rt: &R,
     alloc: Global,
@@ -141,7 +141,7 @@ fn files_are_read_as_they_were_written(rt: HostRuntime) -> Result<(), Fail> {
     )
 }
 
-// Makes a file of a mode of its own, and a link to it.
+// Makes a file with a mode that isn't the default, and a link to it.
 fn link_to<R: std::rt::Files>(runtime: &R, name: &str, link: &str) -> io::Result<()> {
     fs::write(runtime, name, b"old".as_slice())?;
     let mut mode = fs::metadata(runtime, name)?.permissions();
@@ -150,7 +150,7 @@ fn link_to<R: std::rt::Files>(runtime: &R, name: &str, link: &str) -> io::Result
     symlink(runtime, name, link)
 }
 
-// The mode of a file.
+// Returns the mode of a file.
 fn mode_of<R: std::rt::Files>(runtime: &R, name: &str) -> io::Result<u32> {
     Ok(fs::metadata(runtime, name)?.permissions().mode() % 0o1000)
 }
@@ -200,7 +200,7 @@ fn links_and_modes_are_kept(rt: HostRuntime) -> Result<(), Fail> {
     )
 }
 
-// A file of somebody else beside a file that is written stays.
+// Somebody else's file next to a file that is written stays.
 fn check_beside<R: std::rt::Files + Abort, F: Files>(
     rt: &R,
     alloc: Global,
@@ -221,8 +221,8 @@ fn files_beside_are_kept(rt: HostRuntime) -> Result<(), Fail> {
     check_beside(&rt, rt.alloc(), &mut HostFiles::new(&rt, rt.alloc()))
 }
 
-// A file in the memory of the machine is a file as any
-// other: it is replaced, though its name begins with /dev/.
+// A file in the machine's memory is a file like any other: it is replaced, though its name begins
+// with /dev/.
 #[test]
 fn files_in_memory_are_replaced(rt: HostRuntime) -> Result<(), Fail> {
     let alloc = rt.alloc();

@@ -1,4 +1,4 @@
-//! Layers under the log that fail calls, and what stands in the log then.
+//! Layers under the log that fail calls, and what the log then has.
 use crate::commands::{folder_of, output_of};
 use dmlw_files::Files;
 use std::alloc::Global;
@@ -9,7 +9,7 @@ use std::test::Fail;
 use std::thread::Threads;
 use test_devices::holds;
 
-// The log of a whole run of the script below, as it is listed behind its first line.
+// The log of a whole run of the script below, as it is listed after its first line.
 const WHOLE: &str = "0 @1 write 5+1;1 @3 flush;2 @4 mark dm-log-writes-end;";
 
 const LOWER: [&str; 4] = [
@@ -19,14 +19,14 @@ const LOWER: [&str; 4] = [
     "0 32 fuse disk 0 7",
 ];
 
-// The log's disk under two layers and a fuse of so many calls.
+// Returns a script with the log's disk under two layers and a fuse of `calls` calls.
 fn layered(alloc: Global, first: &str, second: &str, calls: u64) -> Result<String, Fail> {
     Ok(format!(in alloc;
         "data 16\nlog 32\nlog-layer {first}\nlog-layer {second}\nlog-layer 0 32 fuse disk 0 {calls}\nw a 5 1 41\nc a\nf b\nc b\nclose\n"
     )?)
 }
 
-// What is listed of a log is its first line, and a prefix of the whole list.
+// Returns whether the listing of a log is its first line and a prefix of the whole list.
 fn is_beginning(listed: &str) -> bool {
     match listed.split_once(';') {
         Some((_super, entries)) => WHOLE.starts_with(entries),
@@ -34,7 +34,7 @@ fn is_beginning(listed: &str) -> bool {
     }
 }
 
-// Under these two layers and a fuse of so many calls what is listed is a prefix.
+// Checks that under these two layers and a fuse of `calls` calls the listing is a prefix.
 fn check_layers(
     rt: &(impl Abort + Print + Threads + Wait + Sync),
     alloc: Global,
@@ -48,8 +48,8 @@ fn check_layers(
     Ok(())
 }
 
-// Each layer over each, and a fuse of 0 to 6 calls over both: where a log could be made, its
-// entries are a prefix of the list.
+// Each layer over each, and a fuse of 0 to 6 calls over both: if a log could be made, its entries
+// are a prefix of the list.
 #[test]
 fn layers_leave_beginnings(rt: HostRuntime) -> Result<(), Fail> {
     let alloc = rt.alloc();
@@ -63,8 +63,8 @@ fn layers_leave_beginnings(rt: HostRuntime) -> Result<(), Fail> {
     Ok(())
 }
 
-// What is listed of the log that a script leaves; a whole list where it leaves none, since its
-// device can't be written.
+// Returns the listing of the log that a script leaves. If its device can't be written and it leaves
+// no log, returns the whole list.
 fn listed_of(
     rt: &(impl Threads + Wait + Sync),
     alloc: Global,
@@ -73,7 +73,7 @@ fn listed_of(
     list_after(rt, alloc, &mut folder_of(alloc, script)?)
 }
 
-// The same of the script of some files.
+// As above, for the script of some files.
 fn list_after<F: Files>(
     rt: &(impl Threads + Wait + Sync),
     alloc: Global,

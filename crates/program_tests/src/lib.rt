@@ -1,6 +1,6 @@
-//! Tests of the program that only code can ask: the system's files, lack of memory, sizes that no
+//! Tests of the program that only code can make: the system's files, lack of memory, sizes that no
 //! file of a test has, generated scripts, and public calls that no command shows whole. What a
-//! command prints and writes is a transcript (`transcripts`).
+//! command prints and writes is tested by a transcript (`transcripts`).
 #![tactic(auto)]
 
 #[cfg(test)]

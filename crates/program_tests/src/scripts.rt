@@ -1,4 +1,4 @@
-//! What a script and a table's line are read as, field by field, and texts of any length.
+//! What a script and a table's line are parsed as, field by field, and texts of any length.
 use dmlw_script::{print_script, *};
 use std::alloc::{AllocError, Global};
 use std::io::Print;
@@ -7,7 +7,7 @@ use std::test::Fail;
 use table_line::{TableError, parse_line};
 use test_devices::{is_told, rows_are_told};
 
-// What reading a text answers: the printed script, or the fault.
+// Returns the result of parsing a text: the printed script, or the fault.
 fn answer(alloc: Global, text: &[u8]) -> Result<String, AllocError> {
     match read_script(alloc, text) {
         Ok(script) => printed(alloc, &script),
@@ -15,7 +15,7 @@ fn answer(alloc: Global, text: &[u8]) -> Result<String, AllocError> {
     }
 }
 
-// A script as its text.
+// Returns a script as its text.
 fn printed(alloc: Global, script: &Script) -> Result<String, AllocError> {
     match String::from_utf8(print_script(alloc, script)?) {
         Ok(text) => Ok(text),
@@ -23,8 +23,8 @@ fn printed(alloc: Global, script: &Script) -> Result<String, AllocError> {
     }
 }
 
-// The sizes of a script's disks, its names, how many commands it has, and the lines of its text
-// where the last of these and the one behind it stand.
+// Returns the sizes of a script's disks, its names and its number of commands. Also returns the
+// lines of its text that have the last command and the one after it.
 fn parts_of(alloc: Global, text: &[u8], script: &Script) -> Result<String, AllocError> {
     let mut names = String::new(alloc);
     for name in script.names() {
@@ -40,7 +40,7 @@ fn parts_of(alloc: Global, text: &[u8], script: &Script) -> Result<String, Alloc
     )
 }
 
-// A script without a crash has these parts.
+// Checks that a script without a crash has these parts.
 fn check_parts(
     rt: &(impl Abort + Print),
     alloc: Global,
@@ -62,7 +62,7 @@ fn first_run(rt: HostRuntime) -> Result<(), Fail> {
     check_parts(&rt, alloc, text, &script, "16 32 a1 b1 5 Some(10) None")
 }
 
-// The picks of a crash, and its line, which no command names.
+// The picks of a crash, and its line, which no command has.
 #[test]
 fn crashes_end_scripts(rt: HostRuntime) -> Result<(), Fail> {
     let alloc = rt.alloc();
@@ -72,13 +72,13 @@ fn crashes_end_scripts(rt: HostRuntime) -> Result<(), Fail> {
     Ok(())
 }
 
-// A script of one command ends by a crash with these picks.
+// Checks that a script of one command ends by a crash with these picks.
 fn check_crash(rt: &impl Abort, script: &Script, wanted: &[u64]) {
     let picks = script.crash().expect(rt, "a crash");
     assert!(rt; picks == wanted && script.commands().len() == 1);
 }
 
-// A script of many requests, and of a crash with many picks.
+// Returns a script of many requests, and of a crash with many picks.
 fn long_script(alloc: Global) -> Result<String, AllocError> {
     let mut text = String::from_str(alloc, "data 16\nlog 32\n")?;
     for number in 0..20_000 {
@@ -99,7 +99,7 @@ fn long_scripts_are_read(rt: HostRuntime) -> Result<(), Fail> {
     Ok(())
 }
 
-// How long the texts of a script's marks are together.
+// Returns the total length of the texts of a script's marks.
 fn count_marked(script: &Script) -> usize {
     let mut total: usize = 0;
     for command in script.commands() {
@@ -110,13 +110,13 @@ fn count_marked(script: &Script) -> usize {
     total
 }
 
-// The same of the script of a text.
+// As above, for the script of a text.
 fn marked_in(alloc: Global, text: &[u8]) -> Result<usize, Fail> {
     let script = read_script(alloc, text)?;
     Ok(count_marked(&script))
 }
 
-// A script of marks of these lengths.
+// Returns a script of marks of these lengths.
 fn script_of_marks(alloc: Global) -> Result<String, AllocError> {
     let mut text = String::from_str(alloc, "data 16\nlog 32\n")?;
     for length in [0, 1, 479, 480, 600, 70_000] {
@@ -127,7 +127,7 @@ fn script_of_marks(alloc: Global) -> Result<String, AllocError> {
     Ok(text)
 }
 
-// Appends so often an x.
+// Appends `count` letters x.
 fn push_often(text: &mut String, count: usize) -> Result<(), AllocError> {
     for _ in 0..count {
         text.push_str("x")?;
@@ -135,7 +135,7 @@ fn push_often(text: &mut String, count: usize) -> Result<(), AllocError> {
     Ok(())
 }
 
-// Marks of any length are read, each with its own text.
+// Marks of any length are parsed, each with its text.
 #[test]
 fn marks_keep_their_texts(rt: HostRuntime) -> Result<(), Fail> {
     let alloc = rt.alloc();
@@ -145,7 +145,7 @@ fn marks_keep_their_texts(rt: HostRuntime) -> Result<(), Fail> {
     Ok(())
 }
 
-// Each message of a script: its disk, its layer, and how long its text is.
+// Returns each message of a script: its disk, its layer, and the length of its text.
 fn messages_of(alloc: Global, script: &Script) -> Result<String, Fail> {
     let mut shown = String::new(alloc);
     for command in script.commands() {
@@ -156,12 +156,12 @@ fn messages_of(alloc: Global, script: &Script) -> Result<String, Fail> {
     Ok(shown)
 }
 
-// The same of the script of a text.
+// As above, for the script of a text.
 fn messages_read(alloc: Global, text: &[u8]) -> Result<String, Fail> {
     messages_of(alloc, &read_script(alloc, text)?)
 }
 
-// A script of a short message and of a long one.
+// Returns a script of a short message and of a long one.
 fn script_of_messages(alloc: Global) -> Result<String, AllocError> {
     let begun = "data 16\nlog 32\nmessage log 4  up \nmessage data 0 ";
     let mut text = String::from_str(alloc, begun)?;
@@ -178,7 +178,7 @@ fn messages_keep_their_words(rt: HostRuntime) -> Result<(), Fail> {
     Ok(())
 }
 
-// How many lines a script's head has, and the sizes of its disks.
+// Returns the number of lines of a script's head, and the sizes of its disks.
 fn disks_of(alloc: Global, script: &Script) -> Result<String, Fail> {
     let (data, log) = (script.data(), script.log());
     Ok(format!(in alloc;
@@ -191,12 +191,12 @@ fn disks_of(alloc: Global, script: &Script) -> Result<String, Fail> {
     )?)
 }
 
-// The same of the script of a text.
+// As above, for the script of a text.
 fn disks_read(alloc: Global, text: &[u8]) -> Result<String, Fail> {
     disks_of(alloc, &read_script(alloc, text)?)
 }
 
-// A script with a layer over each disk, and what its disks are.
+// A script with a layer over each disk, and the disks that are parsed.
 #[test]
 fn disks_have_layers(rt: HostRuntime) -> Result<(), Fail> {
     let text = b"data 16\nlog 32\n\ndata-layer 0 8 linear disk 4\nlog-layer 0 9 error\nat 7\nf a\n";
@@ -206,8 +206,8 @@ fn disks_have_layers(rt: HostRuntime) -> Result<(), Fail> {
     Ok(())
 }
 
-// A line, and each field of what it is read as; a name
-// stands for each target, whose own fields stand behind it.
+// A line, and each field of what it is parsed as. A name is printed for each target, followed by
+// the target's fields.
 const VALUES: &str = "0 16 linear a 8=LayerSpec { length: 16, offset: 8, target: Linear }
 0 7 error=LayerSpec { length: 7, offset: 0, target: Error }
 0 9 fuse b 2 3=LayerSpec { length: 9, offset: 2, target: Fuse { calls: 3 } }
@@ -215,7 +215,7 @@ const VALUES: &str = "0 16 linear a 8=LayerSpec { length: 16, offset: 8, target:
 0 9 dust b 2 1024=LayerSpec { length: 9, offset: 2, target: Dust { block_bytes: 1024 } }
 0 9 delay b 2 10 b 2 20 b 2 30=LayerSpec { length: 9, offset: 2, target: Delay { read: 10, write: 20, flush: 30 } }";
 
-// What a line is read as.
+// Returns what a line is parsed as.
 fn value_of(alloc: Global, line: &str) -> Result<String, Fail> {
     let spec = parse_line(line.as_bytes())?;
     Ok(format!(in alloc; "{spec:?}")?)
@@ -231,7 +231,7 @@ fn values(rt: HostRuntime) -> Result<(), Fail> {
 const ERRORS: &str =
     "no target of this name\ntoo many words, or too few\na word that is no number\na value out of its range\nno such feature";
 
-// Each error is shown in words of its own.
+// Each error is shown in different words.
 #[test]
 fn errors_are_shown(rt: HostRuntime) -> Result<(), Fail> {
     let shown = format!(in rt.alloc();

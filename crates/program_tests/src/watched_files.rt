@@ -1,5 +1,5 @@
-// How the system's files are written: what they hold, and what was called in which order. How a
-// file is read that gives its bytes once, or few at a time.
+// How the system's files are written: their content, and the order of the calls. How a file is read
+// that gives its bytes once, or a few at a time.
 use crate::host::{disk_with, has_bytes, holds};
 use dmlw_files::{FileError, FileFailure, Files, HostFiles};
 use sector_disk::Image;
@@ -22,16 +22,16 @@ enum Failing {
     Rename,
 }
 
-// What was called of a runtime's files.
+// The calls of a runtime's files.
 #[derive(Drop)]
 struct Noted {
     failing: Failing,
     // Whether a file was changed since it was synced.
     is_changed: Cell<bool>,
-    // Whether a file got another's name before it was synced.
+    // Whether a file got another file's name before it was synced.
     is_early: Cell<bool>,
     renames: Cell<u64>,
-    // How many bytes were written.
+    // The number of bytes that were written.
     written: Cell<u64>,
 }
 
@@ -46,7 +46,7 @@ impl Noted {
         }
     }
 
-    // Fails the call that is to fail.
+    // Fails the call that has to fail.
     fn passes(&self, call: Failing) -> io::Result<()> {
         if self.failing == call {
             return Err(io::Error::from(io::ErrorKind::Other));
@@ -58,15 +58,15 @@ impl Noted {
 // The most bytes that a file of the runtime below gives at a time.
 const SHORT: usize = 1000;
 
-// A runtime that notes what is called of its files. A file whose name ends with `-pipe` is no
-// regular file, and is empty once it was opened.
+// A runtime that notes the calls of its files. A file whose name ends with `-pipe` is no regular
+// file, and is empty after it was opened.
 #[derive(Drop)]
 struct Watched<'a, R: std::rt::Files> {
     runtime: &'a R,
     noted: &'a Noted,
 }
 
-// A file of it.
+// A file of this runtime.
 #[derive(Drop)]
 struct WatchedFile<'a, F: Drop> {
     file: F,
@@ -196,9 +196,9 @@ impl<'a, R: std::rt::Files> std::rt::Files for Watched<'a, R> {
     }
 }
 
-// Writes the image of a disk, of three pieces, over an older file, and says whether that was done:
-// the last two pieces are zeroes. An older file that isn't replaced stays, and nothing is left
-// beside.
+// Writes the image of a disk, of three pieces, over an older file, and returns whether this
+// succeeded. The last two pieces are zeroes. An older file that isn't replaced stays, and nothing
+// else is left.
 fn check_written<R: std::rt::Files + Abort>(
     rt: &R,
     alloc: Global,
@@ -249,8 +249,8 @@ fn files_that_fail_leave_the_older_ones(rt: HostRuntime) -> Result<(), Fail> {
     Ok(())
 }
 
-// Another name of an older file still has its bytes: the file
-// was replaced, and neither cut off nor written over.
+// Another name of an older file still has its bytes: the file was replaced, and neither cut off nor
+// overwritten.
 fn check_replaced<R: std::rt::Files + Abort>(
     rt: &R,
     alloc: Global,
@@ -272,7 +272,7 @@ fn files_are_replaced_whole(rt: HostRuntime) -> Result<(), Fail> {
     check_replaced(&rt, rt.alloc(), "dmlw-test-one", "dmlw-test-other")
 }
 
-// Whether a file was read as these bytes.
+// Returns whether a file was read as these bytes.
 fn is_read(alloc: Global, found: Result<Image, FileError>, bytes: &[u8]) -> bool {
     match found {
         Ok(read) => has_bytes(alloc, &read, bytes),
@@ -280,7 +280,7 @@ fn is_read(alloc: Global, found: Result<Image, FileError>, bytes: &[u8]) -> bool
     }
 }
 
-// What was read of two pipes is found again, though both are empty.
+// The bytes that were read from two pipes are found again, though both are empty.
 fn check_pipes<R: std::rt::Files + Abort>(rt: &R, alloc: Global) -> Result<(), Fail> {
     let (one, other) = ("dmlw-test-one-pipe", "dmlw-test-one-pipe-other-pipe");
     fs::write(rt, one, b"first".as_slice())?;
@@ -322,7 +322,8 @@ fn regular_files_are_read_anew(rt: HostRuntime) -> Result<(), Fail> {
     Ok(())
 }
 
-// A pipe of 4 MiB is read again. One of more, or one that was too long for its first read, isn't.
+// A pipe of 4 MiB can be read again. A longer one, or one that was too long for its first read,
+// can't.
 fn check_long_pipes<R: std::rt::Files + Abort>(rt: &R, alloc: Global) -> Result<(), Fail> {
     let most = "dmlw-test-most-pipe";
     let long = "dmlw-test-long-pipe";
@@ -361,7 +362,7 @@ fn long_pipes_are_read_once(rt: HostRuntime) -> Result<(), Fail> {
     check_long_pipes(&rt, rt.alloc())
 }
 
-// Whether a read failed since its file gives its bytes once.
+// Returns whether a read failed because its file gives its bytes once.
 fn is_unseekable(failure: Option<&FileFailure>) -> bool {
     match failure {
         Some(FileFailure::Read(error)) => error.kind() == io::ErrorKind::NotSeekable,

@@ -12,37 +12,37 @@ use Rattle.refusals.specs.declared.run_error.RunError.{RunError}
 use Rattle.refusals.specs.declared.run_error.RunError.TheVariants.{Refused, LoggingEnded}
 use Rattle.refusals.specs.declared.run_error.RunError.TheVariants.{StoppedAfter}
 
--- a refusal that names no line
+-- the error with this refusal, and no line
 abbrev pub refused_by : Refusal → RunError
 refused_by refusal = Refused (without_line refusal)
 
--- there was no memory
+-- the error of a lack of memory
 abbrev pub memory_error : RunError
 memory_error = refused_by refusals.Memory
 
--- the refusal that an output or a file is shown by that failed for this kind of reason
+-- the refusal that is shown for an output or a file that failed with an error of this kind
 abbrev pub io_refusal : ErrorKind → Refusal
 io_refusal kinds.OutOfMemory = refusals.Memory
 io_refusal _ = refusals.File
 
--- a file or an output can't be read or written, or there is no memory for it
+-- a file or an output can't be read or written, or memory lacks for it
 abbrev pub IsFileError : RunError → Type 0
 IsFileError error = (error ≡ refused_by refusals.File) ⊎ (error ≡ memory_error)
 
--- the fault that it is told by: its own, or the refusal of the cause that ended logging, or the one
--- at which a log's entries stopped
+-- the error's fault: its own, or the refusal of the cause that ended logging, or the refusal that
+-- stopped the log's entries
 abbrev pub fault_of : RunError → Fault
 fault_of (Refused fault) = fault
 fault_of (LoggingEnded end) = without_line (end_refusal end)
 fault_of (StoppedAfter applied refusal) = without_line refusal
 
--- how many entries of a log were taken before
+-- the number of the log's entries that were taken before the error
 abbrev pub taken_before : RunError → ℕ
 taken_before (StoppedAfter applied refusal) = applied
 taken_before other = 0
 
--- how it is shown: by its fault, by the refusal of the cause that ended logging, or by the refusal
--- at which a log's entries stopped, and after how many of them
+-- How the error is shown: its fault, or the refusal of the cause that ended logging. For a replay
+-- or a copy, it is the refusal that stopped the log's entries, and the number of entries before it.
 abbrev pub error_text : RunError → List ℕ
 error_text (Refused fault) = fault_text fault
 error_text (LoggingEnded end) = refusal_text (end_refusal end)

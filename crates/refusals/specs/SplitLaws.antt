@@ -16,7 +16,7 @@ parts_of line = slice_split (λ byte. byte == 32) line
 
 -- ---- a space
 
--- one more byte in front, where there is a first part
+-- adds a byte in front, if there is a first part
 onto_front : (t : Bool) (b : ℕ) (whole parts rest : List (List ℕ))
     → ((first : List ℕ) × (more : List (List ℕ)) × (parts ≡ first ∷ more))
     → whole ≡ parts ++ rest
@@ -24,7 +24,7 @@ onto_front : (t : Bool) (b : ℕ) (whole parts rest : List (List ℕ))
 onto_front true b whole parts rest some e = ap (λ xs. [] ∷ xs) e
 onto_front false b whole parts rest some e = ap (onto_first b) e ∙ rw some.2 refl
 
--- there is a first part
+-- the new list has a first part
 first_step : (t : Bool) (b : ℕ) (parts : List (List ℕ))
     → ((first : List ℕ) × (more : List (List ℕ)) × (parts ≡ first ∷ more))
     → (first : List ℕ) × (more : List (List ℕ))
@@ -37,7 +37,7 @@ some_part : (line : List ℕ)
 some_part [] = ([], [], refl)
 some_part (b ∷ line) = first_step (b == 32) b (parts_of line) (some_part line)
 
--- the parts before a space, and those behind it
+-- the parts before a space, and those after it
 parts-space : (before after : List ℕ)
     → parts_of (before ++ 32 ∷ after) ≡ parts_of before ++ parts_of after
 parts-space [] after = refl
@@ -45,7 +45,7 @@ parts-space (b ∷ before) after =
     onto_front (b == 32) b (parts_of (before ++ 32 ∷ after)) (parts_of before) (parts_of after)
     (some_part before) (parts-space before after)
 
--- the words before a space, and those behind it
+-- the words before a space, and those after it
 pub words_of_space : (before after : List ℕ)
     → words_of (before ++ 32 ∷ after) ≡ words_of before ++ words_of after
 words_of_space before after =
@@ -54,7 +54,7 @@ words_of_space before after =
 
 -- ---- one word
 
--- one more byte in front of the one part
+-- adds a byte in front of the one part
 part_step : (t : Bool) (b : ℕ) (word : List ℕ) (parts : List (List ℕ)) → not t ≡ true
     → parts ≡ word ∷ []
     → cond t ([] ∷ parts) (onto_first b parts) ≡ (b ∷ word) ∷ []

@@ -9,7 +9,7 @@ use Rattle.refusals.specs.Table.{row_of}
 abbrev pub refusal_text : Refusal → List ℕ
 refusal_text refusal = decimal (row_of refusal).0 ++ codes " " ++ (row_of refusal).1
 
--- a refusal is shown after the line that is at fault, where there is one
+-- a refusal is shown after the line that is at fault, if there is one
 abbrev pub refused_at : Option ℕ → Refusal → List ℕ
 refused_at (Some line) refusal = codes "line " ++ decimal line ++ codes ": " ++ refusal_text refusal
 refused_at None refusal = refusal_text refusal

@@ -23,11 +23,11 @@ number_again word n is = cond-true _ _ _ is.0 ∙ ap Some is.1
 pub number_low : (word : List ℕ) (n : ℕ) → IsNumber word n → n < 2 ^ 64
 number_low word n is = subst (λ (k : ℕ). k < 2 ^ 64) is.1 (ltb-true _ _ (and_parts _ _ is.0).1)
 
--- the decimal digits of std are ours
+-- For the prover: the standard library's decimal digits are those of `number_value`.
 pub number_model : IsNumeralModel (λ ds. list_all is_ascii_digit ds ≡ true) number_value
 number_model = numerals_by_fold _ (search rules) number_after (search rules)
 
--- what is written of a number is that number
+-- the decimal digits of a number are that number
 pub decimal_number : (n : ℕ) → n < 2 ^ 64 → IsNumber (decimal n) n
 decimal_number n low =
     let value : number_value (decimal n) ≡ n = digits_value-decimal number_model n low in
@@ -39,7 +39,7 @@ decimal_number n low =
     lt-ltb _ _ (subst (λ (k : ℕ). k < 2 ^ 64) (sym value) low) in
     (and_from _ _ (and_from _ _ (and_from _ _ some short) digits) below, value)
 
--- a zero in front of a number doesn't count
+-- a zero in front of a number doesn't change it
 pub zero_in_front : (word : List ℕ) (n : ℕ) → IsNumber word n → length word < 20
     → IsNumber (48 ∷ word) n
 zero_in_front word n number short =

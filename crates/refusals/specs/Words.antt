@@ -4,25 +4,25 @@ use Rattle.std.specs.Prelude.{◌∷◌, Option, Some, None, length, nat_lt, nat
 use Rattle.std.specs.Char.{is_ascii_digit}
 use Rattle.std.specs.List.{filter, list_all, slice_split}
 
--- what stands before the first such byte, or all if there is none
+-- the bytes before the first `mark`, or all of them if there is none
 abbrev pub before_byte : ℕ → List ℕ → List ℕ
 before_byte mark [] = []
 before_byte mark (b ∷ bytes) = if b == mark then [] else b ∷ before_byte mark bytes
 
--- what stands after the first such byte, where there is one
+-- the bytes after the first `mark`, if there is one
 abbrev pub after_byte : ℕ → List ℕ → Option (List ℕ)
 after_byte mark [] = None
 after_byte mark (b ∷ bytes) = if b == mark then Some bytes else after_byte mark bytes
 
--- whether there is a byte in it
+-- the word has at least one byte
 abbrev pub is_filled : List ℕ → Bool
 is_filled word = not (length word == 0)
 
--- the words of a line: what stands between its spaces, where that isn't empty
+-- the words of a line: the parts between its spaces that aren't empty
 abbrev pub words_of : List ℕ → List (List ℕ)
 words_of line = filter is_filled (slice_split (λ byte. byte == 32) line)
 
--- it is one word: filled, with no space in it
+-- these bytes are one word: not empty, and without a space
 abbrev pub is_word : List ℕ → Bool
 is_word word = is_filled word && list_all (λ byte. not (byte == 32)) word
 

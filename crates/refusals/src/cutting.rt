@@ -1,9 +1,9 @@
-//! Cuts a text at the first byte of a kind.
-//! The readers of script lines and of dm-dust's messages take their words so.
+//! Cuts a text at the first byte of a value. The parsers of script lines and of dm-dust's messages
+//! split their words by it.
 ghost use Rattle.std.specs.Prelude.{◌≡◌, ◌==◌, option_copied, position};
 ghost use Rattle.refusals.specs.Words.{before_byte, after_byte};
 
-/// The bytes before the first `mark`, and those after it where it is there.
+/// Returns the bytes before the first `mark`, and those after it if there is one.
 #[tactic(auto, using(crate::proofs::WordLemmas::front_by_place, crate::proofs::WordLemmas::behind_by_place))]
 pub fn cut(bytes: &[u8], mark: u8) -> (&[u8], Option<&[u8]>)
     ensures before_byte { result.0.now ≡ before_byte mark bytes.now }
@@ -15,7 +15,7 @@ pub fn cut(bytes: &[u8], mark: u8) -> (&[u8], Option<&[u8]>)
     }
 }
 
-// The place of the first `mark`.
+// Returns the place of the first `mark`.
 fn place_of(bytes: &[u8], mark: u8) -> Option<usize>
     ensures { result ≡ position (λ b. b == mark) bytes.now }
 {

@@ -1,4 +1,4 @@
-//! Why logging ended.
+//! The causes that end logging.
 ghost use Rattle.std.specs.Prelude.{◌≡◌};
 ghost use Rattle.refusals.specs.Ends.{end_refusal};
 
@@ -14,7 +14,7 @@ pub enum End {
     /// The log's device failed.
     #[error("the log's device failed")]
     Device,
-    /// There was no memory.
+    /// Memory lacked.
     #[error("no memory for the log")]
     Memory,
 }

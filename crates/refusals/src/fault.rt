@@ -1,4 +1,4 @@
-//! What a user reads of a refusal: its number and name, and for a script the line that is at fault.
+//! What a user reads of a refusal: its number and name, and for a script the line at fault.
 ghost use Rattle.std.specs.Prelude.{◌≡◌, Some};
 ghost use Rattle.refusals.specs.Texts.{fault_text, without_line};
 
@@ -6,16 +6,15 @@ use crate::refusal::Refusal;
 use std::error::Error;
 use std::fmt;
 
-/// What a user reads: a refusal, and for a script the line that is at fault.
+/// What a user reads: a refusal, and for a script the line at fault.
 #[derive(Clone, Copy, Debug, PartialEq, Eq)]
 pub struct Fault {
-    /// The line that is at fault, counted from 1; none
-    /// where no line is to blame, as when memory ran out.
+    /// The line at fault, counted from 1; none if no line is to blame, as when memory ran out.
     pub line: Option<u64>,
     pub refusal: Refusal,
 }
 
-/// `line <n>: <number> <name>`, or `<number> <name>` where no line is at fault.
+/// Prints `line <n>: <number> <name>`, or `<number> <name>` if no line is at fault.
 impl fmt::Display for Fault {
     ghost output = { λ fault. Some (fault_text fault) };
 

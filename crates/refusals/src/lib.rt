@@ -1,13 +1,13 @@
-//! What all crates share: what the project refuses by and how that is shown, why a command ends
-//! before its time, and the words of a line.
+//! What all crates share: the project's refusals and how they are shown, why a command ends before
+//! its time, and the words of a line.
 //!
 //! A `Refusal` is a row of one table: a number from 1 to 38 and a name (`specs/Table`). A `Fault`
-//! is a refusal and, for a script, the line that is at fault; it is shown as `24 Busy` or
-//! `line 4: 24 Busy` (`specs/Texts`). `End` is why logging ended, and `RunError` the error of a
-//! script's run and of each command: a fault, or the cause that ended logging (`specs/Errors`).
-//! Each error of a call, in any crate, turns into the refusal that it is shown by.
+//! is a refusal and, for a script, the line at fault; it is shown as `24 Busy` or `line 4: 24 Busy`
+//! (`specs/Texts`). `End` is why logging ended. `RunError` is the error of a script's run and of
+//! each command: a fault, or the cause that ended logging (`specs/Errors`). Each error of a call,
+//! in any crate, turns into the refusal that is shown for it.
 //!
-//! `cut`, `count_words` and `word_at` take the words of a line, `number_of` reads decimal digits,
+//! `cut`, `count_words` and `word_at` split a line into words, `number_of` parses decimal digits,
 //! and `push_number` prints them (`specs/Words`).
 #![tactic(auto)]
 

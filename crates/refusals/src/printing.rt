@@ -4,7 +4,7 @@ ghost use Rattle.std.specs.Prelude.{◌≡◌, ◌<◌, ◌+◌, ◌++◌, ◌�
 
 use std::alloc::AllocError;
 
-/// Puts the decimal digits of a number behind a text: no leading zeroes.
+/// Appends the decimal digits of a number, without leading zeroes.
 #[tactic(auto, using(std::proofs::lemmas::Fmt::decimal_step, std::proofs::lemmas::Fmt::decimal_digit))]
 pub fn push_number(out: &mut Vec<u8>, number: u64) -> Result<(), AllocError>
     ensures { OnOk result (out.new.items ≡ out.old.items ++ decimal number) }
@@ -16,7 +16,7 @@ pub fn push_number(out: &mut Vec<u8>, number: u64) -> Result<(), AllocError>
     push_digit(out, (number % 10) as u8)
 }
 
-// A decimal digit.
+// Appends a decimal digit.
 fn push_digit(out: &mut Vec<u8>, digit: u8) -> Result<(), AllocError>
     requires { digit < 10 }
     ensures { OnOk result (out.new.items ≡ out.old.items ++ (48 + digit) ∷ []) }

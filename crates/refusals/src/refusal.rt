@@ -5,13 +5,13 @@ ghost use Rattle.refusals.specs.Texts.{refusal_text};
 
 use std::fmt;
 
-/// What the project refuses by. Each refusal has a number from 1 to 38 and a name; `Memory` and
-/// `EndMemory` share theirs.
+/// The reasons for which the project refuses. Each refusal has a number from 1 to 38 and a name.
+/// `Memory` and `EndMemory` share theirs.
 #[derive(Clone, Copy, Debug, PartialEq, Eq)]
 pub enum Refusal {
     /// A device failed in this call.
     Io,
-    /// A growth was refused.
+    /// Memory lacks.
     Memory,
     /// A request reaches past the device's end.
     PastEnd,
@@ -27,9 +27,9 @@ pub enum Refusal {
     NotBad,
     /// A table line names no target.
     UnknownTarget,
-    /// A table line has a number of words that the target doesn't have.
+    /// A table line has a number of words that its target doesn't allow.
     WrongCount,
-    /// A word of a table line is no number.
+    /// A word at a number's place in a table line is no number.
     BadNumber,
     /// A value of a table line is out of its range.
     OutOfRange,
@@ -41,17 +41,17 @@ pub enum Refusal {
     BadSectorSize,
     /// A mark has sectors or a text that is too long.
     BadMark,
-    /// An entry reaches past what a device can have.
+    /// An entry reaches past the largest size that a device can have.
     TooLarge,
     /// Logging ended: the next entry doesn't fit.
     Full,
     /// Logging ended: the log's device failed.
     Device,
-    /// Logging ended: a growth was refused.
+    /// Logging ended: memory lacked.
     EndMemory,
-    /// A log is shorter than it says.
+    /// A log is shorter than its count of entries needs.
     CutShort,
-    /// The reader has refused before.
+    /// The reader refused before.
     Failed,
     /// A mark's text has a zero byte.
     BadText,
@@ -71,7 +71,7 @@ pub enum Refusal {
     BadLine,
     /// A script's id is submitted twice, or isn't open.
     BadId,
-    /// A file can't be read or written, or has a length that it may not have.
+    /// A file can't be read or written, or has a length that isn't allowed.
     File,
     /// More entries are asked for than the log has.
     PastEntries,
@@ -81,14 +81,14 @@ pub enum Refusal {
     BadStep,
     /// A mark comes after the close.
     AfterClose,
-    /// The seats at a close aren't the recorder's own.
+    /// The seats at a close aren't the recorder's seats.
     Foreign,
     /// A thread can't be started.
     NoThread,
 }
 
 impl Refusal {
-    // The one table: number and name.
+    // Returns the number and the name, from the one table.
     fn row(self) -> (u8, &'static str)
         ensures number { result.0 ≡ (row_of self).0 }
         ensures name { result.1.now ≡ (row_of self).1 }
@@ -135,8 +135,8 @@ impl Refusal {
         }
     }
 
-    /// The number, from 1 to 38. It stands for one refusal:
-    /// its place in the list of all, counted from 1.
+    /// Returns the number, from 1 to 38. It names one refusal: its place in the list of all,
+    /// counted from 1.
     #[tactic(auto, using(crate::specs::Table::number_names))]
     pub fn number(self) -> u8
         ensures number { result ≡ (row_of self).0 }
@@ -145,7 +145,7 @@ impl Refusal {
         self.row().0
     }
 
-    /// The name that goes with the number.
+    /// Returns the name that belongs to the number.
     pub fn name(self) -> &'static str
         ensures { result.now ≡ (row_of self).1 }
     {

@@ -1,4 +1,4 @@
-//! Why a command ended before its time, whichever error it came from; the commands answer it.
+//! Why a command ended before its time, for any error. The commands return it.
 ghost use Rattle.std.specs.Prelude.{◌≡◌, Some};
 ghost use Rattle.std.specs.IoError.{error_kind};
 ghost use Rattle.refusals.specs.Errors.{error_text, fault_of, io_refusal, memory_error};
@@ -11,20 +11,21 @@ use crate::refusal::Refusal;
 use std::alloc::AllocError;
 use std::{fmt, io};
 
-/// Why a command ended before its time. It is shown as its fault: its line, if it names one, and
-/// its number and name; and where a log was taken entry by entry, behind how many it stopped.
+/// Why a command ended before its time. It is shown as its fault: the line, if one is at fault, and
+/// the number and name. If a log's entries were taken one by one, the number of entries before it
+/// follows.
 #[derive(Clone, Copy, Debug, PartialEq, Eq)]
 pub enum RunError {
     /// It was refused, for a script perhaps at a line.
     Refused(Fault),
     /// Logging ended before its time.
     LoggingEnded(End),
-    /// A replay or a copy of a log stopped, after so many of its entries.
+    /// A replay or a copy of a log stopped after `applied` of its entries.
     StoppedAfter { applied: u64, refusal: Refusal },
 }
 
 impl RunError {
-    /// The fault that it is told by: a script's line, if one is at fault, and a refusal.
+    /// Returns the error's fault: a script's line, if one is at fault, and a refusal.
     pub fn fault(self) -> Fault
         ensures { result ≡ fault_of self }
     {
@@ -35,7 +36,8 @@ impl RunError {
         }
     }
 
-    /// How many entries of a log were taken before; 0 where none were to be.
+    /// Returns the number of a log's entries that were taken before the error; 0 if the command
+    /// takes none.
     pub fn applied(self) -> u64
         ensures { result ≡ taken_before self }
     {

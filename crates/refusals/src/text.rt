@@ -1,9 +1,9 @@
-//! ASCII bytes as text; the caller shows that they are ASCII.
-//! `script_runner` hands the text of a message to a layer by it.
+//! ASCII bytes as text; the caller proves that they are ASCII. `script_runner` passes the text of a
+//! message to a layer by it.
 ghost use Rattle.std.specs.Prelude.{◌≡◌};
 ghost use Rattle.std.specs.Str.{IsAscii};
 
-/// ASCII bytes, as text.
+/// Returns ASCII bytes as text.
 pub fn ascii_text(bytes: &[u8]) -> &str
     requires { IsAscii bytes.now }
     ensures { result.now ≡ bytes.now }

@@ -2,17 +2,17 @@
 ghost use Rattle.std.specs.Prelude.{◌≡◌, ◌^◌, ◌<◌, ◌∷◌, ◌++◌, [], decimal, length, true, ℕ, List};
 ghost use Rattle.refusals.specs.Words.{is_word, words_of, IsNumber};
 
-/// A number is read of its decimal digits, and zeroes in
-/// front of them don't count, up to 20 digits.
+/// The decimal digits of a number are parsed as that number. Zeroes in front of a number don't
+/// change it, up to 20 digits.
 pub fn numbers_are_decimal()
     ensures digits { (n : ℕ) → n < 2 ^ 64 → IsNumber (decimal n) n }
     ensures zero { (word : List ℕ) (n : ℕ) → IsNumber word n → length word < 20
         → IsNumber (48 ∷ word) n }
 {}
 
-/// The words of a line stand between its spaces: a space cuts it in two,
-/// of which each has its own, and what is filled and has no space in it is
-/// one word. So more spaces than one, and those at an end, say nothing.
+/// A line's words are between its spaces. A space cuts the line in two, and each part has its own
+/// words. Bytes that aren't empty and have no space are one word. So more than one space, and
+/// spaces at an end, change nothing.
 #[tactic(auto, using(crate::specs::SplitLaws::words_of_space, crate::specs::SplitLaws::words_of_word))]
 pub fn words_stand_between_spaces()
     ensures none { words_of [] ≡ [] }

@@ -1,4 +1,4 @@
--- Layers one over another, from the lowest up, over a device.
+-- Layers over a device, each over the one before it, from the lowest up.
 use Rattle.std.specs.Prelude.{ℕ, ◌+◌, ◌≤◌, Bool, true, false, List, [], ◌∷◌}
 use Rattle.std.specs.List.{list_any}
 use Rattle.table_line.specs.declared.layer_spec.LayerSpec.{LayerSpec}
@@ -8,33 +8,33 @@ use Rattle.table_line.specs.declared.layer_spec.Target.{Target}
 use Rattle.table_line.specs.declared.layer_spec.Target.TheVariants as targets
 use Rattle.table_line.specs.Ranges.{IsLayerSpec}
 
--- the sectors of what stands on top of layers over a device of so many
+-- the sectors of the top of these layers, over a device of `sectors` sectors
 abbrev pub top_sectors : ℕ → List LayerSpec → ℕ
 top_sectors sectors [] = sectors
 top_sectors sectors (layer ∷ layers) = top_sectors layer.length layers
 
--- where the first sector of the top lies on a device, where
--- that of what stands beneath the layers lies here
+-- the sector of a device that is the top's first sector, if `origin` is the first sector of what
+-- lies below the layers
 abbrev pub top_origin : ℕ → List LayerSpec → ℕ
 top_origin origin [] = origin
 top_origin origin (layer ∷ layers) = top_origin (origin + layer.offset) layers
 
--- layers may stand one over another over a device of so many sectors: each is one that a line may
--- ask for, within what is beneath
+-- The layers can lie over one another, over a device of `sectors` sectors. A line may ask for each,
+-- and each lies within what is below it.
 abbrev pub CanStand : ℕ → List LayerSpec → Type 0
 CanStand sectors [] = Unit {0}
 CanStand sectors (layer ∷ layers) =
     IsLayerSpec layer × (layer.offset + layer.length ≤ sectors) × CanStand layer.length layers
 
--- with this feature a flakey layer, while it is down,
--- answers Ok to writes, discards and flushes, and drops them
+-- with this feature a flakey layer that is down answers Ok to writes, discards and flushes, and
+-- drops them
 abbrev pub is_drop_writes : Feature → Bool
 is_drop_writes features.None = false
 is_drop_writes features.ErrorReads = false
 is_drop_writes features.ErrorWrites = false
 is_drop_writes features.DropWrites = true
 
--- a layer that may tell of writes that they are done, and drop them
+-- whether the layer may report writes as done, and drop them
 abbrev pub drops_writes : Target → Bool
 drops_writes targets.Linear = false
 drops_writes targets.Error = false
@@ -43,6 +43,6 @@ drops_writes (targets.Fuse calls) = false
 drops_writes (targets.Dust bytes) = false
 drops_writes (targets.Delay read write flush) = false
 
--- one of the layers may
+-- whether one of the layers may
 abbrev pub some_drops : List LayerSpec → Bool
 some_drops = list_any (λ layer. drops_writes layer.target)

@@ -79,7 +79,7 @@ asks_in_range words spec is =
     let ranged = target_ranged is.target_words spec.offset spec.target is.asks in
     record { sectors = is.range; place = ranged.0; has = ranged.1 }
 
--- so is what is read
+-- what is parsed is in its range
 pub read_in_range : (words : List (List ℕ)) (answer : Result LayerSpec TableError)
     → answer ≡ read_words words → IfOk answer IsLayerSpec
 read_in_range words (Ok spec) is = asks_in_range words spec (said_read words spec (sym is))
@@ -87,13 +87,13 @@ read_in_range words (Err error) is = tt
 
 -- ---- what is printed
 
--- the first word, and the others behind a space each
+-- the joined words are the first word, and the others after a space each
 pub joined_behind : (word : List ℕ) (words : List (List ℕ))
     → join_with_byte 32 (word ∷ words) ≡ word ++ behind_spaces words
 joined_behind word [] = sym (append-nil word)
 joined_behind word (next ∷ words) = ap (λ (xs : List ℕ). word ++ 32 ∷ xs) (joined_behind next words)
 
--- so a line is printed piece by piece
+-- so a line can be printed piece by piece
 pub line_joined : (old sectors : List ℕ) (words : List (List ℕ)) →
     ((old ++ 48 ∷ []) ++ behind_spaces (sectors ∷ [])) ++ behind_spaces words
     ≡ old ++ 48 ∷ 32 ∷ join_with_byte 32 (sectors ∷ words)
@@ -103,7 +103,7 @@ line_joined old sectors words =
     ∙ ap (λ (xs : List ℕ). old ++ 48 ∷ 32 ∷ xs)
     (append_assoc sectors [] (behind_spaces words) ∙ sym (joined_behind sectors words))
 
--- these are words
+-- each of these is a word
 abbrev AreWords : List (List ℕ) → Type 0
 AreWords words = AllByRecursion (λ word. is_word word ≡ true) words
 
@@ -111,7 +111,7 @@ AreWords words = AllByRecursion (λ word. is_word word ≡ true) words
 decimal_word : (n : ℕ) → n < 2 ^ 64 → is_word (decimal n) ≡ true
 decimal_word n low = number_word (decimal n) n (decimal_number n low)
 
--- the words of a feature are words, and say it
+-- the words of a feature are words, and name it
 feature_are : (feature : Feature)
     → AreWords (feature_words feature) × IsFeature (feature_words feature) feature
 feature_are features.None = (tt, inl refl)
@@ -119,7 +119,7 @@ feature_are features.ErrorReads = ((refl, (refl, tt)), refl)
 feature_are features.ErrorWrites = ((refl, (refl, tt)), refl)
 feature_are features.DropWrites = ((refl, (refl, tt)), refl)
 
--- the words of a set say it, before any words
+-- the words of a set have its sector and its delay, before any other words
 set_are : (offset delay : ℕ) (more : List (List ℕ)) → offset < 2 ^ 64 → delay ≤ 4294967295
     → AreWords more
     → AreWords (set_words offset delay ++ more)
@@ -136,7 +136,7 @@ set_are offset delay more low few are =
       },
     )
 
--- three sets of words are words, and say their delays
+-- three sets of words are words, and have their delays
 three_printed : (offset read write flush : ℕ) → offset < 2 ^ 64 → AreDelays read write flush
     → AreWords (set_words offset read ++ (set_words offset write ++ set_words offset flush))
     × IsDelay (set_words offset read
@@ -157,7 +157,7 @@ three_printed offset read write flush low are =
       },
     )
 
--- the words of a delay device are words, and say its delays
+-- the words of a delay device are words, and have its delays
 delays_printed : (offset read write flush : ℕ) (t u : Bool) → offset < 2 ^ 64
     → AreDelays read write flush → (t ≡ true → read ≡ write)
     → (u ≡ true → write ≡ flush)
@@ -194,7 +194,7 @@ delays_printed offset read write flush true false low are one two =
 delays_printed offset read write flush false false low are one two =
     three_printed offset read write flush low are
 
--- what a target is printed as: its name and words that say it
+-- how a target is printed: its name, and words that ask for it
 record IsPrinted (offset : ℕ) (target : Target) : Type 0 where
   behind : List (List ℕ)
   are : AreWords (target_words offset target)
@@ -296,7 +296,7 @@ target_printed offset (targets.Delay read write flush) low has =
       spelled = refl;
     }
 
--- what is printed of a layer asks for it
+-- the text that is printed of a layer asks for it
 pub printed_again : (spec : LayerSpec) → IsLayerSpec spec
     → IsTableLine (words_of (line_text spec)) spec
 printed_again spec is =

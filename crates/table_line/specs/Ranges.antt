@@ -5,8 +5,7 @@ use Rattle.table_line.specs.declared.layer_spec.LayerSpec.{LayerSpec}
 use Rattle.table_line.specs.declared.layer_spec.Target.{Target}
 use Rattle.table_line.specs.declared.layer_spec.Target.TheVariants as targets
 
--- how long a flakey device is up and down, in seconds: at
--- least one together, and not more than 32 bits hold
+-- how long a flakey device is up and down, in seconds: together at least one, and within 32 bits
 pub record IsCycle (up down : ℕ) : Type 0 where
   pub some : 1 ≤ up + down
   pub few : up + down ≤ 4294967295
@@ -17,7 +16,7 @@ pub record IsBlockSize (bytes : ℕ) : Type 0 where
   pub some : 512 ≤ bytes
   pub few : bytes ≤ 1073741824
 
--- how much later a delay device's calls begin, in milliseconds: not more than 32 bits hold
+-- how much later a delay device's calls begin, in milliseconds, each within 32 bits
 pub record AreDelays (read write flush : ℕ) : Type 0 where
   pub reads : read ≤ 4294967295
   pub writes : write ≤ 4294967295
@@ -28,7 +27,7 @@ pub record IsLength (length : ℕ) : Type 0 where
   pub some : 1 ≤ length
   pub few : length ≤ 1048576
 
--- what a target has is in its range; a target that maps no sector has offset 0
+-- the target's values are in their ranges; a target that maps no sector has offset 0
 abbrev pub IsTargetInRange : ℕ → Target → Type 0
 IsTargetInRange offset targets.Linear = Unit {0}
 IsTargetInRange offset targets.Error = offset ≡ 0
@@ -37,13 +36,13 @@ IsTargetInRange offset (targets.Fuse calls) = calls < 2 ^ 64
 IsTargetInRange offset (targets.Dust bytes) = IsBlockSize bytes
 IsTargetInRange offset (targets.Delay read write flush) = AreDelays read write flush
 
--- a layer that a line may ask for
+-- a line may ask for this layer
 pub record IsLayerSpec (spec : LayerSpec) : Type 0 where
   pub sectors : IsLength spec.length
   pub place : spec.offset < 2 ^ 64
   pub has : IsTargetInRange spec.offset spec.target
 
--- the same as tests of what a line says
+-- the ranges as tests of what a line has
 abbrev pub is_cycle : ℕ → ℕ → Bool
 is_cycle up down = nat_le 1 (up + down) && nat_le (up + down) 4294967295
 

@@ -33,7 +33,7 @@ named word =
 abbrev pub target_of : List (List ℕ) → Option Name
 target_of words = named (word_in words 2)
 
--- how many words a line of this target may have
+-- whether a line of this target may have `count` words
 abbrev pub may_have : Option Name → ℕ → Bool
 may_have (Some Linear) count = nat_eq count 5
 may_have (Some Error) count = nat_eq count 3
@@ -43,8 +43,8 @@ may_have (Some Dust) count = nat_eq count 6
 may_have (Some Delay) count = nat_eq count 6 || (nat_eq count 9 || nat_eq count 12)
 may_have None count = false
 
--- at which places a line of so many words has numbers: start, length, offset, and the target's own;
--- a delay line has a sector and a delay in each set of words
+-- The places of the numbers in a line of `count` words: start, length, offset, and the target's
+-- own. A delay line has a sector and a delay in each set of words.
 abbrev pub number_places : Option Name → ℕ → List ℕ
 number_places (Some Linear) count = 0 ∷ 1 ∷ 4 ∷ []
 number_places (Some Error) count = 0 ∷ 1 ∷ []
@@ -56,7 +56,7 @@ number_places (Some Delay) count =
     ++ (if nat_lt 9 count then 10 ∷ 11 ∷ [] else []))
 number_places None count = []
 
--- the name of a feature
+-- the word is the name of a feature
 abbrev pub is_feature_name : List ℕ → Bool
 is_feature_name word =
     bytes_eq word (codes "error_reads") || bytes_eq word (codes "error_writes")
@@ -69,12 +69,12 @@ is_feature (count ∷ []) = bytes_eq count (codes "0")
 is_feature (count ∷ name ∷ []) = bytes_eq count (codes "1") && is_feature_name name
 is_feature (count ∷ name ∷ more ∷ words) = false
 
--- what a flakey line has beside the place: seconds, and the words of a feature
+-- the words of a flakey line after the place and the seconds are a feature's
 abbrev pub has_feature : Option Name → List (List ℕ) → Bool
 has_feature (Some Flakey) words = is_feature (drop 7 words)
 has_feature name words = true
 
--- the delay of the set of words from this place on, or, if there is none, that of the set before
+-- the delay of the set of words from `place` on, or `before` if there is no such set
 abbrev pub delay_at : List (List ℕ) → ℕ → ℕ → ℕ
 delay_at words place before =
     if is_none (slice_get words place) then before else number_value (word_in words (place + 2))
@@ -88,7 +88,7 @@ write_delay words = delay_at words 6 (read_delay words)
 abbrev pub flush_delay : List (List ℕ) → ℕ
 flush_delay words = delay_at words 9 (write_delay words)
 
--- what the target has is in its range: seconds, bytes of a block, delays
+-- the target's values are in their ranges: seconds, bytes of a block, delays
 abbrev pub has_values : Option Name → List (List ℕ) → Bool
 has_values (Some Flakey) words =
     is_cycle (number_value (word_in words 5)) (number_value (word_in words 6))
@@ -97,50 +97,50 @@ has_values (Some Delay) words =
     are_delays (read_delay words) (write_delay words) (flush_delay words)
 has_values name words = true
 
--- both are there, and one number
+-- both are numbers, and they are equal
 abbrev pub are_same : Option ℕ → Option ℕ → Bool
 are_same (Some one) (Some two) = nat_eq one two
 are_same one two = false
 
--- the set of words from this place on, where there is one,
--- names the first set's device and its sector
+-- the set of words from `place` on, if there is one, names the first set's device and its sector
 abbrev pub is_same_place : List (List ℕ) → ℕ → Bool
 is_same_place words place =
     is_none (slice_get words place)
     || (bytes_eq (word_in words 3) (word_in words place)
     && are_same (number_of (word_in words 4)) (number_of (word_in words (place + 1))))
 
--- all sets of a delay line name one device and one sector there
+-- all sets of a delay line name one device and one sector of it
 abbrev pub has_one_place : Option Name → List (List ℕ) → Bool
 has_one_place (Some Delay) words = is_same_place words 6 && is_same_place words 9
 has_one_place name words = true
 
 -- ---- the tests
 
--- it has fewer than three words
+-- the line has fewer than three words
 abbrev pub is_short : List (List ℕ) → Bool
 is_short words = nat_lt (length words) 3
 
--- its third word names no target
+-- the line's third word names no target
 abbrev pub has_no_target : List (List ℕ) → Bool
 has_no_target words = is_none (target_of words)
 
--- it has a number of words that the target doesn't have
+-- the line has a number of words that its target doesn't allow
 abbrev pub has_wrong_count : List (List ℕ) → Bool
 has_wrong_count words = not (may_have (target_of words) (length words))
 
--- a word in a number's place is none
+-- a word at a number's place is no number
 abbrev pub has_bad_number : List (List ℕ) → Bool
 has_bad_number words =
     not (list_all (λ place. is_number (word_in words place))
     (number_places (target_of words) (length words)))
 
--- the words of its feature aren't in the table
+-- the words of the line's feature aren't in the table
 abbrev pub has_bad_feature : List (List ℕ) → Bool
 has_bad_feature words = not (has_feature (target_of words) words)
 
--- a value is out of its range: the start isn't 0, the length isn't 1 to 1,048,576, what the target
--- has isn't in its range, or the sets of a delay line name more than one place
+-- A value is out of its range: the start isn't 0, or the length isn't 1 to 1,048,576, or a value of
+-- the target isn't in its range. This also holds if the sets of a delay line name more than one
+-- place.
 abbrev pub is_out_of_range : List (List ℕ) → Bool
 is_out_of_range words =
     not (nat_eq (number_value (word_in words 0)) 0
@@ -158,7 +158,7 @@ refusal_of words =
     else if is_out_of_range words then Some errors.OutOfRange
     else None
 
--- the refusal that a line's error is shown by
+-- the refusal that is shown for a line's error
 abbrev pub table_refusal : TableError → Refusal
 table_refusal errors.UnknownTarget = refusals.UnknownTarget
 table_refusal errors.WrongCount = refusals.WrongCount

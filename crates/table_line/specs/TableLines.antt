@@ -17,14 +17,14 @@ name_of (targets.Fuse calls) = codes "fuse"
 name_of (targets.Dust bytes) = codes "dust"
 name_of (targets.Delay read write flush) = codes "delay"
 
--- the words of a feature: how many there are, and its name; none may go without a count
+-- the words of a feature: their count, and its name; no feature may also have no words
 abbrev pub IsFeature : List (List ℕ) → Feature → Type 0
 IsFeature words features.None = (words ≡ []) ⊎ (words ≡ codes "0" ∷ [])
 IsFeature words features.ErrorReads = words ≡ codes "1" ∷ codes "error_reads" ∷ []
 IsFeature words features.ErrorWrites = words ≡ codes "1" ∷ codes "error_writes" ∷ []
 IsFeature words features.DropWrites = words ≡ codes "1" ∷ codes "drop_writes" ∷ []
 
--- a device, which any word may stand for, and the sector there
+-- a device, named by any word, and a sector of it
 pub record IsPlace (words : List (List ℕ)) (offset : ℕ) (more : List (List ℕ)) : Type 0 where
   pub device_word : List ℕ
   pub offset_word : List ℕ
@@ -64,15 +64,15 @@ pub record IsSet (words : List (List ℕ)) (device : List ℕ) (offset delay : �
   pub delays : IsNumber delay_word delay
   pub spelled : words ≡ device ∷ offset_word ∷ delay_word ∷ more
 
--- sets of words one behind another, all of one device and one sector there, with these delays
+-- sets of words, one after another, with these delays; all name one device and one sector of it
 abbrev pub AreSets : List (List ℕ) → List ℕ → ℕ → List ℕ → Type 0
 AreSets words device offset [] = words ≡ []
 AreSets words device offset (delay ∷ delays) =
     (more : List (List ℕ)) × IsSet words device offset delay more
     × AreSets more device offset delays
 
--- one delay is for all calls; two are for reads, and for writes and flushes; three are for reads,
--- for writes, and for flushes
+-- One delay is for all calls. Two delays are for reads, and for writes and flushes. Three are for
+-- reads, for writes, and for flushes.
 abbrev pub AreFor : List ℕ → ℕ → ℕ → ℕ → Type 0
 AreFor [] read write flush = ⊥
 AreFor (all ∷ []) read write flush = (read ≡ all) × (write ≡ all) × (flush ≡ all)
@@ -81,7 +81,7 @@ AreFor (reads ∷ writes ∷ flushes ∷ []) read write flush =
     (read ≡ reads) × (write ≡ writes) × (flush ≡ flushes)
 AreFor (reads ∷ writes ∷ flushes ∷ more ∷ delays) read write flush = ⊥
 
--- one to three sets of words, and what their delays are for
+-- one to three sets of words, and the calls that their delays are for
 pub record IsDelay (words : List (List ℕ)) (offset read write flush : ℕ) : Type 0 where
   pub device_word : List ℕ
   pub delays : List ℕ
@@ -89,7 +89,7 @@ pub record IsDelay (words : List (List ℕ)) (offset read write flush : ℕ) : T
   pub kinds : AreFor delays read write flush
   pub range : AreDelays read write flush
 
--- the words behind a target's name say where it is mapped to, and what it has
+-- the words after a target's name give the place that it is mapped to, and the target's values
 abbrev pub IsTarget : List (List ℕ) → ℕ → Target → Type 0
 IsTarget words offset targets.Linear = IsPlace words offset []
 IsTarget words offset targets.Error = (words ≡ []) × (offset ≡ 0)
@@ -98,8 +98,8 @@ IsTarget words offset (targets.Fuse calls) = IsFuse words offset calls
 IsTarget words offset (targets.Dust bytes) = IsDust words offset bytes
 IsTarget words offset (targets.Delay read write flush) = IsDelay words offset read write flush
 
--- the words ask for this layer: the start, which is 0, the
--- number of sectors, the target's name, and what belongs to it
+-- the words ask for this layer: the start, which is 0, the number of sectors, the target's name,
+-- and the target's words
 pub record IsTableLine (words : List (List ℕ)) (spec : LayerSpec) : Type 0 where
   pub start_word : List ℕ
   pub length_word : List ℕ

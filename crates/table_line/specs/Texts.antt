@@ -1,4 +1,4 @@
--- The one text of a layer.
+-- The canonical text of a layer.
 use Rattle.std.specs.Prelude.{ℕ, ◌&&◌, List, [], ◌∷◌, ◌++◌, codes, decimal, flat_map, nat_eq}
 use Rattle.std.specs.Prelude.{if◌then◌else◌}
 use Rattle.std.specs.List.{join_with_byte}
@@ -15,18 +15,18 @@ feature_words features.ErrorReads = codes "1" ∷ codes "error_reads" ∷ []
 feature_words features.ErrorWrites = codes "1" ∷ codes "error_writes" ∷ []
 feature_words features.DropWrites = codes "1" ∷ codes "drop_writes" ∷ []
 
--- a set of words of a delay device: the device, the sector there, and a delay
+-- a set of words of a delay device: the device, a sector of it, and a delay
 abbrev pub set_words : ℕ → ℕ → List (List ℕ)
 set_words offset delay = codes "disk" ∷ decimal offset ∷ decimal delay ∷ []
 
--- the sets behind the first: none where one delay is for all calls, one where writes and flushes
--- have one delay, and else two
+-- The sets after the first: none if one delay is for all calls, one if writes and flushes have the
+-- same delay, and otherwise two.
 abbrev pub later_sets : ℕ → ℕ → ℕ → ℕ → List (List ℕ)
 later_sets offset read write flush =
     if nat_eq read write && nat_eq write flush then []
     else set_words offset write ++ (if nat_eq write flush then [] else set_words offset flush)
 
--- the words of a target: its name, the device, the sector there, and what it has
+-- the words of a target: its name, the device, a sector of it, and the target's values
 abbrev pub target_words : ℕ → Target → List (List ℕ)
 target_words offset targets.Linear = codes "linear" ∷ codes "disk" ∷ decimal offset ∷ []
 target_words offset targets.Error = codes "error" ∷ []
@@ -44,10 +44,10 @@ target_words offset (targets.Delay read write flush) =
 abbrev pub line_words : LayerSpec → List (List ℕ)
 line_words spec = codes "0" ∷ decimal spec.length ∷ target_words spec.offset spec.target
 
--- its text: the words with a space between each two
+-- the canonical text of a layer: its words, with a space between each two
 abbrev pub line_text : LayerSpec → List ℕ
 line_text spec = join_with_byte 32 (line_words spec)
 
--- words, each behind a space
+-- the words, each after a space
 abbrev pub behind_spaces : List (List ℕ) → List ℕ
 behind_spaces words = flat_map (λ word. 32 ∷ word) words

@@ -3,12 +3,13 @@
 /// What a flakey device does while it is down.
 #[derive(Clone, Copy, Debug, PartialEq, Eq)]
 pub enum Feature {
-    /// Every call answers Io.
+    /// It answers Io to every call.
     None,
-    /// Reads answer Io, and the rest passes.
+    /// It answers Io to reads, and passes the other calls.
     ErrorReads,
-    /// Writes, discards and flushes answer Io, and reads pass.
+    /// It answers Io to writes, discards and flushes, and passes reads.
     ErrorWrites,
-    /// Writes, discards and flushes are lost, and answer that they ended well at once; reads pass.
+    /// It drops writes, discards and flushes, answering at once that they ended well, and passes
+    /// reads.
     DropWrites,
 }

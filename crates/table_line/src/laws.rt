@@ -9,7 +9,7 @@ ghost use Rattle.table_line.specs.Refusals.{refusal_of};
 ghost use Rattle.table_line.specs.TableLines.{IsTableLine};
 ghost use Rattle.table_line.specs.Texts.{line_text};
 
-/// Words ask for one layer, and then fail no test, or they fail a test.
+/// Words either ask for one layer and fail no test, or fail a test.
 #[tactic(auto, using(crate::specs::LineLaws::one_layer))]
 pub fn words_ask_for_one_layer()
     ensures one { (words : List (List ℕ)) (spec other : LayerSpec) → IsTableLine words spec
@@ -28,7 +28,7 @@ pub fn layers_asked_for_are_in_range()
         → IsLayerSpec spec }
 {}
 
-/// What is printed of a layer whose values are in their ranges asks for that layer.
+/// If a layer's values are in their ranges, the text that is printed of it asks for that layer.
 pub fn printed_layers_are_asked_for()
     ensures { (spec : LayerSpec) → IsLayerSpec spec → IsTableLine (words_of (line_text spec)) spec }
 {}

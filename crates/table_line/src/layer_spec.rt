@@ -1,5 +1,5 @@
-//! The layer that a line of a table asks for: its length, its offset and its target.
-//! `parse_line` reads one, `push_line` prints one, and scripts keep them for their disks.
+//! The layer that a line of a table asks for: its length, its offset and its target. `parse_line`
+//! parses one, `push_line` prints one, and scripts keep them for their disks.
 ghost use Rattle.std.specs.Prelude.{◌≡◌};
 ghost use Rattle.table_line.specs.Ranges.{are_delays, is_block_size, is_cycle};
 ghost use Rattle.table_line.specs.Ranges.{is_in_range as is_within};
@@ -7,7 +7,7 @@ ghost use Rattle.table_line.specs.Ranges.{is_in_range as is_within};
 use crate::feature::Feature;
 use bio::MAX_DEVICE_SECTORS;
 
-/// The most seconds of a flakey device's turn, up and down together.
+/// The most seconds that a flakey device is up and down, together.
 const MAX_CYCLE_SECONDS: u64 = 4_294_967_295;
 
 /// The longest delay, in milliseconds.
@@ -32,19 +32,19 @@ pub struct LayerSpec {
 /// What a layer does.
 #[derive(Clone, Copy, Debug, PartialEq, Eq)]
 pub enum Target {
-    /// It passes each call.
+    /// It passes every call.
     Linear,
-    /// It fails each call.
+    /// It fails every call.
     Error,
-    /// It works for `up` seconds and is unreliable for
-    /// `down` seconds, in turn, 1 to 4294967295 together.
+    /// It works for `up` seconds and is unreliable for `down` seconds, in turn. Together these are
+    /// 1 to 4294967295.
     Flakey {
         up: u64,
         down: u64,
         feature: Feature,
     },
-    /// It passes so many writes, discards and flushes, and
-    /// fails each later one. A target of this project's own.
+    /// It passes `calls` writes, discards and flushes, and fails each later one. This target is
+    /// dmlw's own.
     Fuse {
         calls: u64,
     },
@@ -61,7 +61,7 @@ pub enum Target {
     },
 }
 
-// Whether a line may ask for these values.
+// Returns whether a line may ask for these values.
 pub(crate) fn is_in_range(spec: LayerSpec) -> bool
     ensures { result ≡ is_within spec }
 {
@@ -76,7 +76,7 @@ pub(crate) fn is_in_range(spec: LayerSpec) -> bool
     }
 }
 
-// Whether a flakey device may have so many seconds up and down.
+// Returns whether a flakey device may be up and down for these seconds.
 fn is_cycle(up: u64, down: u64) -> bool
     ensures { result ≡ is_cycle up down }
 {
@@ -84,14 +84,14 @@ fn is_cycle(up: u64, down: u64) -> bool
     seconds > 0 && seconds <= MAX_CYCLE_SECONDS
 }
 
-// Whether a dust device's blocks may have so many bytes.
+// Returns whether a dust device's blocks may have `bytes` bytes.
 fn is_block_size(bytes: u64) -> bool
     ensures { result ≡ is_block_size bytes }
 {
     bytes.is_power_of_two() && (MIN_BLOCK_BYTES..=MAX_BLOCK_BYTES).contains(&bytes)
 }
 
-// Whether calls may begin so much later.
+// Returns whether calls may begin later by these milliseconds.
 fn are_delays(read: u64, write: u64, flush: u64) -> bool
     ensures { result ≡ are_delays read write flush }
 {

@@ -1,9 +1,9 @@
-//! The lines of a table of Linux's device mapper, of which each asks for one layer over a device.
+//! The lines of a table of Linux's device mapper. Each asks for one layer over a device.
 //!
-//! `parse_line` reads a line, or answers the first thing that is wrong with it; `push_line` writes
-//! the one spelling of a layer. `specs/TableLines` says which words ask for which layer, a
-//! relation; `specs/Refusals` is the table of the tests that a line has to pass, in their order. A
-//! new target is a case of `Target` and of `Name`, of `IsTarget` and of the tests.
+//! `parse_line` parses a line, or returns the first error in it. `push_line` prints the canonical
+//! text of a layer. `specs/TableLines` defines which words ask for which layer, as a relation.
+//! `specs/Refusals` is the table of the tests that a line has to pass, in their order. A new target
+//! is a case of `Target` and of `Name`, of `IsTarget` and of the tests.
 #![tactic(auto)]
 
 pub use feature::Feature;

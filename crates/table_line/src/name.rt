@@ -1,5 +1,5 @@
-//! The names of the targets, and how many words a line of each may have.
-//! `parse_line` tests them before it reads a value.
+//! The names of the targets, and how many words a line of each may have. `parse_line` tests both
+//! before it parses a value.
 ghost use Rattle.std.specs.Prelude.{◌≡◌, Some};
 ghost use Rattle.table_line.specs.Refusals.{named, may_have};
 
@@ -15,7 +15,7 @@ pub(crate) enum Name {
 }
 
 impl Name {
-    /// The name that a word is, if it is one.
+    /// Returns the name that a word is, if it is one.
     pub(crate) fn of_word(word: &[u8]) -> Option<Name>
         ensures { result ≡ named word.now }
     {
@@ -36,7 +36,7 @@ impl Name {
         }
     }
 
-    /// Whether a line of this target may have so many words.
+    /// Returns whether a line of this target may have `count` words.
     pub(crate) fn may_have(self, count: usize) -> bool
         ensures { result ≡ may_have (Some self) count }
     {

@@ -1,5 +1,5 @@
-//! Reads a line of a table: `parse_line` gives its layer, or the first thing wrong with it.
-//! The reader of scripts calls it for the lines of layers.
+//! Parses a line of a table: `parse_line` returns its layer, or the first error in it. The parser
+//! of scripts calls it for the lines of layers.
 ghost use Rattle.std.specs.Prelude.{◌≡◌, ◌↔◌, ◌<◌, ◌^◌, Err, IfOk, Ok, Some};
 ghost use Rattle.refusals.specs.Words.{number_of, words_of};
 ghost use Rattle.table_line.specs.declared.layer_spec.LayerSpec.{LayerSpec};
@@ -18,11 +18,11 @@ use crate::name::Name;
 use crate::table_error::TableError;
 use refusals::{count_words, number_of, word_at};
 
-/// Reads a line: the layer that its words ask for, or the first thing that is wrong with it. Words
-/// stand between spaces, one or more; spaces before the first word and behind the last say nothing.
+/// Parses a line: returns the layer that its words ask for, or the first error in it. One or more
+/// spaces separate two words. Spaces before the first word and after the last are ignored.
 pub fn parse_line(line: &[u8]) -> Result<LayerSpec, TableError>
     ensures layer { (spec : LayerSpec) → (result ≡ Ok spec) ↔ IsTableLine (words_of line.now) spec }
-    // Its values are in their ranges.
+    // The layer's values are in their ranges.
     ensures range { IfOk result IsLayerSpec }
     ensures refused { (error : TableError)
         → (result ≡ Err error) ↔ (refusal_of (words_of line.now) ≡ Some error) }
@@ -30,7 +30,7 @@ pub fn parse_line(line: &[u8]) -> Result<LayerSpec, TableError>
     read_words(line)
 }
 
-// The same, step by step.
+// Parses a line, step by step.
 fn read_words(line: &[u8]) -> Result<LayerSpec, TableError>
     ensures { result ≡ read_words (words_of line.now) }
 {
@@ -46,7 +46,7 @@ fn read_words(line: &[u8]) -> Result<LayerSpec, TableError>
     Ok(spec)
 }
 
-// The target that the third word names.
+// Returns the target that the third word names.
 fn name_in(line: &[u8]) -> Result<Name, TableError>
     ensures { result ≡ name_in (words_of line.now) }
 {
@@ -56,7 +56,7 @@ fn name_in(line: &[u8]) -> Result<Name, TableError>
     }
 }
 
-// The number that the word at this place is.
+// Returns the number that the word at `place` is.
 fn number_in(line: &[u8], place: usize) -> Result<u64, TableError>
     ensures { result ≡ number_in (words_of line.now) place }
 {
@@ -64,7 +64,7 @@ fn number_in(line: &[u8], place: usize) -> Result<u64, TableError>
     number_of(word).ok_or(TableError::BadNumber)
 }
 
-// What a line of this target asks for, apart from ranges.
+// Returns the layer that a line of this target asks for, before its ranges are tested.
 fn spec_in(line: &[u8], name: Name) -> Result<LayerSpec, TableError>
     ensures { result ≡ spec_in name (words_of line.now) }
 {
@@ -78,7 +78,7 @@ fn spec_in(line: &[u8], name: Name) -> Result<LayerSpec, TableError>
     })
 }
 
-// The sector of the lower device.
+// Returns the sector of the lower device.
 fn offset_in(line: &[u8], name: Name) -> Result<u64, TableError>
     ensures { result ≡ offset_in name (words_of line.now) }
 {
@@ -88,7 +88,7 @@ fn offset_in(line: &[u8], name: Name) -> Result<u64, TableError>
     }
 }
 
-// What the layer does.
+// Returns the target that a line of this name asks for.
 fn target_in(line: &[u8], name: Name) -> Result<Target, TableError>
     ensures { result ≡ target_in name (words_of line.now) }
 {
@@ -110,7 +110,8 @@ fn target_in(line: &[u8], name: Name) -> Result<Target, TableError>
     }
 }
 
-// The delays of a delay line: of all calls, or of reads and the others, or of each kind.
+// Returns the delays of a delay line: one for all calls, one for reads and one for the others, or
+// one for each kind.
 fn delay_in(line: &[u8]) -> Result<Target, TableError>
     ensures { result ≡ delay_in (words_of line.now) }
 {
@@ -120,8 +121,8 @@ fn delay_in(line: &[u8]) -> Result<Target, TableError>
     Ok(Target::Delay { read, write, flush })
 }
 
-// The delay of the set of words from this place on: a device, a sector there, and the delay. Where
-// there is no such set, it is that of the set before.
+// Returns the delay of the set of words from `place` on: a device, a sector of it, and the delay.
+// If there is no such set, returns `before`.
 fn later_delay(line: &[u8], place: usize, before: u64) -> Result<u64, TableError>
     requires { place < 2 ^ 32 }
     ensures { result ≡ later_delay (words_of line.now) place before }
@@ -133,15 +134,15 @@ fn later_delay(line: &[u8], place: usize, before: u64) -> Result<u64, TableError
     number_in(line, place + 2)
 }
 
-// Whether the sets of a delay line name one device and one sector there.
+// Returns whether the sets of a delay line name one device and one sector of it.
 fn has_one_place(line: &[u8], name: Name) -> bool
     ensures { result ≡ has_one_place (Some name) (words_of line.now) }
 {
     name != Name::Delay || (is_same_place(line, 6) && is_same_place(line, 9))
 }
 
-// Whether the set of words from this place on, if there is
-// one, names the first set's device and its sector.
+// Returns whether the set of words from `place` on, if there is one, names the first set's device
+// and its sector.
 fn is_same_place(line: &[u8], place: usize) -> bool
     requires { place < 2 ^ 32 }
     ensures { result ≡ is_same_place (words_of line.now) place }
@@ -153,7 +154,7 @@ fn is_same_place(line: &[u8], place: usize) -> bool
     }
 }
 
-// Whether the words at these places are numbers, and one number.
+// Returns whether the words at these places are numbers, and equal.
 fn is_same_number(line: &[u8], place: usize, other: usize) -> bool
     ensures { result ≡ are_same (number_of (word_in (words_of line.now) place))
         (number_of (word_in (words_of line.now) other)) }
@@ -164,7 +165,7 @@ fn is_same_number(line: &[u8], place: usize, other: usize) -> bool
     }
 }
 
-// The feature that a flakey line's last words say.
+// Returns the feature that a flakey line's last words name.
 fn feature_in(line: &[u8]) -> Result<Feature, TableError>
     ensures { result ≡ feature_in (words_of line.now) }
 {
@@ -176,7 +177,7 @@ fn feature_in(line: &[u8]) -> Result<Feature, TableError>
     }
 }
 
-// The feature of this name.
+// Returns the feature of this name.
 fn feature_of(name: &[u8]) -> Option<Feature>
     ensures { result ≡ feature_named name.now }
 {

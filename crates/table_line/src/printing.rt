@@ -9,10 +9,10 @@ use crate::layer_spec::{LayerSpec, Target};
 use refusals::push_number;
 use std::alloc::AllocError;
 
-/// Puts the one spelling of a layer behind a text, as `0 16 flakey disk 0 10 5 1 drop_writes`: no
-/// leading zeroes, one space between two words, `disk` for the device's word, and no count of
-/// features if there is none. `parse_line` reads it as that layer, where its values are in their
-/// ranges. Lack of memory is an error.
+/// Appends the canonical text of a layer, such as `0 16 flakey disk 0 10 5 1 drop_writes`. It has
+/// no leading zeroes, one space between two words, and `disk` for the device's word. It has no
+/// count of features if there is none. If the layer's values are in their ranges, `parse_line`
+/// parses the text as that layer. Lack of memory is an error.
 pub fn push_line(out: &mut Vec<u8>, spec: &LayerSpec) -> Result<(), AllocError>
     ensures { OnOk result (out.new.items ≡ out.old.items ++ line_text spec.now) }
 {
@@ -21,7 +21,7 @@ pub fn push_line(out: &mut Vec<u8>, spec: &LayerSpec) -> Result<(), AllocError>
     push_target(out, spec.offset, spec.target)
 }
 
-// A target's words, each behind a space.
+// Appends a target's words, each after a space.
 fn push_target(out: &mut Vec<u8>, offset: u64, target: Target) -> Result<(), AllocError>
     ensures { OnOk result (out.new.items
         ≡ out.old.items ++ behind_spaces (target_words offset target)) }
@@ -49,7 +49,7 @@ fn push_target(out: &mut Vec<u8>, offset: u64, target: Target) -> Result<(), All
     }
 }
 
-// The sets of a delay device behind the first: as few as say its delays.
+// Appends the sets of a delay device after the first one: as few as its delays need.
 fn push_delays(
     out: &mut Vec<u8>,
     offset: u64,
@@ -70,7 +70,7 @@ fn push_delays(
     push_set(out, offset, flush)
 }
 
-// A set of words of a delay device.
+// Appends a set of words of a delay device.
 fn push_set(out: &mut Vec<u8>, offset: u64, delay: u64) -> Result<(), AllocError>
     ensures { OnOk result (out.new.items
         ≡ out.old.items ++ behind_spaces (set_words offset delay)) }
@@ -79,7 +79,7 @@ fn push_set(out: &mut Vec<u8>, offset: u64, delay: u64) -> Result<(), AllocError
     push_value(out, delay)
 }
 
-// What a flakey device has beside its place.
+// Appends a flakey device's words after its place.
 fn push_turns(out: &mut Vec<u8>, up: u64, down: u64, feature: Feature) -> Result<(), AllocError>
     ensures { OnOk result (out.new.items
         ≡ out.old.items ++ behind_spaces (decimal up ∷ decimal down ∷ feature_words feature)) }
@@ -89,7 +89,7 @@ fn push_turns(out: &mut Vec<u8>, up: u64, down: u64, feature: Feature) -> Result
     push_feature(out, feature)
 }
 
-// A target's name and the device's word, and the offset there.
+// Appends a target's name and the device's word, and the offset on it.
 fn push_place(out: &mut Vec<u8>, place: &[u8], offset: u64) -> Result<(), AllocError>
     ensures { OnOk result (out.new.items
         ≡ out.old.items ++ (place.now ++ behind_spaces (decimal offset ∷ []))) }
@@ -98,7 +98,7 @@ fn push_place(out: &mut Vec<u8>, place: &[u8], offset: u64) -> Result<(), AllocE
     push_value(out, offset)
 }
 
-// A space and a number.
+// Appends a space and a number.
 fn push_value(out: &mut Vec<u8>, value: u64) -> Result<(), AllocError>
     ensures { OnOk result (out.new.items ≡ out.old.items ++ behind_spaces (decimal value ∷ [])) }
 {
@@ -106,7 +106,7 @@ fn push_value(out: &mut Vec<u8>, value: u64) -> Result<(), AllocError>
     push_number(out, value)
 }
 
-// A feature's words.
+// Appends a feature's words.
 fn push_feature(out: &mut Vec<u8>, feature: Feature) -> Result<(), AllocError>
     ensures { OnOk result (out.new.items ≡ out.old.items ++ behind_spaces (feature_words feature)) }
 {

@@ -1,5 +1,5 @@
-//! Why a line of a table asks for no layer, and the refusal that this is shown by.
-//! `parse_line` answers it, and the reader of scripts passes it on.
+//! Why a line of a table asks for no layer, and the refusal that is shown for it. `parse_line`
+//! returns it, and the parser of scripts passes it on.
 ghost use Rattle.std.specs.Prelude.{◌≡◌};
 ghost use Rattle.table_line.specs.Refusals.{table_refusal};
 
@@ -9,19 +9,19 @@ use thiserror::Error;
 /// Why a line asks for no layer.
 #[derive(Clone, Copy, Debug, PartialEq, Eq, Error)]
 pub enum TableError {
-    /// Its third word names no target.
+    /// The line's third word names no target.
     #[error("no target of this name")]
     UnknownTarget,
-    /// It has fewer than three words, or a number of words that its target doesn't have.
+    /// The line has fewer than three words, or a number of words that its target doesn't allow.
     #[error("too many words, or too few")]
     WrongCount,
-    /// A word in a number's place is none.
+    /// A word at a number's place is no number.
     #[error("a word that is no number")]
     BadNumber,
     /// A value is out of its range.
     #[error("a value out of its range")]
     OutOfRange,
-    /// A feature of a flakey line, or their count, is none that there is.
+    /// A feature of a flakey line, or their count, doesn't exist.
     #[error("no such feature")]
     BadFeature,
 }

@@ -5,8 +5,8 @@ ghost use Rattle.blockdev.specs.OwnCounts.{counted, lawful_counted};
 use bio::{DevError, Ms};
 use blockdev::BlockDev;
 
-/// A device that passes so many calls of some kinds, and
-/// answers Io to each later one of these. The other kinds pass.
+/// A device that passes a number of calls of some kinds, and answers Io to each later one of these.
+/// It passes the other kinds.
 #[derive(Drop)]
 pub struct Failing<D: BlockDev + Drop> {
     pub lower: D,
@@ -17,7 +17,7 @@ pub struct Failing<D: BlockDev + Drop> {
 }
 
 impl<D: BlockDev + Drop> Failing<D> {
-    /// A device that passes so many reads, and each write, discard and flush.
+    /// Returns a device that passes `passes` reads, and every write, discard and flush.
     pub fn in_reads(lower: D, passes: u64) -> Failing<D> {
         Failing {
             lower,
@@ -28,7 +28,7 @@ impl<D: BlockDev + Drop> Failing<D> {
         }
     }
 
-    /// A device that passes so many writes, discards and flushes, and each read.
+    /// Returns a device that passes `passes` writes, discards and flushes, and every read.
     pub fn in_changes(lower: D, passes: u64) -> Failing<D> {
         Failing {
             lower,
@@ -39,7 +39,7 @@ impl<D: BlockDev + Drop> Failing<D> {
         }
     }
 
-    /// A device that passes so many calls of any kind.
+    /// Returns a device that passes `passes` calls of any kind.
     pub fn in_calls(lower: D, passes: u64) -> Failing<D> {
         Failing {
             lower,

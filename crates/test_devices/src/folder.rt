@@ -12,27 +12,27 @@ struct Named {
     bytes: Vec<u8>,
 }
 
-/// A folder of files in memory. None whose name begins with `fixed` can be written.
+/// A folder of files in memory. Files whose names begin with `fixed` can't be written.
 #[derive(Drop)]
 pub struct Folder {
     files: Vec<Named>,
 }
 
 impl Folder {
-    /// A folder of no files.
+    /// Returns a folder without files.
     pub fn new(alloc: Global) -> Folder {
         Folder {
             files: Vec::new(alloc),
         }
     }
 
-    /// What the file of this name holds, if it is there.
+    /// Returns the content of the file of this name, if it exists.
     pub fn bytes(&self, name: &str) -> Option<&[u8]> {
         let file = self.files.iter().find(|file| file.name.as_str() == name)?;
         Some(&file.bytes)
     }
 
-    /// Makes the file of this name hold these bytes.
+    /// Makes or replaces the file of this name, with these bytes.
     pub fn put(&mut self, alloc: Global, name: &str, bytes: Vec<u8>) -> Result<(), AllocError> {
         let name = String::from_str(alloc, name)?;
         self.remove(name.as_str());
@@ -40,7 +40,7 @@ impl Folder {
         Ok(())
     }
 
-    /// Takes the file of this name away, if it is there.
+    /// Removes the file of this name, if it exists.
     pub fn remove(&mut self, name: &str) {
         self.files.retain(|file| file.name.as_str() != name);
     }

@@ -1,6 +1,6 @@
-//! What tests stand on. Devices over another device: three that fail, one that lies, and one that
-//! notes its calls; each keeps the law of `blockdev`. Files in memory, writers and numbers, for
-//! transcripts and for tests of commands. And what rows of tests are held against (`rows`).
+//! What tests use. Devices over another device: three that fail, one that lies, and one that notes
+//! its calls; each keeps the law of `blockdev`. Files in memory, writers and numbers, for
+//! transcripts and for tests of commands. And checks of rows of tests (`rows`).
 #![tactic(auto)]
 
 mod failing;

@@ -1,12 +1,12 @@
-//! A device that does its calls and answers that they failed, from some call on.
+//! A device that, from some call on, does its calls and answers that they failed.
 ghost use Rattle.std.specs.Prelude.{false};
 ghost use Rattle.blockdev.specs.OwnCounts.{counted, lawful_counted};
 
 use bio::{DevError, Ms};
 use blockdev::BlockDev;
 
-/// A device that passes so many writes, discards and
-/// flushes, and does each later one too, but answers Io.
+/// A device that passes a number of writes, discards and flushes. It does each later one too, but
+/// answers Io.
 #[derive(Drop)]
 pub struct Nasty<D: BlockDev + Drop> {
     pub lower: D,

@@ -1,22 +1,22 @@
-//! Files in memory: the two that are read hold the same, and one is written.
+//! Files in memory: two can be read and have the same content, and one can be written.
 ghost use Rattle.std.specs.Prelude.{None, false};
 
 use dmlw_files::{FileError, FileFailure, Files};
 use sector_disk::{Image, SectorDisk};
 use std::alloc::Global;
 
-/// Files of which "script" and "image" can be read, which hold the same, and "log" can be written.
+/// Files of which "script" and "image" can be read and have the same content. "log" can be written.
 #[derive(Drop)]
 pub struct OneFile<'a> {
     bytes: &'a [u8],
-    /// How many bytes it takes to hold the file that is read.
+    /// The number of bytes that it takes to hold the file that is read.
     pub length: u64,
     /// What was written.
     pub log: Option<Vec<u8>>,
 }
 
 impl<'a> OneFile<'a> {
-    /// Files that hold these bytes, and take as many to hold.
+    /// Returns files with these bytes, whose length is what it takes to hold them.
     pub fn new(bytes: &'a [u8]) -> OneFile<'a> {
         OneFile {
             bytes,

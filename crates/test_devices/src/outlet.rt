@@ -1,22 +1,22 @@
-//! What a command writes to, which may be full, closed or stuck.
+//! Streams that a command writes to, which may be full, closed or stuck.
 use std::alloc::Global;
 use std::io;
 use std::io::Write;
 
-/// A stream in memory with room for so many bytes, which may be one that can't be flushed.
+/// A stream in memory with room for `room` bytes. It may be one that can't be flushed.
 #[derive(Drop)]
 pub struct Outlet {
     taken: Vec<u8>,
     room: usize,
-    // What it answers where it has no room, and, of a stuck one, to a flush.
+    // The error that it returns if it has no room, and, if it is stuck, to a flush.
     kind: io::ErrorKind,
     is_stuck: bool,
-    // Whether it holds what wasn't flushed.
+    // Whether it has bytes that weren't flushed.
     is_held: bool,
 }
 
 impl Outlet {
-    /// A stream that takes all.
+    /// Returns a stream that takes all bytes.
     pub fn open(alloc: Global) -> Outlet {
         Outlet {
             taken: Vec::new(alloc),
@@ -27,9 +27,10 @@ impl Outlet {
         }
     }
 
-    /// The stream that a word names: `full:<n>`, `memory:<n>` and `pipe:<n>` have room for so many
-    /// bytes, and say then that there is no room, no memory, or nobody that reads; `stuck:full` and
-    /// `stuck:memory` take all and say so where they are flushed.
+    /// Returns the stream that a word names. `full:<n>`, `memory:<n>` and `pipe:<n>` have room for
+    /// `n` bytes. Their errors are then that there is no room, no memory, or no reader.
+    /// `stuck:full` and `stuck:memory` take all bytes, and return these errors when they are
+    /// flushed.
     pub fn named(alloc: Global, word: &str) -> Option<Outlet> {
         let (how, what) = word.split_once(':')?;
         let is_stuck = how == "stuck";
@@ -47,26 +48,26 @@ impl Outlet {
         Some(outlet)
     }
 
-    /// One with room for so many bytes.
+    /// Returns a stream with room for `room` bytes.
     pub fn narrow(alloc: Global, room: usize) -> Outlet {
         let mut outlet = Outlet::open(alloc);
         outlet.room = room;
         outlet
     }
 
-    /// One that can't be flushed.
+    /// Returns a stream that can't be flushed.
     pub fn stuck(alloc: Global) -> Outlet {
         let mut outlet = Outlet::open(alloc);
         outlet.is_stuck = true;
         outlet
     }
 
-    /// The bytes that it took.
+    /// Returns the bytes that the stream took.
     pub fn taken(&self) -> &[u8] {
         &self.taken
     }
 
-    /// Whether it holds what could have been flushed and wasn't.
+    /// Returns whether the stream has bytes that could have been flushed and weren't.
     pub fn is_held(&self) -> bool {
         self.is_held && !self.is_stuck
     }

@@ -1,11 +1,10 @@
-//! What rows of tests are held against. A text beside an
-//! assertion is dear to prove, and here it is proved once.
+//! Checks of rows of tests. A text in an assertion is dear to prove, and here it is proved once.
 ghost use Rattle.std.specs.Prelude.{◌≡◌};
 
 use std::fmt::Debug;
 use std::io::Print;
 
-/// Whether what was found is what was wanted. Where it isn't, it prints the row with both.
+/// Returns whether `found` is `wanted`. If it isn't, prints the row with both.
 pub fn is_same<T: PartialEq + Debug>(rt: &impl Print, found: &T, wanted: &T, row: &str) -> bool {
     let is_same = found == wanted;
     if !is_same {
@@ -14,7 +13,7 @@ pub fn is_same<T: PartialEq + Debug>(rt: &impl Print, found: &T, wanted: &T, row
     is_same
 }
 
-/// Whether what was told is what was wanted. Where it isn't, it prints the row with both.
+/// Returns whether `told` is `wanted`. If it isn't, prints the row with both.
 pub fn is_told(rt: &impl Print, told: &str, wanted: &str, row: &str) -> bool {
     let is_told = told == wanted;
     if !is_told {
@@ -23,7 +22,7 @@ pub fn is_told(rt: &impl Print, told: &str, wanted: &str, row: &str) -> bool {
     is_told
 }
 
-/// The test itself. Where it doesn't hold, this prints the row.
+/// Returns the test. If it doesn't hold, prints the row.
 pub fn holds(rt: &impl Print, test: bool, row: &str) -> bool
     ensures { result ≡ test }
 {
@@ -33,8 +32,9 @@ pub fn holds(rt: &impl Print, test: bool, row: &str) -> bool
     test
 }
 
-/// Whether what is told of each row is what stands behind its first `=`, where what stands before
-/// that is handed on. It prints each row of which it isn't.
+/// Returns whether the expected result of each row is right. In a row it is the text after the
+/// first `=`, and the text before that is passed to `tell`. Prints each row for which it isn't
+/// right.
 pub fn rows_are_told<E, F: FnMut(&str) -> Result<String, E>>(
     rt: &impl Print,
     rows: &str,

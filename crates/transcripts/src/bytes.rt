@@ -1,8 +1,8 @@
-// Bytes as they are written in a transcript.
+// Bytes as a transcript shows them.
 use std::alloc::{AllocError, Global};
 
-/// Appends what a file holds: its length, and each sector of 512 bytes that isn't zeroes, by its
-/// number. A byte that stands several times in a row is written once, with a star and its count.
+/// Appends the content of a file: its length, and each sector of 512 bytes that isn't zeroes, by
+/// its number. Bytes that repeat in a row are written once, with a star and their count.
 pub fn push_sectors(text: &mut String, bytes: &[u8]) -> Result<(), AllocError> {
     writeln!(text, "{} bytes", bytes.len())?;
     for (number, sector) in bytes.chunks(512).enumerate() {
@@ -43,7 +43,7 @@ fn push_run(text: &mut String, byte: Option<u8>, count: usize) -> Result<(), All
     Ok(())
 }
 
-// How far an escape has come.
+// The state of an escape that is being read.
 #[derive(Clone, Copy)]
 enum Escape {
     None,
@@ -52,8 +52,8 @@ enum Escape {
     Digit(u8),
 }
 
-/// Bytes by a text that isn't all text: `\r`, `\t`, `\0`, `\n` and `\\` stand for these bytes,
-/// `\xHH` for any, and a backslash at the end of a line takes its line feed away.
+/// Returns the bytes that a text with escapes means. `\r`, `\t`, `\0`, `\n` and `\\` mean these
+/// bytes, and `\xHH` any byte. A backslash at the end of a line removes its line feed.
 pub fn unescaped(alloc: Global, text: &str) -> Result<Vec<u8>, AllocError> {
     let mut bytes = Vec::new(alloc);
     let mut escape = Escape::None;
@@ -63,7 +63,7 @@ pub fn unescaped(alloc: Global, text: &str) -> Result<Vec<u8>, AllocError> {
     Ok(bytes)
 }
 
-// Takes the next byte of a text, and answers how far an escape has come then.
+// Takes the next byte of a text, and returns the state of the escape after it.
 fn push_unescaped(bytes: &mut Vec<u8>, escape: Escape, byte: u8) -> Result<Escape, AllocError> {
     let meant = match escape {
         Escape::None if byte == b'\\' => return Ok(Escape::Begun),
@@ -84,17 +84,17 @@ fn push_unescaped(bytes: &mut Vec<u8>, escape: Escape, byte: u8) -> Result<Escap
     Ok(Escape::None)
 }
 
-/// The byte of two hexadecimal digits.
+/// Returns the byte of two hexadecimal digits.
 pub fn hex_byte(high: u8, low: u8) -> u8 {
     byte_of(digit(high), digit(low))
 }
 
-// The byte of the values of two hexadecimal digits.
+// Returns the byte of two hexadecimal digits, by their values.
 fn byte_of(high: u8, low: u8) -> u8 {
     (high % 16) * 16 + low % 16
 }
 
-// The value of a hexadecimal digit; 0 of another byte.
+// Returns the value of a hexadecimal digit; 0 for another byte.
 fn digit(byte: u8) -> u8 {
     match byte {
         b'0'..=b'9' => byte - b'0',

@@ -1,4 +1,4 @@
-// Calls of a disk under layers, and what each tells.
+// Calls of a disk under layers, and what each shows.
 use crate::bytes::{hex_byte, push_sectors};
 use bio::{DevError, Ms};
 use blockdev::{BlockDev, Message};
@@ -11,9 +11,9 @@ use table_line::parse_line;
 // The most sectors that a call may name.
 const MAX_SECTORS: u64 = 4096;
 
-/// Makes the calls of these lines on a disk under the layers that `layer` lines name, the lowest
-/// first, loaded at moment 0 or, behind `layer@<ms>`, at that one. From a line `off` on the layers
-/// are taken off, and the disk itself is asked. What each call tells is appended.
+/// Makes the calls of these lines on a disk under layers, and appends what each call shows. `layer`
+/// lines name the layers, the lowest first. A layer is loaded at time 0 or, after `layer@<ms>`, at
+/// that time. From a line `off` on, the layers are removed, and the calls go to the disk itself.
 pub fn ask_stack(
     alloc: Global,
     disk: SectorDisk,
@@ -25,8 +25,8 @@ pub fn ask_stack(
     ask_disk(alloc, &mut disk, beneath, shown)
 }
 
-/// Makes the calls of these lines on a disk under no layer; `disk` shows what it holds,
-/// `crash <pick> ..` takes its power.
+/// Makes the calls of these lines on a disk under no layer. `disk` shows the disk's content, and
+/// `crash <pick> ..` fails its power.
 pub fn ask_disk(
     alloc: Global,
     disk: &mut SectorDisk,
@@ -43,7 +43,7 @@ pub fn ask_disk(
     Ok(())
 }
 
-// Makes the calls of these lines on a disk under their layers, and gives the disk back.
+// Makes the calls of these lines on a disk under their layers, and returns the disk.
 fn on_layers(
     alloc: Global,
     disk: SectorDisk,
@@ -96,8 +96,8 @@ fn ask_all<D: Message + Drop>(
     Ok(())
 }
 
-// Makes the call of a line: `at <ms> <call>`, `message <layer> <text>`,
-// `counts` for the faults and the lies, or `sectors`.
+// Makes the call of a line: `at <ms> <call>`, `message <layer> <text>`, `counts` for the faults and
+// the lies, or `sectors`.
 fn ask<D: Message + Drop>(
     alloc: Global,
     device: &mut D,
@@ -114,7 +114,7 @@ fn ask<D: Message + Drop>(
     }
 }
 
-// Sends a message, and tells its answer.
+// Sends a message, and shows its answer.
 fn send<D: Message + Drop>(
     device: &mut D,
     words: &str,
@@ -127,7 +127,7 @@ fn send<D: Message + Drop>(
     }
 }
 
-// The range of sectors that a call names, and its byte in two hexadecimal digits.
+// The range of sectors that a call names, and its byte, written in two hexadecimal digits.
 #[derive(Drop)]
 struct Range {
     first: u64,
@@ -137,7 +137,7 @@ struct Range {
 }
 
 impl Range {
-    // The numbers that stand in these words; 0 where there are fewer.
+    // Returns the numbers of these words; 0 for each that is missing.
     fn of(words: &str) -> Range {
         let mut words = words.split(' ');
         let first = words.next().unwrap_or_default().parse::<u64>().unwrap_or(0);
@@ -156,8 +156,8 @@ impl Range {
     }
 }
 
-// Makes a call at a moment: `write <first> <count> <byte> [fua]`, `read <first> <count>`,
-// `discard <first> <count>` or `flush`.
+// Makes a call at a time: `write <first> <count> <byte> [fua]`, `read <first> <count>`, `discard
+// <first> <count>` or `flush`.
 fn ask_at<D: BlockDev + Drop>(
     alloc: Global,
     device: &mut D,
@@ -193,7 +193,7 @@ fn ask_at<D: BlockDev + Drop>(
     }
 }
 
-// Tells when a read ended, with the first byte of each sector, or its error.
+// Shows when a read ended, with the first byte of each sector, or its error.
 fn tell_read(
     end: Result<Ms, DevError>,
     buffer: &[u8],
@@ -211,7 +211,7 @@ fn tell_read(
     Ok(())
 }
 
-// Tells when a call ended, in milliseconds, or its error.
+// Shows when a call ended, in milliseconds, or its error.
 fn tell_end(end: Result<Ms, DevError>, shown: &mut String) -> Result<(), AllocError> {
     match end {
         Ok(end) => writeln!(shown, "ends at {}", end.milliseconds()),
@@ -220,7 +220,7 @@ fn tell_end(end: Result<Ms, DevError>, shown: &mut String) -> Result<(), AllocEr
     }
 }
 
-// Shows what the disk holds.
+// Shows the disk's content.
 fn show_disk(disk: &mut SectorDisk, shown: &mut String) -> Result<(), AllocError> {
     match disk.bytes() {
         Ok(bytes) => push_sectors(shown, &bytes),
@@ -228,7 +228,7 @@ fn show_disk(disk: &mut SectorDisk, shown: &mut String) -> Result<(), AllocError
     }
 }
 
-// Takes the disk's power, with these picks.
+// Fails the disk's power, with these picks.
 fn crash(alloc: Global, disk: &mut SectorDisk, words: &str) -> Result<(), AllocError> {
     let mut picks = Vec::new(alloc);
     for word in words.split(' ') {

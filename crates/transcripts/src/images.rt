@@ -1,13 +1,13 @@
-// Images by the words of a transcript.
+// Images that are made from the words of a transcript.
 use crate::bytes::hex_byte;
 use std::alloc::AllocError;
 
 // The largest image that a word may ask for, in bytes.
 const MAX_IMAGE: usize = 536_870_912;
 
-/// Makes an image so many bytes long, and puts in it what the words
-/// say: `<byte>:=<hex>` or `<byte>:=<hex>*<count>` bytes from there
-/// on, `<byte>:<n>,<n>,..` numbers of eight bytes, little endian.
+/// Makes an image `length` bytes long, and writes to it what the words say. `<byte>:=<hex>` or
+/// `<byte>:=<hex>*<count>` writes bytes from there on. `<byte>:<n>,<n>,..` writes numbers of eight
+/// bytes, little endian.
 pub fn change(image: &mut Vec<u8>, length: usize, words: &str) -> Result<(), AllocError> {
     image.truncate(length.min(MAX_IMAGE));
     image.resize(length.min(MAX_IMAGE), 0)?;
@@ -17,7 +17,7 @@ pub fn change(image: &mut Vec<u8>, length: usize, words: &str) -> Result<(), All
     Ok(())
 }
 
-// Puts what one word says in an image.
+// Writes to an image what one word says.
 fn put_word(image: &mut [u8], word: &str) {
     let Some((place, what)) = word.split_once(':') else {
         return;
@@ -29,7 +29,7 @@ fn put_word(image: &mut [u8], word: &str) {
     }
 }
 
-// Puts bytes so often in an image as the text says.
+// Writes bytes to an image, as often as the text says.
 fn put_hex(image: &mut [u8], place: usize, text: &str) {
     let (hex, count) = text.split_once('*').unwrap_or((text, "1"));
     let count = count.parse::<usize>().unwrap_or(0);
@@ -49,7 +49,7 @@ fn put_hex(image: &mut [u8], place: usize, text: &str) {
     }
 }
 
-// The byte that two hexadecimal digits give.
+// Returns the byte that two hexadecimal digits mean.
 fn hex_at(digits: &[u8], at: usize) -> u8 {
     match digits.get(at.saturating_mul(2)..) {
         Some([high, low, ..]) => hex_byte(*high, *low),
@@ -57,7 +57,7 @@ fn hex_at(digits: &[u8], at: usize) -> u8 {
     }
 }
 
-// Puts numbers in an image, one after another.
+// Writes numbers to an image, one after another.
 fn put_numbers(image: &mut [u8], place: usize, text: &str) {
     let Some(image) = image.get_mut(place..) else {
         return;

@@ -1,11 +1,12 @@
 //! Runs transcripts, and series: commands over files in memory, each with what it shows.
 //!
-//! A transcript is a text. A line at the margin is prose; `  $ ` begins a command, `  > ` a line
-//! that is given to it, and any other line that is indented by two spaces is what it shows. Each
-//! word of this program that ends in `.t` names a transcript. It prints each command that shows
-//! something else, as it shows now, a line for each transcript, and one for all. With `again` as
-//! its first word it prints each transcript as it runs now. `verb` has the commands. Any other word
-//! names a series (`series`), whose lines come last.
+//! A transcript is a text. A line at the margin is prose. `  $ ` starts a command, and `  > `
+//! starts a line that is given to it. Any other line that is indented by two spaces is the
+//! command's expected output. Each word of this program that ends in `.t` names a transcript. The
+//! program prints each command whose output differs, with its output now, then a line for each
+//! transcript, and one for all. With `again` as its first word it prints each transcript as it runs
+//! now. `scene` has the commands. Any other word names a series (`series`), whose lines are printed
+//! last.
 #![tactic(auto)]
 
 mod bytes;
@@ -51,15 +52,16 @@ fn main(rt: HostRuntime) -> io::Result<ExitCode> {
     Ok(ExitCode::from(u8::from(!is_good)))
 }
 
-// The text of the transcript of this name, of at most 4 MiB; one that can't be read is empty.
+// Returns the text of the transcript of this name, of at most 4 MiB; an empty text if it can't be
+// read.
 fn transcript_of<R: std::rt::Files + AllocGlobal>(rt: &R, name: &str) -> io::Result<String> {
     let mut files = HostFiles::new(rt, rt.alloc());
     let text = read_text(rt.alloc(), name, &mut files).unwrap_or(Vec::new(rt.alloc()));
     Ok(String::from_utf8(text).unwrap_or(String::new(rt.alloc())))
 }
 
-// What is to be printed of a transcript: the whole of it as
-// it runs now, or what differs and its line.
+// Returns what is printed of a transcript: all of it as it runs now, or the commands that differ
+// and its line.
 fn run<R: AllocGlobal + Threads + Wait + Sync>(
     rt: &R,
     name: &str,
@@ -71,7 +73,7 @@ fn run<R: AllocGlobal + Threads + Wait + Sync>(
     run_in(rt, name, text, is_again, &mut scene, all)
 }
 
-// The same in a folder.
+// As above, in a folder.
 fn run_in<R: AllocGlobal + Threads + Wait + Sync>(
     rt: &R,
     name: &str,

@@ -37,7 +37,7 @@ impl Files for Here<'_> {
     }
 }
 
-// The name that the folder has for a file.
+// Returns the folder's name for a file.
 fn plain(name: &str) -> &str {
     name.strip_prefix("./").unwrap_or(name)
 }

@@ -18,7 +18,7 @@ use test_devices::{Folder, Outlet};
 // The sectors of the largest disk.
 const MAX_SECTORS: u64 = 1_048_576;
 
-/// A folder of files, and what the last command showed. Threads are started and waited for by `rt`.
+/// A folder of files, and the output of the last command. `rt` starts threads and waits for them.
 #[derive(Drop)]
 pub struct Scene<'a, H> {
     rt: &'a H,
@@ -28,7 +28,7 @@ pub struct Scene<'a, H> {
 }
 
 impl<'a, H: Threads + Wait + Sync> Scene<'a, H> {
-    /// A folder of no files.
+    /// Returns a scene with no files.
     pub fn new(rt: &'a H, alloc: Global) -> Scene<'a, H> {
         Scene {
             rt,
@@ -38,12 +38,13 @@ impl<'a, H: Threads + Wait + Sync> Scene<'a, H> {
         }
     }
 
-    /// What the last command showed.
+    /// Returns the output of the last command.
     pub fn shown(&self) -> &str {
         self.shown.as_str()
     }
 
-    /// Does a command, with the lines that are given to it. A command that isn't known shows so.
+    /// Does a command, with the lines that are given to it. The output of an unknown command says
+    /// so.
     pub fn run(&mut self, command: &str, given: &str) -> Result<(), AllocError> {
         self.shown.clear();
         let (verb, rest) = command.split_once(' ').unwrap_or((command, ""));
@@ -71,8 +72,8 @@ impl<'a, H: Threads + Wait + Sync> Scene<'a, H> {
         self.folder.put(self.alloc, name, bytes)
     }
 
-    // `more NAME COUNT`: appends the given lines so often,
-    // with the number of the time in place of each `%`.
+    // `more NAME COUNT`: appends the given lines `COUNT` times, with the number of each repetition
+    // in place of each `%`.
     fn more(&mut self, words: &str, given: &str) -> Result<(), AllocError> {
         let (name, count) = words.split_once(' ').unwrap_or((words, "1"));
         let mut bytes = self.taken(name)?;
@@ -104,7 +105,7 @@ impl<'a, H: Threads + Wait + Sync> Scene<'a, H> {
         Ok(())
     }
 
-    // `show NAME`: what a file holds, by its sectors that aren't zeroes.
+    // `show NAME`: shows a file's content, by its sectors that aren't zeroes.
     fn show(&mut self, name: &str) -> Result<(), AllocError> {
         match self.folder.bytes(name) {
             Some(bytes) => push_sectors(&mut self.shown, bytes),
@@ -112,7 +113,7 @@ impl<'a, H: Threads + Wait + Sync> Scene<'a, H> {
         }
     }
 
-    // `same ONE OTHER`: whether two files hold the same.
+    // `same ONE OTHER`: shows whether two files have the same content.
     fn same(&mut self, words: &str) -> Result<(), AllocError> {
         let (one, other) = words.split_once(' ').unwrap_or((words, words));
         let is_same = self.folder.bytes(one) == self.folder.bytes(other);
@@ -121,7 +122,7 @@ impl<'a, H: Threads + Wait + Sync> Scene<'a, H> {
         Ok(())
     }
 
-    // `print NAME`: a script of `record` as its one text, or its fault.
+    // `print NAME`: shows the canonical text of a script of `record`, or its fault.
     fn print(&mut self, name: &str) -> Result<(), AllocError> {
         let text = self.taken(name)?;
         match read_script(self.alloc, &text) {
@@ -130,7 +131,7 @@ impl<'a, H: Threads + Wait + Sync> Scene<'a, H> {
         }
     }
 
-    // `print-run NAME`: the same of a script of `run`.
+    // `print-run NAME`: as above, for a script of `run`.
     fn print_run(&mut self, name: &str) -> Result<(), AllocError> {
         let text = self.taken(name)?;
         match read_run_script(self.alloc, &text) {
@@ -139,7 +140,7 @@ impl<'a, H: Threads + Wait + Sync> Scene<'a, H> {
         }
     }
 
-    // `table LINE`: a table's line as its one text, or its refusal.
+    // `table LINE`: shows the canonical text of a table's line, or its refusal.
     fn table(&mut self, line: &str) -> Result<(), AllocError> {
         match parse_line(line.as_bytes()) {
             Ok(spec) => {
@@ -155,8 +156,8 @@ impl<'a, H: Threads + Wait + Sync> Scene<'a, H> {
         }
     }
 
-    // `stack SECTORS` or `stack NAME`: a disk of zeroes of so many sectors, or one that holds a
-    // file's bytes, under layers.
+    // `stack SECTORS` or `stack NAME`: makes a disk under layers. It has `SECTORS` sectors of
+    // zeroes, or holds a file's bytes.
     fn stack(&mut self, what: &str, given: &str) -> Result<(), AllocError> {
         match self.disk_of(what) {
             Some(disk) => ask_stack(self.alloc, disk, given, &mut self.shown),
@@ -164,7 +165,7 @@ impl<'a, H: Threads + Wait + Sync> Scene<'a, H> {
         }
     }
 
-    // `disk SECTORS` or `disk NAME`: the same under no layer.
+    // `disk SECTORS` or `disk NAME`: as above, under no layer.
     fn disk(&mut self, what: &str, given: &str) -> Result<(), AllocError> {
         match self.disk_of(what) {
             Some(disk) => {
@@ -175,7 +176,7 @@ impl<'a, H: Threads + Wait + Sync> Scene<'a, H> {
         }
     }
 
-    // A disk of zeroes of so many sectors, or one that holds a file's bytes.
+    // Returns a disk of zeroes with this many sectors, or one that holds a file's bytes.
     fn disk_of(&self, what: &str) -> Option<SectorDisk> {
         if let Ok(sectors) = what.parse::<u64>() {
             if sectors == 0 || sectors > MAX_SECTORS {
@@ -191,8 +192,8 @@ impl<'a, H: Threads + Wait + Sync> Scene<'a, H> {
         SectorDisk::from_bytes(self.alloc, bytes).ok()
     }
 
-    // A command line of dmlw, perhaps behind the word of an output that fails, `deaf` for a stream
-    // of faults that can't be flushed, or `quiet`.
+    // Runs a command line of dmlw. Before it there may be the word of an output that fails, `deaf`
+    // for a stream of faults that can't be flushed, or `quiet`.
     fn dmlw(&mut self, verb: &str, command: &str, rest: &str) -> Result<(), AllocError> {
         match verb {
             "dmlw" => self.execute(Outlet::open(self.alloc), Outlet::open(self.alloc), command),
@@ -209,13 +210,13 @@ impl<'a, H: Threads + Wait + Sync> Scene<'a, H> {
         }
     }
 
-    // Executes the words of a command line, and shows what it tells.
+    // Executes the words of a command line, and shows what it prints.
     fn execute(&mut self, out: Outlet, err: Outlet, line: &str) -> Result<(), AllocError> {
         let (mut out, mut err) = (out, err);
         self.execute_on(&mut out, &mut err, line)
     }
 
-    // The same on outputs that stay with the caller.
+    // As above, on outputs that stay with the caller.
     fn execute_on(
         &mut self,
         out: &mut Outlet,
@@ -234,9 +235,9 @@ impl<'a, H: Threads + Wait + Sync> Scene<'a, H> {
         )
     }
 
-    // `narrow dmlw ..`: executes a command line, whose whole output is given, over outputs with
-    // room for no byte of it, for one and so on, up to one byte too few. It shows how many these
-    // are, and each thing that is told behind the beginning of the output, once.
+    // `narrow dmlw ..`: executes a command line over outputs with room for no byte, for one, and so
+    // on, up to one byte less than its whole output. It shows the number of these outputs. It also
+    // shows, once each, the different faults that were printed after a prefix of the output.
     fn narrow(&mut self, line: &str, whole: &str) -> Result<(), AllocError> {
         let mut seen = String::new(self.alloc);
         for room in 0..whole.len() {
@@ -253,13 +254,13 @@ impl<'a, H: Threads + Wait + Sync> Scene<'a, H> {
         Ok(())
     }
 
-    // What the file of a name holds; nothing where it isn't there.
+    // Returns the content of the file of this name; nothing if it doesn't exist.
     fn taken(&self, name: &str) -> Result<Vec<u8>, AllocError> {
         Vec::from_slice(self.alloc, self.folder.bytes(name).unwrap_or_default())
     }
 }
 
-// Notes what was told of an output that was too narrow, where that isn't noted yet.
+// Notes what was printed when an output was too narrow, if it isn't noted yet.
 fn note_refusal(seen: &mut String, shown: &str, is_beginning: bool) -> Result<(), AllocError> {
     let told = match shown.split_once("! ") {
         Some((_, told)) => told,
@@ -294,7 +295,7 @@ fn execute_over<H: Threads + Wait + Sync>(
     execute(rt, words, &mut session)
 }
 
-// The words of a command line, parted by spaces.
+// Returns the words of a command line, separated by spaces.
 fn words_of<'a>(alloc: Global, line: &'a str) -> Result<Vec<&'a str>, AllocError> {
     let mut words = Vec::new(alloc);
     for word in line.split(' ') {
@@ -321,7 +322,7 @@ fn push_numbered(
     Ok(())
 }
 
-// Appends what a command told: what it put out, and behind `! ` each line of its faults.
+// Appends what a command printed: its output, and each line of its faults after `! `.
 fn push_told(shown: &mut String, out: &[u8], err: &[u8]) -> Result<(), AllocError> {
     push_text(shown, out)?;
     let faults = str::from_utf8(err).unwrap_or("no text\n");
@@ -337,7 +338,7 @@ fn push_told(shown: &mut String, out: &[u8], err: &[u8]) -> Result<(), AllocErro
     end_line(shown, faults)
 }
 
-// Appends how a command ended, where that isn't with status 0, all flushed and told.
+// Appends how a command ended, unless it ended with status 0 and printed and flushed everything.
 fn push_ending(
     shown: &mut String,
     status: u8,
@@ -356,8 +357,8 @@ fn push_ending(
     Ok(())
 }
 
-// Appends a text, with `\r` for each carriage return, and
-// with a word where it doesn't end with a line feed.
+// Appends a text, with `\r` for each carriage return. If the text doesn't end with a line feed,
+// appends a word that says so.
 fn push_text(shown: &mut String, bytes: &[u8]) -> Result<(), AllocError> {
     let text = str::from_utf8(bytes).unwrap_or("no text\n");
     if text.is_empty() {
@@ -373,7 +374,7 @@ fn push_text(shown: &mut String, bytes: &[u8]) -> Result<(), AllocError> {
     end_line(shown, text)
 }
 
-// Says so where a text doesn't end with a line feed.
+// Appends a remark if a text doesn't end with a line feed.
 fn end_line(shown: &mut String, text: &str) -> Result<(), AllocError> {
     if !text.ends_with('\n') {
         shown.push_str("(no line feed)\n")?;

@@ -1,7 +1,8 @@
-//! Series of commands over files in memory, each compared with what was worked out apart.
+//! Series of commands over files in memory. The result of each is compared with one that was
+//! computed separately.
 //!
-//! A series goes through all cases of its kind, and prints a line with its counts, and of each case
-//! that came out otherwise what was printed and what was wanted.
+//! A series goes through all cases of its kind, and prints a line with its counts. For each case
+//! that differs, it prints the output and the expected output.
 
 mod asking;
 mod damage;

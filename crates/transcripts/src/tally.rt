@@ -1,4 +1,4 @@
-// How many commands ran, and how many of them showed something else.
+// How many commands ran, and how many of them differed.
 use std::fmt;
 
 /// Counts of commands.
@@ -9,7 +9,7 @@ pub struct Tally {
 }
 
 impl Tally {
-    /// No command.
+    /// Returns counts of no command.
     pub fn new() -> Tally {
         Tally {
             commands: 0,
@@ -17,7 +17,7 @@ impl Tally {
         }
     }
 
-    /// Counts a command, which showed what was wanted or didn't.
+    /// Counts a command, whose output was as expected or not.
     pub fn count(&mut self, is_same: bool) {
         self.commands = self.commands.saturating_add(1);
         if !is_same {
@@ -31,7 +31,7 @@ impl Tally {
         self.differ = self.differ.saturating_add(other.differ);
     }
 
-    /// Whether all commands showed what was wanted.
+    /// Returns whether all commands were as expected.
     pub fn is_good(&self) -> bool {
         self.differ == 0
     }

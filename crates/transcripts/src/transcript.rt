@@ -1,11 +1,11 @@
-// A transcript, gone through line by line.
+// A transcript, run line by line.
 use crate::scene::Scene;
 use crate::tally::Tally;
 use std::alloc::{AllocError, Global};
 use std::sync::Wait;
 use std::thread::Threads;
 
-// A command with the lines that are given to it, and what it is to show.
+// A command with the lines that are given to it, and its expected output.
 #[derive(Drop)]
 struct Step {
     command: String,
@@ -22,13 +22,13 @@ impl Step {
         }
     }
 
-    // Begins another command.
+    // Starts another command.
     fn begin(&mut self, command: &str) -> Result<(), AllocError> {
         self.command.push_str(command)?;
         Ok(())
     }
 
-    // Forgets the command, its given lines and what it is to show.
+    // Clears the command, its given lines and its expected output.
     fn clear(&mut self) {
         self.command.clear();
         self.given.clear();
@@ -36,15 +36,15 @@ impl Step {
     }
 }
 
-// The text that is printed of a transcript, and whether that is the whole of it.
+// The text that is printed of a transcript, and whether that is the whole transcript.
 #[derive(Drop)]
 struct Report {
     text: String,
     is_again: bool,
 }
 
-/// Runs a transcript's commands in turn, and answers what is printed of it: all of it with what
-/// each command shows now, or the commands that show something else.
+/// Runs a transcript's commands in turn, and returns what is printed of it. This is all of it with
+/// each command's output now, or the commands whose output differs.
 pub fn run<H: Threads + Wait + Sync>(
     alloc: Global,
     text: &str,
@@ -111,7 +111,7 @@ fn take_line<H: Threads + Wait + Sync>(
     copy_line(line, report)
 }
 
-// Runs the command whose lines have all been taken, if there is one, and notes what it shows.
+// Runs the command whose lines have all been taken, if there is one, and notes its output.
 fn end_step<H: Threads + Wait + Sync>(
     step: &mut Step,
     report: &mut Report,
@@ -133,7 +133,7 @@ fn end_step<H: Threads + Wait + Sync>(
     Ok(())
 }
 
-// Notes a command that shows something else, with what it shows.
+// Notes a command whose output differs, with its output.
 fn tell_difference(text: &mut String, command: &str, shown: &str) -> Result<(), AllocError> {
     text.push_str("  $ ")?;
     push_line(text, command)?;

@@ -11,7 +11,7 @@ use std::process::Abort;
 use std::test::Fail;
 use test_devices::{is_same, is_told};
 
-// How many writes of a sector fail before one passes.
+// Returns how many writes of a sector fail before one passes.
 fn failed_writes<D: Message + Drop>(rt: &impl Abort, device: &mut D, sector: u64) -> u64 {
     for failed in 0..300 {
         assert!(rt; sector < device.sectors());
@@ -28,8 +28,8 @@ addbadblock 60 1|60|1
 addbadblock 127 0|127|0
 addbadblock 00000000000000000007 00000000000000000255|7|255";
 
-// A row lists its block, which so many writes of it then
-// take from the list; and once more, and clears the list.
+// Lists the block of a row. The row's number of writes then remove it from the list. Lists it once
+// more, and clears the list.
 fn list_block<D: Message + Drop>(rt: &(impl Abort + Print), device: &mut D, row: &str) {
     let (text, rest) = row.split_once('|').unwrap_or_default();
     let (block, writes) = rest.split_once('|').unwrap_or_default();
@@ -56,11 +56,11 @@ fn texts_that_list_a_block(rt: HostRuntime) -> Result<(), Fail> {
     Ok(())
 }
 
-// Texts that ask for none, with a bar behind each.
+// Texts that give no order, with a bar after each.
 const NO_ORDERS: &str =
     "| |addbadblock|addbadblock |addbadblock  60|addbadblock 60 |addbadblock 60  1|addbadblock 60 1 |addbadblock 60 1 1| addbadblock 60|addbadblock 60 256|addbadblock 60 -1|addbadblock x|addbadblock 60 x|addbadblock 0x3c|addbadblock\t60|addbadblock 18446744073709551616|addbadblock 000000000000000000060|ADDBADBLOCK 60|addbadblocks 60|removebadblock|removebadblock 60 |removebadblock  60|removebadblock 60 1|clearbadblocks | clearbadblocks|clearbadblocks 1|clearbadblock|enable |Enable|enable 1|disable\n|quiet|countbadblocks";
 
-// Such a text is refused.
+// Checks that such a text is refused.
 fn refuse<D: Message + Drop>(rt: &(impl Abort + Print), device: &mut D, text: &str) {
     let refused = Err(MessageError::BadMessage);
     assert!(rt; is_same(rt, &device.message(1, text), &refused, text));
@@ -77,7 +77,8 @@ fn texts_that_ask_for_none(rt: HostRuntime) -> Result<(), Fail> {
 }
 
 // Messages to a layer of 99 sectors with blocks of 2, one after another: the text, the answer, and
-// whether the device then is enabled (`e`) and lists the blocks 0 (`f`) and 49 (`l`).
+// the state then. The state is whether the device is enabled (`e`) and lists the blocks 0 (`f`) and
+// 49 (`l`).
 const ANSWERS: &str = "removebadblock 0|8 NotBad|---
 clearbadblocks|ok|---
 disable|ok|---
@@ -101,13 +102,13 @@ disable|ok|-fl
 clearbadblocks|ok|---
 removebadblock 49|8 NotBad|---";
 
-// Whether a read of the sector fails.
+// Returns whether a read of the sector fails.
 fn is_bad<D: BlockDev + Drop>(rt: &impl Abort, device: &mut D, sector: u64) -> bool {
     ask(rt, device, Ms::new(0), read_of(sector)).end.is_err()
 }
 
-// Whether the device is enabled, and lists these two blocks: while it is enabled, a read of a
-// listed block fails. Its mode stays.
+// Returns whether the device is enabled, and lists these two blocks. While it is enabled, a read of
+// a listed block fails. Its mode stays.
 fn state<D: BlockDev + Drop>(rt: &impl Abort, device: &mut Dust<D>) -> [bool; 3] {
     let is_enabled = device.mode() != Mode::Bypass;
     assert!(rt; device.message(1, "enable").is_ok());
@@ -119,7 +120,7 @@ fn state<D: BlockDev + Drop>(rt: &impl Abort, device: &mut Dust<D>) -> [bool; 3]
     [is_enabled, has_first, has_last]
 }
 
-// Puts the message of a row.
+// Sends the message of a row.
 fn put_message<D: BlockDev + Drop>(
     rt: &(impl Abort + Print),
     alloc: Global,
@@ -149,8 +150,8 @@ fn answers_of_messages(rt: HostRuntime) -> Result<(), Fail> {
     Ok(())
 }
 
-// A layer of one or two sectors has one block of two, and
-// one of three or four has two: as many as begin there.
+// A layer of one or two sectors has one block of two sectors, and a layer of three or four has two.
+// A layer has as many blocks as begin in it.
 const ONE: &str = "m 1 addbadblock 0|ok
 m 1 addbadblock 1|6 BadMessage
 m 1 addbadblock 2|6 BadMessage";

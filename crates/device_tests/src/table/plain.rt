@@ -1,11 +1,11 @@
-// Layers over a disk, told in plain words: a list of layers, and a byte for each sector.
+// Layers over a disk, modelled plainly: a list of layers, and a byte for each sector.
 use crate::calls::Call;
 use bio::Ms;
 use fault_layers::{Kind, Verdict};
 use table_line::{Feature, LayerSpec, Target};
 
-// A layer: what its line asks for, its load, how many calls it passed that a fuse counts, and how
-// often it failed or dropped one.
+// A layer: what its line asks for, its load time, and counts of calls: those that it passed and a
+// fuse counts, and those that it failed or dropped.
 #[derive(Debug, Drop)]
 pub(super) struct Plain {
     spec: LayerSpec,
@@ -27,7 +27,7 @@ impl Plain {
     }
 }
 
-// Whether a flakey layer is down: the milliseconds since its load, in a turn of so many.
+// Returns whether a flakey layer is down, `since` milliseconds after its load.
 fn is_down(up: u64, down: u64, since: u64) -> bool {
     let turn = up.saturating_add(down).saturating_mul(1000);
     since.checked_rem(turn).unwrap_or(0) >= up.saturating_mul(1000)
@@ -36,7 +36,7 @@ fn is_down(up: u64, down: u64, since: u64) -> bool {
 fn verdict(layer: &Plain, kind: Kind, now: u64) -> Verdict {
     let is_read = kind == Kind::Read;
     match layer.spec.target {
-        // A dust layer passes each call before messages enable it.
+        // A dust layer passes each call until messages enable it.
         Target::Linear | Target::Dust { .. } => Verdict::Pass,
         Target::Delay { read, write, flush } => Verdict::Delay(Ms::new(match kind {
             Kind::Read => read,
@@ -59,7 +59,7 @@ fn verdict(layer: &Plain, kind: Kind, now: u64) -> Verdict {
     }
 }
 
-// How often these layers failed a call, and how often they dropped one.
+// Returns how many calls these layers failed, and how many they dropped.
 pub(super) fn counts(layers: &[Plain]) -> (u64, u64) {
     let mut faults: u64 = 0;
     let mut lies: u64 = 0;
@@ -70,7 +70,7 @@ pub(super) fn counts(layers: &[Plain]) -> (u64, u64) {
     (faults, lies)
 }
 
-// The call on the disk.
+// Makes the call on the disk.
 fn on_disk(disk: &mut [u8], kind: Kind, first: usize, byte: u8) -> Option<u8> {
     match kind {
         Kind::Read => return disk.get(first).copied(),
@@ -90,7 +90,7 @@ fn put(disk: &mut [u8], sector: usize, byte: u8) {
     }
 }
 
-// What a call answers: the byte that is read or 0, or that it failed.
+// Returns the answer to a call: the byte that is read or 0, or none if it failed.
 pub(super) fn plain_call(
     layers: &mut [Plain],
     disk: &mut [u8],

@@ -1,4 +1,4 @@
--- What the reader finds of a delay line and of a dust line.
+-- What the parser finds of a delay line and of a dust line.
 use Rattle.std.proofs.Common.{◌≡◌, ℕ, ◌+◌, Bool, true, false, ◌&&◌, ◌||◌, not, cond, List, [], ◌∷◌}
 use Rattle.std.proofs.Common.{length, Option, Some, None, Result, Ok, Err, inl, inr, refl, ap}
 use Rattle.std.proofs.Common.{subst, sym, ◌∙◌, arith}
@@ -103,7 +103,7 @@ IsThree words =
     (a b c d e f g h i j k l : List ℕ)
     × (words ≡ a ∷ b ∷ c ∷ d ∷ e ∷ f ∷ g ∷ h ∷ i ∷ j ∷ k ∷ l ∷ [])
 
--- so many elements are six, nine or twelve
+-- the number of words is six, nine or twelve
 pub set_counts : (count : ℕ) → may_have (Some names.Delay) count ≡ true
     → (count ≡ 6) ⊎ ((count ≡ 9) ⊎ (count ≡ 12))
 set_counts count is = at (or_cases (nat_eq count 6) _ is)
@@ -128,7 +128,7 @@ six_words (a ∷ b ∷ []) is = absurd (omega arith)
 six_words (a ∷ []) is = absurd (omega arith)
 six_words [] is = absurd (omega arith)
 
--- three more, and more again
+-- there are three more words, and `fine` holds for the rest
 abbrev IsMore : (List (List ℕ) → Type 0) → List (List ℕ) → Type 0
 IsMore fine words =
     (a b c : List ℕ) × (rest : List (List ℕ)) × (words ≡ a ∷ b ∷ c ∷ rest) × fine rest
@@ -221,7 +221,7 @@ delay_errors words (inr (inr (a, b, c, d, e, f, g, h, i, j, k, l, is))) =
     (three_delays (test_at all 5) (test_at all 7) (test_at all 8) (test_at all 10) (test_at all 11)
     (value_at all 5) (value_at all 7) (value_at all 8) (value_at all 10) (value_at all 11)))
 
--- bytes are a block's where the test says so
+-- if the test passes, the bytes are a block's
 pub size_read : (bytes : ℕ) → is_block_size bytes ≡ true → IsBlockSize bytes
 size_read bytes is =
     let parts = and_parts (is_power_of_two bytes)
@@ -229,7 +229,7 @@ size_read bytes is =
     let range = and_parts (nat_le 512 bytes) (nat_le bytes 1073741824) parts.1 in
     record { power = parts.0; some = leb-true _ _ range.0; few = leb-true _ _ range.1 }
 
--- delays are in their range where the test says so
+-- if the test passes, the delays are in their range
 delays_range : (read write flush : ℕ) → are_delays read write flush ≡ true
     → AreDelays read write flush
 delays_range read write flush is =
@@ -243,7 +243,7 @@ delays_range read write flush is =
       flushes = leb-true _ _ more.1;
     }
 
--- two words that are one number
+-- two words that are equal numbers
 same_numbers : (a b : Option ℕ) (m n : ℕ) → are_same a b ≡ true → or_error errors.BadNumber a ≡ Ok m
     → or_error errors.BadNumber b ≡ Ok n → n ≡ m
 same_numbers (Some a) (Some b) m n same is also =
@@ -252,7 +252,7 @@ same_numbers (Some a) None m n same is also = absurd (cc)
 same_numbers None (Some b) m n same is also = absurd (cc)
 same_numbers None None m n same is also = absurd (cc)
 
--- a set of words that names the first one's place
+-- a set of words names the first set's place
 set_read : (first place device at word : List ℕ) (offset other delay : ℕ) (more : List (List ℕ))
     → (bytes_eq first device && are_same (number_of place) (number_of at)) ≡ true
     → or_error errors.BadNumber (number_of place) ≡ Ok offset
@@ -273,7 +273,7 @@ set_read first place device at word offset other delay more one is there has =
       spelled = ap (λ (it : List ℕ). it ∷ at ∷ word ∷ more) (sym (same_bytes first device parts.0));
     }
 
--- the first one
+-- the first set of words
 first_set : (device at word : List ℕ) (offset delay : ℕ) (more : List (List ℕ))
     → or_error errors.BadNumber (number_of at) ≡ Ok offset
     → or_error errors.BadNumber (number_of word) ≡ Ok delay
@@ -399,14 +399,14 @@ delays_found read write flush are =
     and_from _ _ (le-leb _ _ are.reads)
     (and_from _ _ (le-leb _ _ are.writes) (le-leb _ _ are.flushes))
 
--- a set of the first one's device and sector passes the test
+-- a set with the first set's device and sector passes the test
 place_found : (device first at : List ℕ) (offset : ℕ) → IsNumber first offset → IsNumber at offset
     → (bytes_eq device device && are_same (number_of first) (number_of at)) ≡ true
 place_found device first at offset is also =
     and_from _ _ ((bytes_eq-Decides device device).1 refl)
     (rw (number_again first offset is, number_again at offset also) (eq-eqb offset offset refl))
 
--- a delay line is read by its sets of words
+-- a delay line is parsed by its sets of words
 pub delay_said : (start_word length_word device : List ℕ) (rest : List (List ℕ))
     (sectors offset read write flush : ℕ) → IsNumber start_word 0
     → IsNumber length_word sectors

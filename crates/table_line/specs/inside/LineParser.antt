@@ -1,5 +1,5 @@
--- What a line asks for, as the reader finds it, step by step. `TableLines` and `Refusals` say it in
--- the words of the table; they agree by proof.
+-- What a line asks for, as the parser finds it, step by step. `TableLines` and `Refusals` define it
+-- by the words of the table; they agree by proof.
 use Rattle.std.specs.Prelude.{ℕ, ◌+◌, ◌&&◌, Bool, List, Option, Some, None, Result, Ok, Err, codes}
 use Rattle.std.specs.Prelude.{is_none, length, nat_eq, slice_get, if◌then◌else◌}
 use Rattle.std.specs.Str.{bytes_eq}
@@ -16,19 +16,19 @@ use Rattle.table_line.specs.declared.table_error.TableError.TheVariants as error
 use Rattle.table_line.specs.Ranges.{is_in_range}
 use Rattle.table_line.specs.Refusals.{has_one_place, may_have, named, word_in}
 
--- goes on with a value that is read
+-- goes on with a value that is parsed
 infixl 10 ◌>>=◌
 abbrev pub ◌>>=◌ : {A B : Type 0} → Result A TableError → (A → Result B TableError)
     → Result B TableError
 (Ok x) >>= f = f x
 (Err error) >>= f = Err error
 
--- a value that is there
+-- the value, or this error if there is none
 abbrev pub or_error : {A : Type 0} → TableError → Option A → Result A TableError
 or_error error (Some x) = Ok x
 or_error error None = Err error
 
--- the target that the third word names
+-- the target that the third word names, or an error
 abbrev pub named_by : Option (List ℕ) → Result Name TableError
 named_by (Some word) = or_error errors.UnknownTarget (named word)
 named_by None = Err errors.WrongCount
@@ -36,11 +36,11 @@ named_by None = Err errors.WrongCount
 abbrev pub name_in : List (List ℕ) → Result Name TableError
 name_in words = named_by (slice_get words 2)
 
--- the number that the word at this place is
+-- the number that the word at `place` is, or an error
 abbrev pub number_in : List (List ℕ) → ℕ → Result ℕ TableError
 number_in words place = or_error errors.BadNumber (number_of (word_in words place))
 
--- the sector of the lower device
+-- the sector of the lower device, or an error
 abbrev pub offset_in : Name → List (List ℕ) → Result ℕ TableError
 offset_in names.Linear words = number_in words 4
 offset_in names.Error words = Ok 0
@@ -57,7 +57,7 @@ feature_named name =
     else if bytes_eq name (codes "drop_writes") then Some features.DropWrites
     else None
 
--- the feature that these words say
+-- the feature that these words name, or an error
 abbrev pub feature_by : Option (List ℕ) → Option (List ℕ) → Result Feature TableError
 feature_by None name = Ok features.None
 feature_by (Some count) None =
@@ -69,7 +69,7 @@ feature_by (Some count) (Some name) =
 abbrev pub feature_in : List (List ℕ) → Result Feature TableError
 feature_in words = feature_by (slice_get words 7) (slice_get words 8)
 
--- the delay of the set of words from this place on, or, if there is none, that of the set before
+-- the delay of the set of words from `place` on, or `before` if there is no such set
 abbrev pub later_delay : List (List ℕ) → ℕ → ℕ → Result ℕ TableError
 later_delay words place before =
     if is_none (slice_get words place) then Ok before else
@@ -82,7 +82,7 @@ delay_in words = do
   flush ← later_delay words 9 write
   Ok (targets.Delay read write flush)
 
--- what the layer does
+-- the target that a line with this name asks for, or an error
 abbrev pub target_in : Name → List (List ℕ) → Result Target TableError
 target_in names.Linear words = Ok targets.Linear
 target_in names.Error words = Ok targets.Error
@@ -99,7 +99,7 @@ target_in names.Dust words = do
   Ok (targets.Dust bytes)
 target_in names.Delay words = delay_in words
 
--- what a line of this target asks for, apart from ranges
+-- the layer that a line of this target asks for, before its ranges are tested
 abbrev pub spec_in : Name → List (List ℕ) → Result LayerSpec TableError
 spec_in name words = do
   sectors ← number_in words 1
@@ -107,19 +107,19 @@ spec_in name words = do
   target ← target_in name words
   Ok (record { length = sectors; offset = offset; target = target })
 
--- the layer, where its values are in their ranges, and its line names one place
+-- the layer, if its values are in their ranges and its line names one place
 abbrev pub in_range : Bool → ℕ → LayerSpec → Result LayerSpec TableError
 in_range one start spec =
     if nat_eq start 0 && (is_in_range spec && one) then Ok spec else Err errors.OutOfRange
 
--- what a line of this target asks for
+-- the layer that a line of this target asks for, or an error
 abbrev pub read_named : Name → List (List ℕ) → Result LayerSpec TableError
 read_named name words = do
   start ← number_in words 0
   spec ← spec_in name words
   in_range (has_one_place (Some name) words) start spec
 
--- where it has a number of words that the target has
+-- as above, if the line has a number of words that the target allows
 abbrev pub read_counted : Name → List (List ℕ) → Result LayerSpec TableError
 read_counted name words =
     if may_have (Some name) (length words) then read_named name words else Err errors.WrongCount

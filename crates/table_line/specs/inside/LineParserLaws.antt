@@ -1,4 +1,4 @@
--- What the reader finds is what the table's words say, and its errors are the tests that fail.
+-- What the parser finds is what the table's words define, and its errors are the tests that fail.
 use Rattle.std.proofs.Common.{◌≡◌, ℕ, ◌+◌, ◌≤◌, Bool, true, false, ◌&&◌, ◌||◌, not, cond, List, []}
 use Rattle.std.proofs.Common.{◌∷◌, length, length-drop, drop, Option, Some, None, Result, Ok, Err}
 use Rattle.std.proofs.Common.{inl, inr, refl, ap, subst, sym, ◌∙◌, arith}
@@ -37,7 +37,7 @@ use Rattle.table_line.specs.inside.DelayLaws.{delay_errors, delay_read, delay_sa
 use Rattle.table_line.specs.inside.DelayLaws.{dust_tests, set_counts, sets_of, size_found}
 use Rattle.table_line.specs.inside.DelayLaws.{size_read}
 
--- the tests of each target's line, by those of its words
+-- the tests of a target's line are the tests of its words
 linear_tests : (t u v : Bool) (start sectors offset : ℕ) →
     error_of (number_if t start >>= λ a.
     (number_if u sectors >>= λ b.
@@ -77,7 +77,7 @@ fuse_tests true true false w start sectors offset calls = refl
 fuse_tests true true true false start sectors offset calls = refl
 fuse_tests true true true true start sectors offset calls = last_test _ _ _
 
--- a feature is read, or it is none
+-- a feature is parsed, or there is none
 abbrev IsTested : Bool → Result Feature TableError → Type 0
 IsTested test (Ok feature) = test ≡ true
 IsTested test (Err error) = (test ≡ false) × (error ≡ errors.BadFeature)
@@ -104,7 +104,7 @@ flakey_tests true true true true true f start sectors offset up down (Err error)
 
 -- ---- the words of a feature
 
--- a name is read as its feature, or is none
+-- a name is parsed as its feature, or is none
 name_tested : (t u v : Bool)
     → IsTested (t || u || v)
     (or_error errors.BadFeature
@@ -124,7 +124,7 @@ zero_tested : (t : Bool) → IsTested t (cond t (Ok features.None) (Err errors.B
 zero_tested true = refl
 zero_tested false = (refl, refl)
 
--- the words behind the seconds
+-- the words after the seconds
 rest_tested : (rest : List (List ℕ)) → length rest ≤ 2
     → IsTested (is_feature rest) (feature_by (slice_get rest 0) (slice_get rest 1))
 rest_tested [] few = refl
@@ -170,7 +170,7 @@ named_errors names.Dust words count =
     (value_at words 5)
 named_errors names.Delay words count = delay_errors words (sets_of words count)
 
--- the errors of a line whose third word is this
+-- the errors of a line whose third word has this name
 counted_errors : (name : Option Name) (words : List (List ℕ)) →
     error_of (or_error errors.UnknownTarget name >>= λ it. read_counted it words)
     ≡ cond (is_none name) (Some errors.UnknownTarget)
@@ -266,7 +266,7 @@ feature_read words feature few is =
     (ap (λ (o : Option (List ℕ)). feature_by o (slice_get (drop 7 words) 1)) (get-drop 7 words 0)
     ∙ ap (λ (o : Option (List ℕ)). feature_by (slice_get words 7) o) (get-drop 7 words 1) ∙ is)
 
--- seconds are in their range where the test says so
+-- if the test passes, the seconds are in their range
 cycle_read : (up down : ℕ) → is_cycle up down ≡ true → IsCycle up down
 cycle_read up down is =
     let parts = and_parts (nat_le 1 (up + down)) (nat_le (up + down) 4294967295) is in
@@ -380,7 +380,7 @@ third_word words name is = at (slice_get words 2) is
     at (Some word) e = or_ok errors.UnknownTarget (named word) name e
     at None e = absurd (cc)
 
--- a line of this name is read as a target of this name
+-- a line of this name is parsed as a target of this name
 name_kept : (name : Name) (words : List (List ℕ)) (target : Target)
     → target_in name words ≡ Ok target → name_for target ≡ Some name
 name_kept names.Linear words target is =
@@ -404,7 +404,7 @@ name_kept names.Delay words target is =
     let c = bind_ok (later_delay words 9 b.0) _ target b.2 in
     let same : targets.Delay a.0 b.0 c.0 ≡ target = let last = c.2 in cc in ap name_for (sym same)
 
--- a line of this target is read as what its words ask for
+-- a line of this target is parsed as what its words ask for
 named_read : (name : Name) (words : List (List ℕ)) (spec : LayerSpec)
     → word_in words 2 ≡ word_of name
     → may_have (Some name) (length words) ≡ true
@@ -445,7 +445,7 @@ named_read name words spec named_so count is =
           ∙ ap (λ (word : List ℕ). word ∷ drop 3 words) (sym has.name)));
     })
 
--- what is read is what the words ask for
+-- what is parsed is what the words ask for
 pub said_read : (words : List (List ℕ)) (spec : LayerSpec) → read_words words ≡ Ok spec
     → IsTableLine words spec
 said_read words spec is =
@@ -506,7 +506,7 @@ flakey_found : (t : Bool) (a b c d e : Result ℕ TableError) (f : Result Featur
 flakey_found t a b c d e f sectors offset up down feature is_t is_a is_b is_c is_d is_e is_f fine =
     rw (is_t, is_a, is_b, is_c, is_d, is_e, is_f) fine
 
--- the words of a feature are read as it, and they are two at most
+-- the words of a feature are parsed as it, and they are two at most
 feature_found : (words : List (List ℕ)) (feature : Feature) → IsFeature words feature
     → (feature_by (slice_get words 0) (slice_get words 1) ≡ Ok feature) × (length words ≤ 2)
 feature_found words features.None (inl is) = rw is (refl, omega arith)
@@ -519,7 +519,7 @@ feature_found words features.DropWrites is = rw is (refl, omega arith)
 cycle_found : (up down : ℕ) → IsCycle up down → is_cycle up down ≡ true
 cycle_found up down cycle = and_from _ _ (le-leb _ _ cycle.some) (le-leb _ _ cycle.few)
 
--- what words ask for is read of them
+-- what words ask for is parsed from them
 said_of : (words : List (List ℕ)) (sectors offset : ℕ) (target : Target)
     → IsTableLine words (record { length = sectors; offset = offset; target = target })
     → read_words words ≡ Ok (record { length = sectors; offset = offset; target = target })

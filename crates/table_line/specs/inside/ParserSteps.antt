@@ -1,5 +1,5 @@
--- What the reader finds of a line, step by step: its tests,
--- its words and its values, whatever its target.
+-- What the parser finds of a line, step by step: its tests, its words and its values, for any
+-- target.
 use Rattle.std.proofs.Common.{◌≡◌, ℕ, zero, suc, ◌+◌, ◌<◌, Bool, true, false, ◌&&◌, not, cond, List}
 use Rattle.std.proofs.Common.{[], ◌∷◌, length, drop, Option, Some, None, Result, Ok, Err, refl, ap}
 use Rattle.std.proofs.Common.{sym, ◌∙◌, arith}
@@ -30,7 +30,7 @@ abbrev pub error_of : {A : Type 0} → Result A TableError → Option TableError
 error_of (Ok x) = None
 error_of (Err error) = Some error
 
--- the rest of the table, for a line of this target
+-- the later tests of the table, for a line of this target
 abbrev pub tests_behind : Option Name → List (List ℕ) → Option TableError
 tests_behind name words =
     cond (not (list_all (λ place. is_number (word_in words place))
@@ -53,11 +53,11 @@ pub last_test : {A : Type 0} (t : Bool) (x : A) (e : TableError)
 last_test true x e = refl
 last_test false x e = refl
 
--- a number's word
+-- the number of a word if the test passes, or else the error
 abbrev pub number_if : Bool → ℕ → Result ℕ TableError
 number_if t n = or_error errors.BadNumber (cond t (Some n) None)
 
--- an element behind some
+-- an element after the first `n`
 pub get-drop : {A : Type 0} (n : ℕ) (xs : List A) (i : ℕ)
     → slice_get (drop n xs) i ≡ slice_get xs (n + i)
 get-drop zero xs i = let e : 0 + i ≡ i = omega arith in rw e refl
@@ -72,7 +72,7 @@ test_at words place = is_number (word_in words place)
 abbrev pub value_at : List (List ℕ) → ℕ → ℕ
 value_at words place = number_value (word_in words place)
 
--- an answer with this error
+-- an answer with this error is the error
 pub error_back : {A : Type 0} (answer : Result A TableError) (error : TableError)
     → error_of answer ≡ Some error → answer ≡ Err error
 error_back (Ok x) error is = absurd (cc)
@@ -100,14 +100,14 @@ pub cond_right : {A : Type 0} (t : Bool) (answer : Result A TableError) (error :
 cond_right true answer error y is = (refl, is)
 cond_right false answer error y is = absurd (cc)
 
--- a number is one
+-- a word that is parsed as a number is one
 pub number_ok : (words : List (List ℕ)) (place n : ℕ) → number_in words place ≡ Ok n
     → IsNumber (word_in words place) n
 number_ok words place n is =
     number_read (word_in words place) n
     (or_ok errors.BadNumber (number_of (word_in words place)) n is)
 
--- the words from one on
+-- the words from `place` on
 pub words_from : (place : ℕ) (words : List (List ℕ)) → place < length words
     → drop place words ≡ word_in words place ∷ drop (suc place) words
 words_from place words low =
@@ -136,13 +136,13 @@ name_for (targets.Fuse calls) = Some names.Fuse
 name_for (targets.Dust bytes) = Some names.Dust
 name_for (targets.Delay read write flush) = Some names.Delay
 
--- what a target has: the words behind its name, from the third on
+-- a target's values: the words after its name, from the third on
 pub record HasTarget (words : List (List ℕ)) (offset : ℕ) (target : Target) : Type 0 where
   pub asks : is_target target ≡ true → has_one_place (name_for target) words ≡ true
       → IsTarget (drop 3 words) offset target
   pub name : name_of target ≡ word_in words 2
 
--- a place behind the name
+-- a place after the name
 pub place_read : (words : List (List ℕ)) (offset : ℕ) → 4 < length words
     → number_in words 4 ≡ Ok offset
     → IsPlace (drop 3 words) offset (drop 5 words)
@@ -155,12 +155,12 @@ place_read words offset low is = record {
       ∙ ap (λ (xs : List (List ℕ)). word_in words 3 ∷ xs) (words_from 4 words low);
 }
 
--- a number's word
+-- a number's word is parsed
 pub number_found : (word : List ℕ) (n : ℕ) → IsNumber word n
     → or_error errors.BadNumber (number_of word) ≡ Ok n
 number_found word n is = ap (or_error errors.BadNumber) (number_again word n is)
 
--- values in their ranges
+-- a layer passes the test if its values are in their ranges
 pub range_found : (one : Bool) (spec : LayerSpec) → IsLength spec.length
     → is_target spec.target ≡ true → one ≡ true → in_range one 0 spec ≡ Ok spec
 range_found one spec range has is =
@@ -170,7 +170,7 @@ range_found one spec range has is =
     let all : is_in_range spec ≡ true = and_from _ _ sizes has in
     cond-true (nat_eq 0 0 && (is_in_range spec && one)) _ _ (and_from _ _ all is)
 
--- the same, for any target, by what is read of it
+-- as above, for any target, by what is parsed of it
 pub target_found : (one : Bool) (a b c : Result ℕ TableError) (d : Result Target TableError)
     (sectors offset : ℕ) (target : Target) → a ≡ Ok 0 → b ≡ Ok sectors
     → c ≡ Ok offset → d ≡ Ok target

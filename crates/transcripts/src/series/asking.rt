@@ -1,4 +1,4 @@
-// A command line over files in memory, and what it tells.
+// A command line over files in memory, and what it prints.
 use dmlw_cli::execute;
 use dmlw_files::Session;
 use std::alloc::{AllocError, Global};
@@ -6,7 +6,7 @@ use std::sync::Wait;
 use std::thread::Threads;
 use test_devices::Folder;
 
-/// What a command told: its status, its output and its faults.
+/// What a command printed: its status, its output and its faults.
 #[derive(Drop)]
 pub struct Told {
     pub status: u8,
@@ -15,13 +15,13 @@ pub struct Told {
 }
 
 impl Told {
-    /// Whether it told just this.
+    /// Returns whether the command printed exactly this.
     pub fn is(&self, status: u8, out: &str, err: &str) -> bool {
         self.status == status && self.out.as_str() == out && self.err.as_str() == err
     }
 }
 
-/// What a command line is to tell: it ends with status 1 where there is a fault.
+/// What a command line is expected to print. It ends with status 1 if there is a fault.
 #[derive(Clone, Copy)]
 pub struct Wanted<'a> {
     pub line: &'a str,
@@ -30,13 +30,14 @@ pub struct Wanted<'a> {
 }
 
 impl Wanted<'_> {
-    /// Whether this was told.
+    /// Returns whether the command printed this.
     pub fn is_met(&self, told: &Told) -> bool {
         told.is(u8::from(!self.err.is_empty()), self.out, self.err)
     }
 }
 
-/// What a command line after the program's name tells of a folder's files.
+/// Executes a command line, after the program's name, over a folder's files, and returns what it
+/// prints.
 pub fn ask<H: Threads + Wait + Sync>(
     rt: &H,
     alloc: Global,
@@ -59,7 +60,7 @@ pub fn ask<H: Threads + Wait + Sync>(
     })
 }
 
-// The program's name, and the words of a command line after it.
+// Returns the program's name, and the words of a command line after it.
 fn words_of<'a>(alloc: Global, line: &'a str) -> Result<Vec<&'a str>, AllocError> {
     let mut words = vec![in alloc; "dmlw"]?;
     for word in line.split(' ') {
@@ -68,12 +69,12 @@ fn words_of<'a>(alloc: Global, line: &'a str) -> Result<Vec<&'a str>, AllocError
     Ok(words)
 }
 
-// Bytes as a text; a word of its own where they are none.
+// Returns bytes as a text; an empty text if they aren't one.
 fn text_of(alloc: Global, bytes: Vec<u8>) -> String {
     String::from_utf8(bytes).unwrap_or(String::new(alloc))
 }
 
-/// A folder with a script.
+/// Returns a folder with a script.
 pub fn folder_of(alloc: Global, script: &str) -> Result<Folder, AllocError> {
     let mut folder = Folder::new(alloc);
     folder.put(alloc, "script", Vec::from_slice(alloc, script.as_bytes())?)?;

@@ -1,4 +1,4 @@
-// Logs that were cut, or of which one byte was changed: what is told of each.
+// Logs that were cut, or have one byte changed, and what is printed for each.
 use crate::series::asking::{Wanted, ask, folder_of};
 use crate::series::faults::{Faults, LOG_FAULTS, REPLAY_FAULTS};
 use crate::series::report::{Report, check};
@@ -15,7 +15,7 @@ const FLUSHED: &str = "data 16\nlog 32\nw a 5 1 41\nc a\nf b\nc b\nclose\n";
 const SETTLED: &str =
     "data 16\nlog 32\nw a 4 1 11\nc a\nw b 8 2 22 flush fua\nc b\nturn\nturn\nclose\n";
 
-// What is listed of the first log, line by line.
+// The listing of the first log, line by line.
 const LISTED: [&str; 4] = [
     "super version 1 entries 3 sectorsize 512\n",
     "0 @1 write 5+1\n",
@@ -23,11 +23,11 @@ const LISTED: [&str; 4] = [
     "2 @4 mark dm-log-writes-end\n",
 ];
 
-// What is told of a log that is too short.
+// What is printed for a log that is too short.
 const CUT: &str = "dmlw: 21 CutShort\n";
 
-// The length of a sector, of the data disk, and of the part of a log that is changed byte by byte,
-// in bytes; and the sectors of a log.
+// In bytes: the length of a sector, of the data disk, and of the part of a log that is changed byte
+// by byte. Also the number of sectors of a log.
 const SECTOR: usize = 512;
 
 const DATA_BYTES: usize = 8192;
@@ -36,10 +36,10 @@ const DAMAGED_BYTES: usize = 1024;
 
 const LOG_SECTORS: usize = 32;
 
-// What a byte is set to.
+// The values that a byte is set to.
 const VALUES: [u8; 4] = [0x00, 0x7f, 0x80, 0xff];
 
-// Where the count of entries stands in a super.
+// The place of the count of entries in a super.
 const COUNT_AT: usize = 16;
 
 // A byte of a log that is set to another value.
@@ -49,11 +49,11 @@ struct Damage {
     value: u8,
 }
 
-// What is told of the logs: the ways of reading them, each with its counts.
+// What was seen of the logs: the ways of reading them, each with its counts.
 #[derive(Drop)]
 struct Seen {
     images: u64,
-    // How many of them are the log as it was, which is read once.
+    // How many of them are the unchanged log, which is read once.
     same: u64,
     listed: Faults,
     status: Faults,
@@ -61,9 +61,9 @@ struct Seen {
     flushed: Faults,
 }
 
-/// Reads images of chosen fields, cuts a log to each of its sectors,
-/// changes each byte of another one's first two sectors, replays the first
-/// log onto devices that fail or lie, and reports what is told of these.
+/// Reads images of chosen fields, cuts a log to each of its sectors, and changes each byte of
+/// another log's first two sectors. Replays the first log onto devices that fail or lie. Reports
+/// the results.
 pub fn run<H: Threads + Wait + Sync>(
     rt: &H,
     alloc: Global,
@@ -75,12 +75,12 @@ pub fn run<H: Threads + Wait + Sync>(
     targets::run(rt, alloc, report)
 }
 
-/// The log of a write that a flush makes durable.
+/// Returns the log of a write that a flush makes durable.
 pub fn plain_log<H: Threads + Wait + Sync>(rt: &H, alloc: Global) -> Result<Vec<u8>, AllocError> {
     log_of(rt, alloc, FLUSHED)
 }
 
-// The log that a script leaves.
+// Returns the log that a script leaves.
 fn log_of<H: Threads + Wait + Sync>(
     rt: &H,
     alloc: Global,
@@ -91,7 +91,7 @@ fn log_of<H: Threads + Wait + Sync>(
     Vec::from_slice(alloc, folder.bytes("log").unwrap_or_default())
 }
 
-// Reads the first log cut to each number of sectors.
+// Reads the first log, cut to each number of sectors.
 fn run_cuts<H: Threads + Wait + Sync>(
     rt: &H,
     alloc: Global,
@@ -113,8 +113,8 @@ fn run_cuts<H: Threads + Wait + Sync>(
     report.line(line.as_str())
 }
 
-// A log with too few sectors for its count is refused at once; one that lacks its last entry's
-// sector lists the two before it; a longer one lists all.
+// Checks a cut log. One with too few sectors for its count is refused at once. One without its last
+// entry's sector lists the two entries before it. A longer one lists all.
 fn check_cut<H: Threads + Wait + Sync>(
     rt: &H,
     alloc: Global,
@@ -205,8 +205,8 @@ fn damage_place<H: Threads + Wait + Sync>(
     Ok(())
 }
 
-// Puts a log with a byte set to another value in a folder, and answers the command that replays all
-// entries that its super counts then.
+// Puts a log with a byte set to another value in a folder. Returns the command that replays all
+// entries that its super now counts.
 fn damage_log(
     alloc: Global,
     log: &[u8],
@@ -222,7 +222,7 @@ fn damage_log(
     format!(in alloc; "replay log zeroes out entries:{count}")
 }
 
-// Reads a log with a byte set to another value in each way.
+// Reads a log with a byte set to another value, in each way.
 fn read_damaged<H: Threads + Wait + Sync>(
     rt: &H,
     alloc: Global,
@@ -272,7 +272,7 @@ fn read_damaged<H: Threads + Wait + Sync>(
 }
 
 impl Seen {
-    // Counts an image; false where it is the log as it was, and that was read.
+    // Counts an image; returns false if it is the unchanged log and that was read before.
     fn is_new(&mut self, log: &[u8], damage: Damage) -> bool {
         self.images = self.images.saturating_add(1);
         if log.get(damage.place) != Some(&damage.value) {
@@ -283,7 +283,7 @@ impl Seen {
     }
 }
 
-// How many entries the super of a log counts.
+// Returns the count of entries in the super of a log.
 fn count_of(log: &[u8]) -> u64 {
     let bytes = log.get(COUNT_AT..).unwrap_or_default();
     match bytes.first_chunk::<8>() {
@@ -292,8 +292,8 @@ fn count_of(log: &[u8]) -> u64 {
     }
 }
 
-// Does a command that reads the log, and counts how it ended. It is to end with status 0 and no
-// fault, or with status 1 and a fault that there can be.
+// Does a command that reads the log, and counts how it ended. It must end with status 0 and no
+// fault, or with status 1 and one of the possible faults.
 fn read<H: Threads + Wait + Sync>(
     rt: &H,
     alloc: Global,

@@ -1,5 +1,5 @@
 // A run under each stack of layers, with a fuse on top, and a loss of power at its end: what it
-// tells, and what its log lists.
+// prints, and what its log lists.
 use crate::series::asking::{Told, ask, folder_of};
 use crate::series::layers::{LATE, Layer, STACKS, WHOLE_RUN, passed, stack_of};
 use crate::series::report::Report;
@@ -18,7 +18,7 @@ const ENTRIES: [&str; 3] = [
     "2 @4 mark dm-log-writes-end\n",
 ];
 
-// The status that a run tells, by how many of its calls passed, where its log was made.
+// The status that a run prints, by how many of its calls passed, if its log was made.
 const STATUSES: [&str; 8] = [
     "no log",
     "0 0 logging_disabled",
@@ -33,15 +33,16 @@ const STATUSES: [&str; 8] = [
 // How a run ends.
 #[derive(Clone, Copy)]
 enum Ending {
-    // As it stands.
+    // No loss of power.
     Plain,
-    // By a loss of power: each sector holds what is durable.
+    // A loss of power: each sector holds what is durable.
     Crash,
-    // So too, but each sector that isn't durable holds the first value written to it since.
+    // A loss of power, but each sector that isn't durable holds the first value written to it
+    // since.
     Picked,
 }
 
-// A run: its layers from the lowest on, perhaps a fuse of so many calls, its moment and its ending.
+// A run: its layers from the lowest on, perhaps a fuse of `fuse` calls, its time and its ending.
 #[derive(Drop)]
 struct Case {
     layers: Vec<Layer>,
@@ -50,7 +51,8 @@ struct Case {
     ending: Ending,
 }
 
-// What was seen of all runs: how many logs were made, and how many of them listed so many entries.
+// What was seen of all runs: how many logs were made, and how many of them listed each number of
+// entries.
 #[derive(Drop)]
 struct Seen {
     cases: u64,
@@ -97,7 +99,7 @@ fn run_stack<H: Threads + Wait + Sync>(
     Ok(())
 }
 
-// Runs the cases of a stack under a fuse: at both moments, with both losses of power.
+// Runs the cases of a stack under a fuse: at both times, with both losses of power.
 fn run_fuse<H: Threads + Wait + Sync>(
     rt: &H,
     alloc: Global,
@@ -124,7 +126,7 @@ fn run_fuse<H: Threads + Wait + Sync>(
     Ok(())
 }
 
-// Runs a case, compares it with what is wanted of it, and counts it.
+// Runs a case, compares it with its expected result, and counts it.
 fn run_case<H: Threads + Wait + Sync>(
     rt: &H,
     alloc: Global,
@@ -150,7 +152,7 @@ fn run_case<H: Threads + Wait + Sync>(
 }
 
 impl Seen {
-    // Counts a log of so many entries.
+    // Counts a log with `entries` entries.
     fn count(&mut self, entries: usize) {
         if let Some(count) = self.by_entries.get_mut(entries) {
             *count = count.saturating_add(1);
@@ -158,12 +160,12 @@ impl Seen {
     }
 }
 
-// How many entries were listed.
+// Returns how many entries were listed.
 fn entries_of(listed: &Told) -> usize {
     listed.out.as_str().matches('\n').count().saturating_sub(1)
 }
 
-// The script of a case.
+// Returns the script of a case.
 fn script_of(alloc: Global, case: &Case) -> Result<String, AllocError> {
     let mut text = String::from_str(alloc, "data 16\nlog 32\n")?;
     push_layers(&mut text, &case.layers, case.fuse)?;
@@ -185,7 +187,7 @@ fn push_layers(text: &mut String, layers: &[Layer], fuse: Option<u64>) -> Result
     }
 }
 
-// Appends what makes block 3 of each dust layer fail one write.
+// Appends messages that make block 3 of each dust layer fail one write.
 fn push_messages(text: &mut String, layers: &[Layer]) -> Result<(), AllocError> {
     for (below, layer) in layers.iter().enumerate() {
         if *layer == Layer::Dust {
@@ -212,8 +214,8 @@ fn push_ending(text: &mut String, ending: Ending) -> Result<(), AllocError> {
     Ok(())
 }
 
-// What a run tells, where so many of its calls passed: 19 where its log couldn't be made, and else
-// its two requests and its status.
+// Checks what a run prints when its log's disk passed these calls. It prints refusal 19 if its log
+// couldn't be made, and otherwise its two requests and its status.
 fn check_told(
     alloc: Global,
     script: &str,
@@ -236,8 +238,8 @@ fn check_told(
     Ok(())
 }
 
-// What its log lists: all entries where the super that counts them was written, which is the last
-// call of all, and else none.
+// Checks what the log lists. It lists all entries if the super that counts them was written, which
+// is the last call of all, and otherwise none.
 fn check_listed(
     alloc: Global,
     script: &str,
@@ -260,7 +262,7 @@ fn check_listed(
     Ok(())
 }
 
-// Reports what fuses of nought to seven calls leave on the plain disk, and what a bad block does.
+// Reports what fuses of 0 to 7 calls leave on the plain disk, and what a bad block does.
 fn tables<H: Threads + Wait + Sync>(
     rt: &H,
     alloc: Global,
@@ -285,7 +287,7 @@ fn tables<H: Threads + Wait + Sync>(
     row(rt, alloc, "bad block 3", &case, report)
 }
 
-// Reports the row of a case: the last line of what is told, and how many entries its log lists.
+// Reports the row of a case: the last line that it prints, and how many entries its log lists.
 fn row<H: Threads + Wait + Sync>(
     rt: &H,
     alloc: Global,
@@ -308,7 +310,7 @@ fn row<H: Threads + Wait + Sync>(
     report.line(line.as_str())
 }
 
-// How many entries the log of a folder lists, in words.
+// Returns the number of entries that the log of a folder lists, in words.
 fn listed_text<H: Threads + Wait + Sync>(
     rt: &H,
     alloc: Global,
@@ -321,7 +323,7 @@ fn listed_text<H: Threads + Wait + Sync>(
     format!(in alloc; "{} entries listed", entries_of(&listed))
 }
 
-// The last line that was told, of a fault or else of the output.
+// Returns the last line that was printed: of a fault, or otherwise of the output.
 fn last_line(told: &Told) -> &str {
     let text = if told.err.is_empty() {
         told.out.as_str()

@@ -15,13 +15,14 @@ const FAULTS: [&str; 10] = [
     "33 PastEntries",
 ];
 
-/// How many of them a log can have.
+/// The number of faults that a log can have.
 pub const LOG_FAULTS: usize = 6;
 
-/// How many of them a replay can have.
+/// The number of faults that a replay can have.
 pub const REPLAY_FAULTS: usize = 10;
 
-/// How many commands met no fault, and how many each one of the first so many.
+/// The number of commands that met no fault, and of those that met each of the first `known`
+/// faults.
 #[derive(Drop)]
 pub struct Faults {
     known: usize,
@@ -30,7 +31,7 @@ pub struct Faults {
 }
 
 impl Faults {
-    /// No command, where so many of the faults can be.
+    /// Returns counts of no command, if the first `known` faults are possible.
     pub fn new(known: usize) -> Faults {
         Faults {
             known,
@@ -39,8 +40,8 @@ impl Faults {
         }
     }
 
-    /// Counts a command that ended with this status and
-    /// these lines of faults; false where it can't end so.
+    /// Counts a command that ended with this status and these lines of faults. Returns false if it
+    /// can't end this way.
     pub fn count(&mut self, status: u8, err: &str) -> bool {
         if err.is_empty() {
             self.whole = self.whole.saturating_add(1);
@@ -58,7 +59,7 @@ impl Faults {
     }
 }
 
-// The fault of a fault's one line, without how many entries were replayed before it.
+// Returns the fault in a fault's one line, without how many entries were replayed before it.
 fn fault_of(err: &str) -> &str {
     let line = err.strip_prefix("dmlw: ").unwrap_or_default();
     let line = line.strip_suffix("\n").unwrap_or_default();

@@ -1,4 +1,4 @@
-// Logs whose super and first entry are given field by field: what is listed of each.
+// Logs whose super and first entry are given field by field, and the listing of each.
 use crate::series::asking::Wanted;
 use crate::series::report::{Report, check};
 use std::alloc::{AllocError, Global};
@@ -6,11 +6,12 @@ use std::sync::Wait;
 use std::thread::Threads;
 use test_devices::Folder;
 
-// Each row is an image: its length in bytes, its log sector size, its count of entries, and of its
-// first entry the sector, the number of sectors, the flags and the length of its data. Behind `=`
-// stand, each behind a `;`, what is listed after the super's line, where % is the text of 480 zero
-// bytes and `-` says that not even that line is listed; the fault; the status, where there is no
-// fault; and what a replay of all that is counted tells over 16 sectors.
+// Each row is an image: its length in bytes, its log sector size, its count of entries, and four
+// fields of its first entry. These are its sector, its number of sectors, its flags and the length
+// of its data. After `=` are four results, separated by `;`. The first is the listing after the
+// super's line; % is the text of 480 zero bytes, and `-` means that not even that line is listed.
+// The second is the fault, and the third is the status, if there is no fault. The fourth is what a
+// replay of all counted entries over 16 sectors prints.
 const IMAGES: &str = "4096 512 7 0 6 0 0=0 @1 write 0+6;21 CutShort;;21 CutShort after 1 entries
 4096 512 1 0 7 0 0=;21 CutShort;;21 CutShort after 0 entries
 4096 512 1 0 0 8 480=0 @1 mark %;;1 1;
@@ -27,7 +28,8 @@ const IMAGES: &str = "4096 512 7 0 6 0 0=0 @1 write 0+6;21 CutShort;;21 CutShort
 
 const TARGET_BYTES: usize = 8192;
 
-// How many zero bytes the longest mark of a log sector of 512 bytes has, and how each is listed.
+// The number of zero bytes of the longest mark in a log sector of 512 bytes, and how each is
+// listed.
 const MARK_BYTES: usize = 480;
 
 const ZERO_LISTED: &str = "\\00";
@@ -94,7 +96,7 @@ fn check_row<H: Threads + Wait + Sync>(
     check(rt, alloc, row, &wanted, &mut folder, report)
 }
 
-// A fault's line; none of an empty text.
+// Returns a fault's line; nothing for an empty text.
 fn fault_line(alloc: Global, fault: &str) -> Result<String, AllocError> {
     if fault.is_empty() {
         return Ok(String::new(alloc));
@@ -102,7 +104,7 @@ fn fault_line(alloc: Global, fault: &str) -> Result<String, AllocError> {
     format!(in alloc; "dmlw: {fault}\n")
 }
 
-// A line of output; none of an empty text.
+// Returns a line of output; nothing for an empty text.
 fn out_line(alloc: Global, text: &str) -> Result<String, AllocError> {
     if text.is_empty() {
         return Ok(String::new(alloc));
@@ -110,7 +112,7 @@ fn out_line(alloc: Global, text: &str) -> Result<String, AllocError> {
     format!(in alloc; "{text}\n")
 }
 
-// What is to be listed of an image with these fields, where these lines stand behind the super's.
+// Returns the listing of an image with these fields, if these lines follow the super's.
 fn listed_of(alloc: Global, fields: &str, lines: &str) -> Result<String, AllocError> {
     let mut text = String::new(alloc);
     if lines == "-" {
@@ -127,7 +129,7 @@ fn listed_of(alloc: Global, fields: &str, lines: &str) -> Result<String, AllocEr
     Ok(text)
 }
 
-// Appends the lines that a row has behind the super's.
+// Appends the lines that a row has after the super's.
 fn push_lines(text: &mut String, lines: &str) -> Result<(), AllocError> {
     if lines.is_empty() {
         return Ok(());
@@ -144,7 +146,7 @@ fn push_lines(text: &mut String, lines: &str) -> Result<(), AllocError> {
     Ok(())
 }
 
-// The image of a row's fields.
+// Returns the image of a row's fields.
 fn image_of(alloc: Global, fields: &str) -> Result<Vec<u8>, AllocError> {
     let numbers = numbers_of(alloc, fields)?;
     let mut image = Vec::from_slice(alloc, b"rhswfsj\0")?;
@@ -159,12 +161,12 @@ fn image_of(alloc: Global, fields: &str) -> Result<Vec<u8>, AllocError> {
     Ok(image)
 }
 
-// The number at a place; 0 if there is none.
+// Returns the number at a place; 0 if there is none.
 fn number_at(numbers: &[u64], place: usize) -> u64 {
     numbers.get(place).copied().unwrap_or_default()
 }
 
-// The numbers of a row.
+// Returns the numbers of a row.
 fn numbers_of(alloc: Global, fields: &str) -> Result<Vec<u64>, AllocError> {
     let mut numbers = Vec::new(alloc);
     for word in fields.split(' ') {

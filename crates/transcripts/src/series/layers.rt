@@ -21,22 +21,22 @@ const LAYERS: [Layer; 5] = [
     Layer::Delay,
 ];
 
-/// How many stacks there are of no layer, one, two and three: 1 + 5 + 25 + 125.
+/// The number of stacks with no layer, one, two and three: 1 + 5 + 25 + 125.
 pub const STACKS: u64 = 156;
 
 /// The most layers of a stack.
 const DEPTH: u64 = 3;
 
-/// A moment at which the flakey layer is down.
+/// A time at which the flakey layer is down.
 pub const LATE: u64 = 12_000;
 
-/// The calls of a run that change the log's disk: one makes the log, two write the write's entry
-/// and its data, two the entries of the flush and of the end mark, and two settle these three: a
-/// flush and a write of the super.
+/// The number of calls of a run that change the log's disk. One makes the log. Two write the
+/// write's entry and its data, and two the entries of the flush and of the end mark. Two settle
+/// these three: a flush and a write of the super.
 pub const WHOLE_RUN: u64 = 7;
 
 impl Layer {
-    /// Its table line.
+    /// Returns the layer's table line.
     pub fn line(self) -> &'static str {
         match self {
             Layer::Linear => "0 32 linear disk 0",
@@ -47,8 +47,9 @@ impl Layer {
         }
     }
 
-    // How many of a run's calls it passes before it fails one, where the log is made at moment 0
-    // and the rest is done at this one. The log's sector 3 is first written by the fourth call.
+    // Returns how many of a run's calls the layer passes before it fails one. The log is made at
+    // time 0, and the rest is done at `moment`. The fourth call is the first that writes the log's
+    // sector 3.
     fn passes(self, moment: u64) -> u64 {
         match self {
             Layer::Linear | Layer::Delay => WHOLE_RUN,
@@ -59,7 +60,7 @@ impl Layer {
     }
 }
 
-/// How many of a run's calls pass these layers, and a fuse over them, before one fails.
+/// Returns how many of a run's calls pass these layers, and a fuse over them, before one fails.
 pub fn passed(layers: &[Layer], moment: u64, fuse: Option<u64>) -> u64 {
     let mut passed = fuse.unwrap_or(WHOLE_RUN).min(WHOLE_RUN);
     for layer in layers {
@@ -68,7 +69,8 @@ pub fn passed(layers: &[Layer], moment: u64, fuse: Option<u64>) -> u64 {
     passed
 }
 
-/// The stack of a number below `STACKS`, which are numbered like numbers in digits of one to five.
+/// Returns the stack of a number below `STACKS`. Stacks are numbered like numbers in digits of one
+/// to five.
 pub fn stack_of(alloc: Global, number: u64) -> Result<Vec<Layer>, AllocError> {
     let mut layers = Vec::new(alloc);
     let mut rest = number;
@@ -82,7 +84,7 @@ pub fn stack_of(alloc: Global, number: u64) -> Result<Vec<Layer>, AllocError> {
     Ok(layers)
 }
 
-// The layer of a number below five.
+// Returns the layer of a number below five.
 fn layer_at(number: u64) -> Layer {
     LAYERS
         .get(number as usize)

@@ -1,4 +1,4 @@
-// Each limit, taken to its end once with ample memory: nothing is refused.
+// Each limit, reached once with ample memory: nothing is refused.
 use crate::series::asking::{Wanted, folder_of};
 use crate::series::most_seats::check_recorder;
 use crate::series::report::{Report, check};
@@ -7,7 +7,7 @@ use std::sync::Wait;
 use std::thread::Threads;
 use test_devices::Folder;
 
-// The most seats of a script, and what each is told of a write, a write with FUA and a mark.
+// The most seats of a script, and what each prints for a write, a write with FUA and a mark.
 const SEATS: u64 = 64;
 
 const TOLD: &str = "1 done 2 logged 0 failed 0 not logged 0 refused";
@@ -15,16 +15,16 @@ const TOLD: &str = "1 done 2 logged 0 failed 0 not logged 0 refused";
 // The most bytes of a script.
 const SCRIPT_BYTES: usize = 4_194_304;
 
-// How many bytes of a mark's text a log with sectors of 512 bytes keeps.
+// The number of bytes of a mark's text that a log with sectors of 512 bytes keeps.
 const MARK_BYTES: usize = 479;
 
 // The bytes of an image of the largest disk.
 const IMAGE_BYTES: usize = 536_870_912;
 
-// How many requests are open at once: more than 65,536.
+// The number of requests that are open at once: more than 65,536.
 const REQUESTS: u64 = 70_000;
 
-// How many entries a log has that is read.
+// The number of entries of a log that is read.
 const ENTRIES: u64 = 400_000;
 
 // A script whose numbers have 20 digits, and two of disks of the largest size.
@@ -53,7 +53,7 @@ c a
 close
 ";
 
-/// Takes each limit to its end, and reports the number of limits.
+/// Reaches each limit, and reports the number of limits.
 pub fn run<H: Threads + Wait + Sync>(
     rt: &H,
     alloc: Global,
@@ -73,7 +73,7 @@ pub fn run<H: Threads + Wait + Sync>(
     report.line(line.as_str())
 }
 
-// Does these command lines over a folder with this script. None tells a fault.
+// Does these command lines over a folder with this script. None prints a fault.
 fn check_lines<H: Threads + Wait + Sync>(
     rt: &H,
     alloc: Global,
@@ -89,7 +89,7 @@ fn check_lines<H: Threads + Wait + Sync>(
     check(rt, alloc, case, &wanted, folder, report)
 }
 
-// Numbers of 20 digits, in a script and in a command line.
+// Checks numbers of 20 digits, in a script and in a command line.
 fn check_numbers<H: Threads + Wait + Sync>(
     rt: &H,
     alloc: Global,
@@ -116,7 +116,7 @@ fn check_numbers<H: Threads + Wait + Sync>(
     )
 }
 
-// A script of as many bytes as it may have, nearly all of which are one mark's text.
+// Checks a script of the longest length; nearly all of its bytes are one mark's text.
 fn check_mark<H: Threads + Wait + Sync>(
     rt: &H,
     alloc: Global,
@@ -143,7 +143,7 @@ fn check_mark<H: Threads + Wait + Sync>(
     check_lines(rt, alloc, "a mark of 4 MiB", &lines, &mut folder, report)
 }
 
-// A data disk of as many sectors as it may have, and a request of as many at its end.
+// Checks a data disk of the largest size, and a request of the largest size at its end.
 fn check_data<H: Threads + Wait + Sync>(
     rt: &H,
     alloc: Global,
@@ -167,7 +167,7 @@ fn check_data<H: Threads + Wait + Sync>(
     )
 }
 
-// A log's disk of as many sectors as it may have.
+// Checks a log's disk of the largest size.
 fn check_log<H: Threads + Wait + Sync>(
     rt: &H,
     alloc: Global,
@@ -188,7 +188,7 @@ fn check_log<H: Threads + Wait + Sync>(
     )
 }
 
-// Writes of one sector that are all open before the first of them ends.
+// Checks writes of one sector that are all open before the first of them ends.
 fn check_requests<H: Threads + Wait + Sync>(
     rt: &H,
     alloc: Global,
@@ -220,7 +220,7 @@ fn check_requests<H: Threads + Wait + Sync>(
     check_lines(rt, alloc, "140,000 events", &lines, &mut folder, report)
 }
 
-// A log of flushes, which is listed, asked for its status and replayed.
+// Checks a log of flushes, which is listed, asked for its status and replayed.
 fn check_entries<H: Threads + Wait + Sync>(
     rt: &H,
     alloc: Global,
@@ -252,7 +252,7 @@ fn check_entries<H: Threads + Wait + Sync>(
     )
 }
 
-// The image of a log of flushes.
+// Returns the image of a log of flushes.
 fn flushes(alloc: Global) -> Result<Vec<u8>, AllocError> {
     let mut image = Vec::from_slice(alloc, b"rhswfsj\0")?;
     for field in [1, ENTRIES, 512] {
@@ -260,7 +260,8 @@ fn flushes(alloc: Global) -> Result<Vec<u8>, AllocError> {
     }
     for _entry in 0..ENTRIES {
         push_sector(&mut image)?;
-        // Its sector and their number, and then the flag of a flush and the length of its data.
+        // The entry's sector and number of sectors, and then the flag of a flush and the length of
+        // its data.
         image.extend_from_slice([0; 16].as_slice())?;
         image.extend_from_slice(&1_u64.to_le_bytes())?;
     }
@@ -274,7 +275,7 @@ fn push_sector(image: &mut Vec<u8>) -> Result<(), AllocError> {
     image.resize(sectors.saturating_mul(512), 0)
 }
 
-// As many seats as a script may have, each of which writes, writes with FUA and marks.
+// Checks a script with the most seats; each writes, writes with FUA and marks.
 fn check_seats<H: Threads + Wait + Sync>(
     rt: &H,
     alloc: Global,

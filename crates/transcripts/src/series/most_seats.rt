@@ -1,4 +1,4 @@
-// A shared recorder with as many seats and status readers as it may have.
+// A shared recorder with the most seats and status readers.
 ghost use Rattle.std.specs.Prelude.{◌≡◌};
 ghost use Rattle.lock_state.specs.PlacedItems.{ground_of};
 ghost use Rattle.sector_disk.specs.DiskView.{shown_of};
@@ -13,13 +13,13 @@ use shared::{Shared, Started, Unnamed};
 use std::alloc::{AllocError, Global};
 use std::marker::Brand;
 
-// How many seats, and how many readers.
+// The number of seats, and of readers.
 const MOST: u64 = 64;
 
-// How many sectors each disk has.
+// The number of sectors of each disk.
 const SECTORS: u64 = 64;
 
-/// Starts the recorder, and lets each reader look at the status.
+/// Starts the recorder, and lets each reader read the status.
 pub fn check_recorder(alloc: Global, report: &mut Report) -> Result<(), AllocError> {
     let device = SectorDisk::new(alloc, SECTORS)?;
     let log = SectorDisk::new(alloc, SECTORS)?;
@@ -40,8 +40,8 @@ pub fn check_recorder(alloc: Global, report: &mut Report) -> Result<(), AllocErr
     Ok(())
 }
 
-// How many seats a recorder has, and how many readers that see a status of no entry. None where it
-// isn't started.
+// Returns the number of a recorder's seats, and of its readers that see a status without entries.
+// Returns None if the recorder isn't started.
 fn start_most<R: Run + Names>(
     alloc: Global,
     unnamed: Unnamed,

@@ -1,4 +1,4 @@
-// What is printed of a series, and how many of its cases came out otherwise.
+// What is printed of a series, and how many of its cases differ from what is expected.
 use crate::series::asking::{Told, Wanted, ask};
 use std::alloc::{AllocError, Global};
 use std::sync::Wait;
@@ -13,7 +13,7 @@ pub struct Report {
 }
 
 impl Report {
-    /// Nothing yet.
+    /// Returns an empty report.
     pub fn new(alloc: Global) -> Report {
         Report {
             text: String::new(alloc),
@@ -21,12 +21,12 @@ impl Report {
         }
     }
 
-    /// How many cases came out otherwise.
+    /// Returns the number of cases that differ.
     pub fn differ(&self) -> u64 {
         self.differ
     }
 
-    /// What is to be printed.
+    /// Returns the text that is to be printed.
     pub fn text(&self) -> &str {
         self.text.as_str()
     }
@@ -38,8 +38,7 @@ impl Report {
         Ok(())
     }
 
-    /// Counts a case that came out otherwise, and notes the
-    /// case, what was told and what was wanted.
+    /// Counts a case that differs, and notes the case, what was printed and what was expected.
     pub fn differs(&mut self, case: &str, told: &Told, wanted: &str) -> Result<(), AllocError> {
         self.differ = self.differ.saturating_add(1);
         writeln!(self.text, "differs:\n{case}\ntold [{}]:", told.status)?;
@@ -49,8 +48,8 @@ impl Report {
     }
 }
 
-/// Does each command line over a folder's files, and notes each that tells something else than is
-/// wanted, with the name of the case.
+/// Does each command line over a folder's files. Notes each that prints anything but what is
+/// expected, with the name of the case.
 pub fn check<H: Threads + Wait + Sync>(
     rt: &H,
     alloc: Global,

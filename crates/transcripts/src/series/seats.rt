@@ -1,6 +1,6 @@
 // Four seats that write and mark at once, with a fuse on the log: what each prints, and what the
-// log lists. A seat whose thousands of writes each wait for the log. And two seats at once, whose
-// marks are mixed in the log.
+// log lists. A seat with thousands of writes that each wait for the log. And two seats at once,
+// whose marks are mixed in the log.
 use crate::series::asking::{Told, ask, folder_of};
 use crate::series::report::Report;
 use std::alloc::{AllocError, Global};
@@ -14,10 +14,10 @@ const WRITES: u64 = 100;
 // The longest fuse.
 const MOST_CALLS: u64 = 20;
 
-// How often the seat that is alone writes, and marks.
+// The number of writes, and of marks, of the seat that runs by itself.
 const TURNS: u64 = 2_500;
 
-// How often two seats mark, and in how many runs their marks may fail to mix.
+// The number of marks of each of two seats, and of the runs in which their marks may fail to mix.
 const MARKS: u64 = 1_000;
 
 const TRIES: u64 = 20;
@@ -42,7 +42,7 @@ pub fn run<H: Threads + Wait + Sync>(
     report.line(line.as_str())
 }
 
-// Runs the seats with a fuse of so many calls.
+// Runs the seats with a fuse of `calls` calls.
 fn run_fuse<H: Threads + Wait + Sync>(
     rt: &H,
     alloc: Global,
@@ -83,7 +83,7 @@ fn run_fuse<H: Threads + Wait + Sync>(
 }
 
 // Runs a seat that writes with FUA and marks, again and again. Each entry is the next one that the
-// writer takes, so it may be durable before the seat looks for it, or after.
+// writer takes. So it may be durable before the seat looks for it, or after.
 fn run_alone<H: Threads + Wait + Sync>(
     rt: &H,
     alloc: Global,
@@ -99,7 +99,7 @@ fn run_alone<H: Threads + Wait + Sync>(
     Ok(())
 }
 
-// The script of that seat.
+// Returns the script of that seat.
 fn script_alone(alloc: Global) -> Result<String, AllocError> {
     let mut text = String::from_str(alloc, "data 16\nlog 7503\nseats 1\n")?;
     for _turn in 0..TURNS {
@@ -109,7 +109,7 @@ fn script_alone(alloc: Global) -> Result<String, AllocError> {
 }
 
 // Runs two seats that mark again and again, until a run has a mark of each seat before the last one
-// of the other: so neither seat waited for the other's end.
+// of the other. Then neither seat waited for the other's end.
 fn run_two<H: Threads + Wait + Sync>(
     rt: &H,
     alloc: Global,
@@ -132,7 +132,7 @@ fn run_two<H: Threads + Wait + Sync>(
     )
 }
 
-// The script of these two.
+// Returns the script of these two.
 fn script_of_two(alloc: Global) -> Result<String, AllocError> {
     let mut text = String::from_str(alloc, "data 16\nlog 2002\nseats 2\n")?;
     for _mark in 0..MARKS {
@@ -141,7 +141,7 @@ fn script_of_two(alloc: Global) -> Result<String, AllocError> {
     Ok(text)
 }
 
-// Whether each of two texts is found before the last place of the other.
+// Returns whether each of two texts is found before the last place of the other.
 fn are_mixed(listed: &str, one: &str, other: &str) -> bool {
     match (
         listed.find(one),
@@ -156,8 +156,8 @@ fn are_mixed(listed: &str, one: &str, other: &str) -> bool {
     }
 }
 
-// The script: each seat writes a hundred sectors of its
-// own, one after another, and marks its number.
+// Returns the script: each seat writes a hundred sectors that no other seat writes, one after
+// another, and marks its number.
 fn script_of(alloc: Global, calls: u64) -> Result<String, AllocError> {
     let mut text = String::from_str(alloc, "data 400\nlog 807\nseats 4\n")?;
     writeln!(text, "log-layer 0 807 fuse disk 0 {calls}")?;
@@ -176,14 +176,14 @@ fn push_seat(text: &mut String, seat: u64) -> Result<(), AllocError> {
     writeln!(text, "s{seat} mark seat {seat}")
 }
 
-// How many marks are logged: the first call makes the log, and each mark's entry is written,
-// flushed and counted by three more. The writes wait for the close.
+// Returns how many marks are logged. The first call makes the log. Three more calls write, flush
+// and count each mark's entry. The writes wait for the close.
 fn marks_of(calls: u64) -> u64 {
     (calls.saturating_sub(1) / 3).min(SEATS)
 }
 
-// Whether each seat was told 100 done and its mark as logged or not logged, as many logged as the
-// fuse has calls for, and logging ended.
+// Returns whether the run printed the expected lines. Each seat has 100 done, and its mark as
+// logged or not logged. As many marks are logged as the fuse has calls for, and logging ended.
 fn is_told(alloc: Global, told: &Told, calls: u64) -> Result<bool, AllocError> {
     let mut logged: u64 = 0;
     let mut is_good = told.status == 3 && told.err.is_empty();
@@ -195,12 +195,12 @@ fn is_told(alloc: Global, told: &Told, calls: u64) -> Result<bool, AllocError> {
     Ok(is_good && logged == marks_of(calls) && told.out.ends_with(" logging_disabled\n"))
 }
 
-// Whether this is a seat's line of a mark that was logged.
+// Returns whether this is a seat's line of a mark that was logged.
 fn is_logged(alloc: Global, line: &str, seat: u64) -> Result<bool, AllocError> {
     Ok(line == seat_line(alloc, seat, true)?.as_str())
 }
 
-// A seat's line, where its mark was logged or wasn't.
+// Returns a seat's line, if its mark was logged or if it wasn't.
 fn seat_line(alloc: Global, seat: u64, is_logged: bool) -> Result<String, AllocError> {
     let (logged, lost) = if is_logged { (1, 0) } else { (0, 1) };
     format!(in alloc;
@@ -208,7 +208,8 @@ fn seat_line(alloc: Global, seat: u64, is_logged: bool) -> Result<String, AllocE
     )
 }
 
-// Whether the log lists its super and the mark of each seat that was told so, and no fault.
+// Returns whether the log lists its super and the mark of each seat whose mark was printed as
+// logged, and no fault.
 fn lists_marks(alloc: Global, told: &Told, listed: &Told) -> Result<bool, AllocError> {
     let mut is_good = listed.status == 0 && listed.err.is_empty();
     for (seat, line) in (0..SEATS).zip(told.out.as_str().split('\n')) {

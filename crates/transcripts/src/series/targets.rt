@@ -1,5 +1,5 @@
-// Replays of a log onto devices that fail or lie: how many
-// entries are told of, and what each device holds then.
+// Replays of a log onto devices that fail or lie: how many entries are reported, and what each
+// device then holds.
 use crate::series::damage::plain_log;
 use crate::series::report::Report;
 use bio::Ms;
@@ -14,7 +14,7 @@ use std::sync::Wait;
 use std::thread::Threads;
 use table_line::Feature;
 
-// The device has so many sectors of zeroes before.
+// The device has `SECTORS` sectors of zeroes before.
 const SECTORS: u64 = 16;
 
 const SECTOR: usize = 512;
@@ -22,8 +22,8 @@ const SECTOR: usize = 512;
 // The longest log that is read here, in bytes.
 const MOST_BYTES: usize = 16_384;
 
-// The entries of the log: a write of 65 at sector 5, a flush and a mark. A replay makes one call of
-// the device for them, the write.
+// The number of entries of the log: a write of 65 at sector 5, a flush and a mark. For them a
+// replay makes one call of the device, the write.
 const ENTRIES: u64 = 3;
 
 // A flakey layer that is down all the time.
@@ -32,7 +32,7 @@ const UP: u64 = 0;
 const DOWN: u64 = 1;
 
 /// Replays the log onto a device that fails at once, one that takes a call, and one that drops each
-/// write, and reports what is told.
+/// write. Reports what each replay prints.
 pub fn run<H: Threads + Wait + Sync>(
     rt: &H,
     alloc: Global,
@@ -49,7 +49,7 @@ pub fn run<H: Threads + Wait + Sync>(
     run_dropped(alloc, &log, report)
 }
 
-// The replay onto a device that drops each write.
+// Replays the log onto a device that drops each write.
 fn run_dropped(alloc: Global, log: &[u8], report: &mut Report) -> Result<(), AllocError> {
     let disk = SectorDisk::new(alloc, SECTORS)?;
     let mut target = Flakey::new(disk, UP, DOWN, Feature::DropWrites, Ms::new(0));
@@ -62,7 +62,7 @@ fn run_dropped(alloc: Global, log: &[u8], report: &mut Report) -> Result<(), All
     report.line(line.as_str())
 }
 
-// What is told of a replay of all entries.
+// Returns what a replay of all entries prints.
 fn replayed<T: BlockDev>(alloc: Global, log: &[u8], target: &mut T) -> Result<String, AllocError> {
     let Some(mut reader) = reader_of(alloc, log)? else {
         return String::from_str(alloc, "no log");
@@ -75,7 +75,7 @@ fn replayed<T: BlockDev>(alloc: Global, log: &[u8], target: &mut T) -> Result<St
     }
 }
 
-// A reader of the log, if it is one.
+// Returns a reader of the log, if it is one.
 fn reader_of(alloc: Global, log: &[u8]) -> Result<Option<LogReader<SectorDisk>>, AllocError> {
     if log.is_empty() || log.len() % SECTOR != 0 || log.len() > MOST_BYTES {
         return Ok(None);
@@ -84,7 +84,7 @@ fn reader_of(alloc: Global, log: &[u8]) -> Result<Option<LogReader<SectorDisk>>,
     Ok(LogReader::open(alloc, disk).ok())
 }
 
-// What a disk holds, in words: how many of its bytes are no zeroes.
+// Returns a disk's content, in words: how many of its bytes are no zeroes.
 fn left_on(disk: SectorDisk) -> Result<&'static str, AllocError> {
     let bytes = disk.into_bytes()?;
     let changed = bytes.iter().filter(|byte| **byte != 0).count();

@@ -21,7 +21,7 @@ use Rattle.script_runner.specs.declared.recording.Lies.{Lies}
 use Rattle.seat_runner.specs.declared.tally.Tally.{Tally}
 use Rattle.seat_runner.specs.SeatRuns.{FailsRun, IsRun}
 
--- the line that says what a seat's calls came to
+-- the line with the results of a seat's calls
 abbrev pub seat_line : ℕ → Tally → List ℕ
 seat_line number tally =
     codes "seat " ++ (decimal number
@@ -53,8 +53,8 @@ pub record IsPrintedRun (contents : Option (List ℕ)) (status : Status) (bytes 
   pub ran : IsRun script tallies status lies bytes
   pub output : Appends before after (run_lines tallies status lies)
 
--- one more write was asked for, of the file of this name, which is to hold the log of that run; and
--- what it came to was printed
+-- One more write was asked for: of the file of this name, with the log of that run. The results of
+-- the run were printed.
 abbrev pub PrintsRun : Option (List ℕ) → List ℕ → Option (List Write) → Option (List Write)
     → Option (List ℕ) → Option (List ℕ) → Status → Type 0
 PrintsRun contents name old new before after status =
@@ -71,9 +71,9 @@ pub record HoldsRun (contents : Option (List ℕ)) (exit : Exit)
   pub printed : IsPrintedRun contents status bytes before after
   pub held : MatchesContents written bytes
 
--- Where running a script succeeds it has printed what it came to, and asked for its log to be
--- written, and for no other file. If it fails it has asked for no file; or for the log, which
--- couldn't be written, after all that was printed.
+-- If running a script succeeds, it has printed the results, and asked only for its log to be
+-- written. If it fails, it has asked for no file, or, after everything was printed, for the log,
+-- which couldn't be written.
 abbrev pub WritesRun : Option (List ℕ) → List ℕ → Option (List Write) → Option (List Write)
     → Option (List ℕ) → Option (List ℕ)
     → Result Status RunError → Type 0

@@ -49,8 +49,8 @@ pub record IsPrintedLog (contents : Option (List ℕ)) (status : Status) (bytes 
   pub recorded : IsRecorded script lines status lies bytes
   pub output : Appends before after (lines ++ end_lines status lies)
 
--- one more write was asked for, of the file of this name, which is to hold the log of that script;
--- and what happened was printed
+-- One more write was asked for: of the file of this name, with the log of that script. What
+-- happened was printed.
 abbrev pub PrintsLog : Option (List ℕ) → List ℕ → Option (List Write) → Option (List Write)
     → Option (List ℕ) → Option (List ℕ) → Status → Type 0
 PrintsLog contents name old new before after status =
@@ -67,9 +67,9 @@ pub record HoldsLog (contents : Option (List ℕ)) (exit : Exit)
   pub printed : IsPrintedLog contents status bytes before after
   pub held : MatchesContents written bytes
 
--- Where recording a script succeeds it has printed what happened, and asked for its log to be
--- written, and for no other file. If it fails it has asked for no file; or for the log, which
--- couldn't be written, after all that was printed.
+-- If recording a script succeeds, it has printed what happened, and asked only for its log to be
+-- written. If it fails, it has asked for no file, or, after everything was printed, for the log,
+-- which couldn't be written.
 abbrev pub WritesLog : Option (List ℕ) → List ℕ → Option (List Write) → Option (List Write)
     → Option (List ℕ) → Option (List ℕ)
     → Result Status RunError → Type 0

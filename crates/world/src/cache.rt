@@ -45,7 +45,7 @@ impl Model for World {
     ghost invariant = { λ world. length world.image.items ≡ 512 * length world.cells.items };
 }
 
-// Makes `sectors` sectors where nothing landed.
+// Makes `sectors` sectors on which nothing landed.
 fn empty_cells(alloc: Global, sectors: usize) -> Result<Vec<Cell>, AllocError>
     ensures { IfOk result (λ cells. cells.items ≡ replicate sectors empty_cell) }
 {
@@ -93,7 +93,7 @@ impl World {
         Ok(())
     }
 
-    // Whether the device has the step.
+    // Returns whether the device has the step.
     fn has_step(&self, events: &[CoreEvent], step: &Step) -> bool
         requires { is_lawful (length self.now.image / 512) events.now ≡ true }
         ensures has { result ≡ has_step events.now (machine_of self.now) step.now }
@@ -170,7 +170,7 @@ impl World {
         self.off = true;
     }
 
-    /// What is durable: what the device holds once power goes.
+    /// Returns what is durable: what the device holds after power goes.
     pub fn image(&self) -> &[u8]
         ensures { result.now ≡ self.now.image }
     {

@@ -54,8 +54,8 @@ pub fn reach(
     }
 }
 
-/// The same run; or, if there is none, the verdict that
-/// `could_hold` gives, of one account of the image.
+/// Makes the same machine run. If there is none, returns the verdict of `could_hold`, from one
+/// account of the image.
 pub fn find(
     alloc: Global,
     events: &[CoreEvent],
@@ -135,7 +135,7 @@ fn take_event(
     }
 }
 
-// Whether the request of this place ended with success.
+// Returns whether the request of this place ended with success.
 fn ended_ok(events: &[CoreEvent], account: &Account, id: usize) -> bool
     requires { (id : ℕ) → place_at account.now.ends.items id ≡ end_of events.now id }
     ensures { result ≡ ended_ok events.now id }
@@ -146,7 +146,7 @@ fn ended_ok(events: &[CoreEvent], account: &Account, id: usize) -> bool
     }
 }
 
-// Whether an end with success is at this place.
+// Returns whether an end with success is at this place.
 fn is_success_at(events: &[CoreEvent], place: usize) -> bool
     ensures { result ≡ is_success (slice_get events.now place) }
 {
@@ -224,7 +224,7 @@ fn land_left(
     Ok(())
 }
 
-// Whether the request of this place hasn't ended.
+// Returns whether the request of this place hasn't ended.
 fn is_open_at(events: &[CoreEvent], account: &Account, id: usize) -> bool
     requires { (id : ℕ) → place_at account.now.ends.items id ≡ end_of events.now id }
     ensures { result ≡ is_open_at events.now id }

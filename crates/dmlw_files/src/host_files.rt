@@ -33,7 +33,7 @@ const MAX_FILE_BYTES: u64 = 9_223_372_036_854_775_807;
 /// what it holds.
 ///
 /// A pipe, a socket or a character device gives its bytes once. They are kept under its name for as
-/// long as this value lives, if they are at most 4,194,304 bytes: each later read of the name
+/// long as this value lives, if they are at most 4,194,304 bytes. Each later read of the name
 /// returns a copy of them. If they weren't kept, it fails with `NotSeekable`, or, if they are more
 /// than it may read, with `TooLong(0)`.
 #[derive(Drop)]

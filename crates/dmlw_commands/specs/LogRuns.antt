@@ -86,9 +86,9 @@ WritesRun contents name old new before after r =
 abbrev pub IsNoRunScript : List ℕ → Type 0
 IsNoRunScript text = (script : RunPlan) → IsRunText text script → ⊥
 
--- A fault that ends the run of the script in a file: a file can't be read or written or there is no
--- memory; the file's bytes spell no script, of which the first line at fault is named, and nothing
--- is printed; or running their script failed, and nothing is printed.
+-- A fault that ends the run of the script in a file: A file can't be read or written, or there is
+-- no memory. Or the file's bytes spell no script, its first line at fault is named, and nothing is
+-- printed. Or running their script failed, and nothing is printed.
 pub data FailsRunning (contents : Option (List ℕ)) (before after : Option (List ℕ)) : RunError
     → Type 0 where
   file : (fault : RunError) → IsFileError fault → FailsRunning contents before after fault
@@ -101,8 +101,8 @@ pub data FailsRunning (contents : Option (List ℕ)) (before after : Option (Lis
       → IsRunText bytes script
       → FailsRun script fault → Keeps before after → FailsRunning contents before after fault
 
--- The result of running a script over a log of this name, from what a writer held to what it holds:
--- if it succeeds, it has printed a line for each seat and the log's status; if it fails, why, and
+-- The result of running a script over a log of this name, from what a writer held to what it holds.
+-- If it succeeds, it has printed a line for each seat and the log's status. If it fails: why, and
 -- what was printed before that.
 abbrev pub Runs : Option (List ℕ) → List ℕ → Option (List Write) → Option (List Write)
     → Option (List ℕ) → Option (List ℕ) → Result Status RunError → Type 0

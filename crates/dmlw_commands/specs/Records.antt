@@ -82,9 +82,9 @@ WritesLog contents name old new before after r =
 abbrev pub IsNoScript : List ℕ → Type 0
 IsNoScript text = (script : ScriptValue) → IsTextOf text script → ⊥
 
--- A fault that ends the recording of the script in a file: a file can't be read or written or there
--- is no memory; the file's bytes spell no script, of which the first line at fault is named, and
--- nothing is printed; or recording their script failed.
+-- A fault that ends the recording of the script in a file: A file can't be read or written, or
+-- there is no memory. Or the file's bytes spell no script, its first line at fault is named, and
+-- nothing is printed. Or recording their script failed.
 pub data FailsRecording (contents : Option (List ℕ)) (before after : Option (List ℕ)) : RunError
     → Type 0 where
   file : (fault : RunError) → IsFileError fault → FailsRecording contents before after fault
@@ -97,8 +97,8 @@ pub data FailsRecording (contents : Option (List ℕ)) (before after : Option (L
       → IsTextOf bytes script
       → FailsOnDisks bytes script before after fault → FailsRecording contents before after fault
 
--- The result of recording a script in a log of this name, from what a writer held to what it holds:
--- if it succeeds, it has printed the lines' output and the log's status; if it fails, why, and what
+-- The result of recording a script in a log of this name, from what a writer held to what it holds.
+-- If it succeeds, it has printed the lines' output and the log's status. If it fails: why, and what
 -- was printed before that.
 abbrev pub Records : Option (List ℕ) → List ℕ → Option (List Write) → Option (List Write)
     → Option (List ℕ) → Option (List ℕ) → Result Status RunError → Type 0

@@ -47,7 +47,7 @@ const PICK: &[u8] = b"<pick> ..";
 // The most bytes of a line that are shown.
 const SHOWN_BYTES: usize = 100;
 
-/// Explains a line of a script's text that isn't one of a script's, or isn't in its place: writes
+/// Explains a line of a script's text that isn't one of a script's, or isn't in its place. Writes
 /// the usual cause if there is one, or else the first word that doesn't fit the form of its first
 /// word, or what its place asks for.
 pub(crate) fn explain_line<W: Write>(

@@ -75,7 +75,7 @@ impl World {
     /// Takes a step. `events` is a list that a recorder of the device may have recorded
     /// (`is_lawful`), the same for all steps. `BadStep` comes exactly if the device has no such
     /// step then; after an error nothing has changed. Takes memory of 24 bytes for a submission or
-    /// an end and of 8 for a landing, and time by the calls so far; an end with success takes time
+    /// an end and of 8 for a landing, and time by the calls so far. An end with success takes time
     /// by the sectors of the requests that it asks for, and by what landed there.
     pub fn step(&mut self, events: &[CoreEvent], step: &Step) -> Result<(), StepError>
         requires { is_lawful (length self.old.image / 512) events.now ≡ true }

@@ -24,14 +24,14 @@ use bio::{CoreEvent, Id};
 use judge::{Account, First, Verdict, beginning};
 use std::alloc::{AllocError, Global};
 
-/// Makes a machine run that fits the first `moment` of the events and leaves the image, if
-/// `first` was on the device before the first event; none if there is no such run. `events` is a
-/// list that a recorder of the device may have recorded (`is_lawful`), a later moment than its last
-/// counts as all of them; the image has the device's length in bytes, whole sectors of 512.
+/// Makes a machine run that fits the first `moment` of the events and leaves the image, if `first`
+/// was on the device before the first event. Returns none if there is no such run. `events` is a
+/// list that a recorder of the device may have recorded (`is_lawful`). A later moment than its last
+/// counts as all of them. The image has the device's length in bytes, whole sectors of 512.
 ///
-/// Takes memory of 32 bytes for each sector, 16 for each event and what
-/// the run's steps take, two for each sector that a request covers at
-/// most; and time by the sum of these. Lack of memory is the only error.
+/// Takes memory of 32 bytes for each sector, 16 for each event and what the run's steps take, two
+/// for each sector that a request covers at most. Takes time by the sum of these. Lack of memory is
+/// the only error.
 pub fn reach(
     alloc: Global,
     events: &[CoreEvent],

@@ -258,7 +258,7 @@ marks - 16 -;mb=25 NoSuchMark after 0:",
     check_mark(&rt, alloc, &[0; 479], "25 NoSuchMark after 0:")
 }
 
-// A replay goes on where the one before it ended.
+// A replay goes on from the place at which the one before it ended.
 #[test]
 fn replays_go_on_from_the_place(rt: HostRuntime) -> Result<(), Fail> {
     assert_replays(

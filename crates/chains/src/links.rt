@@ -114,7 +114,7 @@ impl LastRow {
 pub struct Links {
     next: Vec<Link>,
     lasts: Vec<LastRow>,
-    // How many links were changed, or 2^64 - 1 if there were more.
+    // The number of links that were changed; 2^64 - 1 if there were more.
     changed: u64,
 }
 
@@ -172,7 +172,7 @@ impl Links {
         self.lasts[chain].row()
     }
 
-    /// How many links were changed; 2^64 - 1 if there were more.
+    /// Returns how many links were changed; 2^64 - 1 if there were more.
     pub fn changed(&self) -> u64
         ensures { result ≡ self.now.changed }
     {
@@ -264,14 +264,14 @@ impl Links {
         self.next.push_reserved(Link { to: 0, from: 0 });
     }
 
-    /// How many chains there are, with chain 0.
+    /// Returns how many chains there are, with chain 0.
     pub fn chains(&self) -> usize
         ensures { result ≡ length self.now.lasts.items }
     {
         self.lasts.len()
     }
 
-    /// How many rows there are.
+    /// Returns how many rows there are.
     pub fn rows(&self) -> usize
         ensures { result ≡ length self.now.next.items }
     {

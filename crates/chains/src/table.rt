@@ -237,7 +237,7 @@ impl<T: Drop> Chains<T> {
         Ok(())
     }
 
-    /// How many chains there are, with chain 0: the number of the next one that is begun.
+    /// Returns how many chains there are, with chain 0: the number of the next one that is begun.
     pub fn chains(&self) -> usize
         ensures count { result ≡ length self.now.chains }
         ensures some { 0 < result }
@@ -254,7 +254,7 @@ impl<T: Drop> Chains<T> {
         self.rows[self.links.next(last)].as_ref()
     }
 
-    /// Whether a chain has no values.
+    /// Returns whether a chain has no values.
     pub fn is_empty(&self, chain: usize) -> bool
         requires { 0 < chain × chain < length self.now.chains }
         ensures { result ≡ (length (chain_in self.now.chains chain) == 0) }
@@ -262,8 +262,8 @@ impl<T: Drop> Chains<T> {
         seen_last(&self.links, self.walk, chain).is_none()
     }
 
-    /// Puts a value in place of the first of a chain, and answers that one; no link is changed.
-    /// Where the chain has none, the value is let go.
+    /// Replaces the first value of a chain, and returns the old one; no link is changed. If the
+    /// chain has none, the new value is dropped.
     pub fn replace_first(&mut self, chain: usize, value: T) -> Option<T>
         requires { 0 < chain × chain < length self.old.chains }
         ensures replaced { result ≡ slice_get (chain_in self.old.chains chain) 0 }
@@ -294,7 +294,7 @@ impl<T: Drop> Chains<T> {
         Some(self.walk?.chain)
     }
 
-    /// How many links were changed; 2^64 - 1 if there were more.
+    /// Returns how many links were changed; 2^64 - 1 if there were more.
     pub fn links_changed(&self) -> u64
         ensures { result ≡ self.now.changed }
     {

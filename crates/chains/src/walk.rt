@@ -6,7 +6,7 @@ ghost use Rattle.chains.specs.inside.Tables.{seen_lasts};
 
 use crate::links::Links;
 
-/// Where the walk over a chain is: this row is seen as the chain's last one.
+/// The place of the walk over a chain: this row is seen as the chain's last one.
 #[derive(Clone, Copy, Debug)]
 pub struct Walk {
     pub chain: usize,

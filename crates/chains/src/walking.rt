@@ -1,8 +1,8 @@
 //! The walk over a chain, by which values are taken out of its middle.
 //!
-//! A ring is the same ring seen from any of its rows, so going past a
-//! value writes no link: it changes only the place of the walk, and that row
-//! is seen as the chain's last. It is written as the last when the walk ends.
+//! A ring is the same ring seen from any of its rows, so going past a value writes no link. It
+//! changes only the place of the walk, and that row is seen as the chain's last. It is written as
+//! the last when the walk ends.
 ghost use Rattle.std.specs.Prelude.{◌≡◌, ◌≢◌, ℕ, ◌<◌, None, Some, length};
 ghost use Rattle.chains.specs.Edits.{lifted, turned};
 ghost use Rattle.chains.specs.ChainsView.{ChangesFew, KeepsRoom};

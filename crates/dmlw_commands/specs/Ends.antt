@@ -19,8 +19,9 @@ pub record ErrStream : Type 0 where
 abbrev pub err_stream : Bool → Option (List ℕ) → Option (List ℕ) → ErrStream
 err_stream explains before after = record { explains = explains; before = before; after = after }
 
--- What a command with this end has written to the error stream, with this line to report: that line
--- and, if it explains itself, perhaps more after it; nothing if there is no line, and it doesn't.
+-- What a command with this end has written to the error stream, with this line to report. This is
+-- that line and, if it explains itself, perhaps more after it. It is nothing if there is no line,
+-- and it doesn't explain itself.
 pub record TellsLine (t : ErrStream) (exit : Exit) (line : List ℕ) (ended : Ended) : Type 0 where
   pub exits : ended.exit ≡ exit
   pub told : ended.err_taken ≡ true

@@ -44,17 +44,17 @@ abbrev pub CannotJudge : ℕ → List CoreEvent → ℕ → List ℕ → Type 0
 CannotJudge sectors events moment image =
     (last_moment events < moment) ⊎ (length image ≡ 512 * sectors → ⊥)
 
--- The meaning of a kind of answer: what it says about an image, by the
--- sectors of the device, the events, the content at first and that
--- of the image; what is printed of it; and how it ends the command.
+-- The meaning of a kind of answer: what it says about an image, by the sectors of the device, the
+-- events, the content at first and that of the image. Also what is printed of it, and how it ends
+-- the command.
 pub record Meaning (A : Type 0) : Type 1 where
   pub says : ℕ → List CoreEvent → Content → Content → A → Type 0
   pub printed : A → List ℕ
   pub ends : A → Exit
 
--- The answer about an image, after this many events of a script's run, over
--- zeroes; they are events of a device of the size of the data disk's
--- top, and the requests among them are aligned to the log's sectors.
+-- The answer about an image, after this many events of a script's run, over zeroes. They are events
+-- of a device of the size of the data disk's top, and the requests among them are aligned to the
+-- log's sectors.
 pub record IsAnswered {A : Type 0} (meaning : Meaning A) (plan : ScriptValue) (moment : ℕ)
     (image : List ℕ) (answer : A) : Type 0 where
   pub events : List CoreEvent
@@ -96,9 +96,9 @@ pub record HasAnswer {A : Type 0} (meaning : Meaning A) (asked : Question)
 abbrev pub AreUsable : Question → Type 0
 AreUsable asked = IsWithin 4194304 asked.script × HoldsImage asked.image
 
--- Why there is no answer: a file can't be read, or is too long or no image, or there is no memory,
--- which is the only cause if both files are known to be usable; the text is no script's, of which
--- the first line at fault is named; its run fails; or the moment is none of its moments, or the
+-- Why there is no answer: A file can't be read, or is too long or no image, or there is no memory;
+-- this is the only cause if both files are known to be usable. Or the text is no script's, and its
+-- first line at fault is named. Or its run fails. Or the moment is none of its moments, or the
 -- image is of another size.
 pub data HasNoVerdict (asked : Question) : RunError → Type 0 where
   file : (fault : RunError) → IsFileError fault → (AreUsable asked → fault ≡ memory_error)

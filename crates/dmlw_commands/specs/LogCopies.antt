@@ -33,9 +33,9 @@ use Rattle.dmlw_files.specs.Images.{IsImage}
 abbrev pub copied_line : ℕ → List ℕ
 copied_line count = codes "copied " ++ (decimal count ++ codes "\n")
 
--- the log of an image, of `count` entries and without a fault, was copied: another image, of a disk
--- of `sectors` sectors, has the log of the same entries in sectors of 4,096 bytes, each with its
--- flags, its body, and its place and length in bytes
+-- The log of an image, of `count` entries and without a fault, was copied. Another image, of a disk
+-- of `sectors` sectors, has the log of the same entries in sectors of 4,096 bytes. Each entry has
+-- its flags, its body, and its place and length in bytes.
 pub record IsCopied (log : List ℕ) (count sectors : ℕ) (image : List ℕ) : Type 0 where
   pub head : Super
   pub entries : List Entry
@@ -122,9 +122,9 @@ pub record PrintsCopy (log_file : Option (List ℕ)) (name : List ℕ) (sectors 
   pub printed : Appends old new (copied_line count)
   pub asked : writes_new ≡ one_more writes_old name image
 
--- The result of copying: it was done; or it fails, nothing was printed, and no file was asked to be
--- written; or the output can't be written, and no file was asked to be; or the image can't be
--- written, after the printing.
+-- The result of copying. Either it was done. Or it fails, nothing was printed, and no file was
+-- asked to be written. Or the output can't be written, and no file was asked to be. Or the image
+-- can't be written, after the printing.
 abbrev pub Copies : Option (List ℕ) → List ℕ → ℕ → Option (List Write) → Option (List Write)
     → Option (List ℕ) → Option (List ℕ) → Result ℕ RunError → Type 0
 Copies log_file name sectors writes_old writes_new old new (Ok count) =

@@ -21,7 +21,7 @@ use Rattle.script_runner.specs.declared.recording.Lies.{Lies}
 use Rattle.seat_runner.specs.declared.tally.Tally.{Tally}
 use Rattle.seat_runner.specs.SeatRuns.{FailsRun, IsRun}
 
--- the line that says what a seat's calls came to
+-- the line with the results of a seat's calls
 abbrev pub seat_line : ℕ → Tally → List ℕ
 seat_line number tally =
     codes "seat " ++ (decimal number
@@ -53,8 +53,8 @@ pub record IsPrintedRun (contents : Option (List ℕ)) (status : Status) (bytes 
   pub ran : IsRun script tallies status lies bytes
   pub output : Appends before after (run_lines tallies status lies)
 
--- one more write was asked for, of the file of this name, which is to hold the log of that run; and
--- what it came to was printed
+-- One more write was asked for: of the file of this name, with the log of that run. The results of
+-- the run were printed.
 abbrev pub PrintsRun : Option (List ℕ) → List ℕ → Option (List Write) → Option (List Write)
     → Option (List ℕ) → Option (List ℕ) → Status → Type 0
 PrintsRun contents name old new before after status =
@@ -71,9 +71,9 @@ pub record HoldsRun (contents : Option (List ℕ)) (exit : Exit)
   pub printed : IsPrintedRun contents status bytes before after
   pub held : MatchesContents written bytes
 
--- Where running a script succeeds it has printed what it came to, and asked for its log to be
--- written, and for no other file. If it fails it has asked for no file; or for the log, which
--- couldn't be written, after all that was printed.
+-- If running a script succeeds, it has printed the results, and asked only for its log to be
+-- written. If it fails, it has asked for no file, or, after everything was printed, for the log,
+-- which couldn't be written.
 abbrev pub WritesRun : Option (List ℕ) → List ℕ → Option (List Write) → Option (List Write)
     → Option (List ℕ) → Option (List ℕ)
     → Result Status RunError → Type 0
@@ -86,9 +86,9 @@ WritesRun contents name old new before after r =
 abbrev pub IsNoRunScript : List ℕ → Type 0
 IsNoRunScript text = (script : RunPlan) → IsRunText text script → ⊥
 
--- A fault that ends the run of the script in a file: a file can't be read or written or there is no
--- memory; the file's bytes spell no script, of which the first line at fault is named, and nothing
--- is printed; or running their script failed, and nothing is printed.
+-- A fault that ends the run of the script in a file: A file can't be read or written, or there is
+-- no memory. Or the file's bytes spell no script, its first line at fault is named, and nothing is
+-- printed. Or running their script failed, and nothing is printed.
 pub data FailsRunning (contents : Option (List ℕ)) (before after : Option (List ℕ)) : RunError
     → Type 0 where
   file : (fault : RunError) → IsFileError fault → FailsRunning contents before after fault
@@ -101,8 +101,8 @@ pub data FailsRunning (contents : Option (List ℕ)) (before after : Option (Lis
       → IsRunText bytes script
       → FailsRun script fault → Keeps before after → FailsRunning contents before after fault
 
--- The result of running a script over a log of this name, from what a writer held to what it holds:
--- if it succeeds, it has printed a line for each seat and the log's status; if it fails, why, and
+-- The result of running a script over a log of this name, from what a writer held to what it holds.
+-- If it succeeds, it has printed a line for each seat and the log's status. If it fails: why, and
 -- what was printed before that.
 abbrev pub Runs : Option (List ℕ) → List ℕ → Option (List Write) → Option (List Write)
     → Option (List ℕ) → Option (List ℕ) → Result Status RunError → Type 0

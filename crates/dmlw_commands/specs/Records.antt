@@ -49,8 +49,8 @@ pub record IsPrintedLog (contents : Option (List ℕ)) (status : Status) (bytes 
   pub recorded : IsRecorded script lines status lies bytes
   pub output : Appends before after (lines ++ end_lines status lies)
 
--- one more write was asked for, of the file of this name, which is to hold the log of that script;
--- and what happened was printed
+-- One more write was asked for: of the file of this name, with the log of that script. What
+-- happened was printed.
 abbrev pub PrintsLog : Option (List ℕ) → List ℕ → Option (List Write) → Option (List Write)
     → Option (List ℕ) → Option (List ℕ) → Status → Type 0
 PrintsLog contents name old new before after status =
@@ -67,9 +67,9 @@ pub record HoldsLog (contents : Option (List ℕ)) (exit : Exit)
   pub printed : IsPrintedLog contents status bytes before after
   pub held : MatchesContents written bytes
 
--- Where recording a script succeeds it has printed what happened, and asked for its log to be
--- written, and for no other file. If it fails it has asked for no file; or for the log, which
--- couldn't be written, after all that was printed.
+-- If recording a script succeeds, it has printed what happened, and asked only for its log to be
+-- written. If it fails, it has asked for no file, or, after everything was printed, for the log,
+-- which couldn't be written.
 abbrev pub WritesLog : Option (List ℕ) → List ℕ → Option (List Write) → Option (List Write)
     → Option (List ℕ) → Option (List ℕ)
     → Result Status RunError → Type 0
@@ -82,9 +82,9 @@ WritesLog contents name old new before after r =
 abbrev pub IsNoScript : List ℕ → Type 0
 IsNoScript text = (script : ScriptValue) → IsTextOf text script → ⊥
 
--- A fault that ends the recording of the script in a file: a file can't be read or written or there
--- is no memory; the file's bytes spell no script, of which the first line at fault is named, and
--- nothing is printed; or recording their script failed.
+-- A fault that ends the recording of the script in a file: A file can't be read or written, or
+-- there is no memory. Or the file's bytes spell no script, its first line at fault is named, and
+-- nothing is printed. Or recording their script failed.
 pub data FailsRecording (contents : Option (List ℕ)) (before after : Option (List ℕ)) : RunError
     → Type 0 where
   file : (fault : RunError) → IsFileError fault → FailsRecording contents before after fault
@@ -97,8 +97,8 @@ pub data FailsRecording (contents : Option (List ℕ)) (before after : Option (L
       → IsTextOf bytes script
       → FailsOnDisks bytes script before after fault → FailsRecording contents before after fault
 
--- The result of recording a script in a log of this name, from what a writer held to what it holds:
--- if it succeeds, it has printed the lines' output and the log's status; if it fails, why, and what
+-- The result of recording a script in a log of this name, from what a writer held to what it holds.
+-- If it succeeds, it has printed the lines' output and the log's status. If it fails: why, and what
 -- was printed before that.
 abbrev pub Records : Option (List ℕ) → List ℕ → Option (List Write) → Option (List Write)
     → Option (List ℕ) → Option (List ℕ) → Result Status RunError → Type 0

@@ -130,10 +130,10 @@ pub record PrintsReplay (log_file first_file : Option (List ℕ)) (name : List �
   pub printed : Appends old new (replayed_line count)
   pub asked : writes_new ≡ one_more writes_old name image
 
--- The result of replaying, into a file of this name that holds this: it was done; or it fails,
--- nothing was printed, and no file was asked to be written; or that file is the log's, and so it is
--- too; or the log was replayed, the output can't be written, and no file was asked to be; or the
--- image can't be written, after the printing.
+-- The result of replaying, into a file of this name that holds this. Either it was done. Or it
+-- fails, nothing was printed, and no file was asked to be written. So does a replay that is refused
+-- because that file is the log's. Or the log was replayed, the output can't be written, and no file
+-- was asked to be. Or the image can't be written, after the printing.
 abbrev pub Replays : Option (List ℕ) → Option (List ℕ) → Option (List ℕ) → List ℕ → Upto
     → Option (List Write) → Option (List Write) → Option (List ℕ) → Option (List ℕ)
     → Result ℕ RunError → Type 0

@@ -43,8 +43,8 @@ pub fn end<T: Copy, O: Write, E: Write>(
     }
 }
 
-/// Ends a recording with this status, or its failure. If logging ended early, the exit says so and
-/// nothing is reported. A fault is reported as by `end`.
+/// Ends a recording with this status, or its failure. If logging ended early, the exit status shows
+/// it, and nothing is reported. A fault is reported as by `end`.
 pub fn end_recording<O: Write, E: Write>(
     alloc: Global,
     done: Result<Status, RunError>,

@@ -3,7 +3,7 @@
 use Rattle.std.specs.Prelude.{◌≡◌, ◌≤◌, ◌<◌, ℕ, length, List, [], ◌∷◌, ◌++◌, Option, Some, None}
 use Rattle.std.specs.Prelude.{option_map}
 
--- a write that was asked for: the file's name, and the bytes that it is to hold
+-- a write that was asked for: the file's name, and the bytes that it has to hold
 pub record Write : Type 0 where
   pub name : List ℕ
   pub bytes : List ℕ
@@ -17,7 +17,7 @@ one_more writes name bytes =
 abbrev pub AsksFor : List ℕ → Option (List Write) → Option (List Write) → Type 0
 AsksFor name old new = (bytes : List ℕ) × (new ≡ one_more old name bytes)
 
--- these are the bytes that a file holds, where they are known
+-- these are the bytes that a file holds, if they are known
 abbrev pub MatchesContents : Option (List ℕ) → List ℕ → Type 0
 MatchesContents None bytes = Unit {0}
 MatchesContents (Some known) bytes = bytes ≡ known

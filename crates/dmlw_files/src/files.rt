@@ -102,7 +102,7 @@ pub trait Files {
     fn failure(&self) -> Option<&FileFailure>
         ensures { is_some result ≡ has_failure self.now };
 
-    /// Whether both names are those of one file.
+    /// Returns whether both names are those of one file.
     fn is_same(&self, first: &str, second: &str) -> bool
         ensures named { first.now ≡ second.now → result ≡ true }
         // It holds one thing, whichever name it is asked for by.

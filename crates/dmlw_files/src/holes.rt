@@ -16,8 +16,8 @@ pub(crate) trait Skip: Write {
         ensures kept { OnErr result (Keeps (Self.contents self.old) (Self.contents self.new)) };
 }
 
-/// A new file, of which no clause knows what it holds. Zeroes that were skipped are there once
-/// later bytes are written or its length is set.
+/// A new file, whose content isn't proved. Zeroes that were skipped are there when later bytes are
+/// written or its length is set.
 #[derive(Drop)]
 pub(crate) struct NewFile<'a, F> {
     file: &'a mut F,
@@ -62,7 +62,7 @@ impl<W: Skip + Drop> Holes<W> {
         Ok(Holes { writer, zeroes })
     }
 
-    // Whether these bytes are zeroes, and few enough to be skipped.
+    // Returns whether these bytes are zeroes, and few enough to be skipped.
     fn skips(&self, bytes: &[u8]) -> bool
         ensures { result ≡ true → bytes.now ≡ replicate (length bytes.now) 0 }
     {

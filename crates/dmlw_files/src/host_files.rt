@@ -16,16 +16,16 @@ use std::io::{Read, Seek, Write};
 use std::os::unix::fs::{FileTypeExt, MetadataExt};
 use std::{fs, io};
 
-// How many names are tried for the new file in a log's folder.
+// The number of names that are tried for the new file in a log's folder.
 const MAX_BESIDE: u32 = 1000;
 
-// How many bytes of a file are read at a time: those of a piece of an `Image`.
+// The number of bytes of a file that are read at a time: those of a piece of an `Image`.
 const READ_BYTES: usize = 65_536;
 
 // The most bytes that a file can have.
 const MAX_FILE_BYTES: u64 = 9_223_372_036_854_775_807;
 
-/// The system's files. No clause knows what they hold.
+/// The system's files. Their contents aren't proved.
 ///
 /// A regular file is written whole or not at all: as `NAME.dmlw-tmp-<n>` in its folder, and then
 /// renamed over it. A link stays, and the file that it leads to is replaced. A pipe or a device is
@@ -33,7 +33,7 @@ const MAX_FILE_BYTES: u64 = 9_223_372_036_854_775_807;
 /// what it holds.
 ///
 /// A pipe, a socket or a character device gives its bytes once. They are kept under its name for as
-/// long as this value lives, if they are at most 4,194,304 bytes: each later read of the name
+/// long as this value lives, if they are at most 4,194,304 bytes. Each later read of the name
 /// returns a copy of them. If they weren't kept, it fails with `NotSeekable`, or, if they are more
 /// than it may read, with `TooLong(0)`.
 #[derive(Drop)]
@@ -47,8 +47,8 @@ pub struct HostFiles<'a, R: std::rt::Files> {
 #[derive(Drop)]
 struct Spent {
     name: String,
-    // How many bytes it has at least: all of them, or one more than the read's limit; 0 if the read
-    // failed.
+    // At least this many bytes are in the file: all of them, or one more than the read's limit; 0
+    // if the read failed.
     length: u64,
     // All its bytes, unless they are too many or there was no memory for a copy.
     bytes: Option<Vec<u8>>,
@@ -169,7 +169,7 @@ impl<R: std::rt::Files> Files for HostFiles<'_, R> {
     }
 }
 
-// Whether a later read of a file finds its bytes again, or fails as the first one did.
+// Returns whether a later read of a file finds its bytes again, or fails as the first one did.
 fn reads_again<R: std::rt::Files>(runtime: &R, name: &str) -> bool {
     match fs::metadata(runtime, name) {
         Ok(found) => found.is_file() || found.is_dir() || found.file_type().is_block_device(),
@@ -338,7 +338,7 @@ fn write_image<R: std::rt::Files>(
     }
 }
 
-// Whether a name is that of an open stream of the process, whatever the stream leads to.
+// Returns whether a name is that of an open stream of the process, whatever the stream leads to.
 fn is_stream(name: &str) -> bool {
     name == "/dev/stdout"
         || name == "/dev/stderr"

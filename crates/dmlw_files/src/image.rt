@@ -13,8 +13,8 @@ use std::alloc::Global;
 /// The most bytes of an image: those of 1,048,576 sectors.
 pub const MAX_IMAGE_BYTES: u64 = 536_870_912;
 
-/// The image in the file of a name: whole sectors of 512 bytes, at least one. Any other file is
-/// refused with `File`, as is one that can't be read; where a file's bytes are known and are an
+/// Reads the image in the file of a name: whole sectors of 512 bytes, at least one. Any other file
+/// is refused with `File`, as is one that can't be read. If a file's bytes are known and are an
 /// image, only memory can refuse it.
 #[tactic(auto, using(crate::specs::Images::image_within, crate::specs::Images::image_read))]
 pub fn read_image<F: Files>(alloc: Global, name: &str, files: &mut F) -> Result<Image, RunError>

@@ -1,9 +1,9 @@
 //! The files and streams of the commands.
 //!
-//! `Files` is what a command asks of a file system (`specs/Files`); `HostFiles` is the system's, of
-//! which no clause knows what it holds. A script's text and an image are read by the rules for
-//! their sizes (`specs/Images`). `Output` is a writer whose reader may go away. A
-//! `Session` is what a command is lent: its files and streams.
+//! `Files` is what a command asks of a file system (`specs/Files`); `HostFiles` is the system's;
+//! its contents aren't proved. A script's text and an image are read by the rules for their sizes
+//! (`specs/Images`). `Output` is a writer whose reader may go away. A `Session` is what a command
+//! is lent: its files and streams.
 #![tactic(auto)]
 
 pub use files::{FileError, FileFailure, Files};

@@ -17,7 +17,7 @@ const SECTOR: usize = SECTOR_BYTES as usize;
 /// The most sectors of a piece.
 const PIECE_SECTORS: u64 = 128;
 
-/// The bytes of the buffer that pieces stand in.
+/// The number of bytes of the buffer for pieces.
 pub(crate) const PIECE: usize = PIECE_SECTORS as usize * SECTOR;
 
 // Reads a piece of a disk's image, which is whole sectors.
@@ -33,8 +33,8 @@ fn read_piece(disk: &mut SectorDisk, first: u64, piece: &mut [u8])
     let _ = disk.read(Ms::new(0), first, piece);
 }
 
-/// Writes the image of the first so many sectors of a disk,
-/// in pieces that stand in this buffer one after another.
+/// Writes the image of the first `sectors` sectors of a disk, in pieces that are put in this buffer
+/// one after another.
 pub(crate) fn write_sectors<W: Write>(
     disk: &mut SectorDisk,
     sectors: u64,

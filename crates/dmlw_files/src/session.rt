@@ -1,8 +1,8 @@
-//! What a command is lent: where it takes memory from, its files and its streams.
+//! What a command is lent: the allocator of its memory, its files and its streams.
 use std::alloc::Global;
 
 /// What a command is lent. It reads and writes `files`, prints on `out`, and reports a fault on
-/// `err`, with what helps where it `explains`.
+/// `err`. If it `explains`, advice follows the fault.
 #[derive(Debug, Drop)]
 pub struct Session<F, O, E> {
     pub alloc: Global,

@@ -16,7 +16,7 @@ fn submit(core: &mut Core, sector: u64) -> Result<u64, AllocError> {
     }
 }
 
-// Ends what is open at a place.
+// Ends the request that is open at a place.
 fn end(core: &mut Core, place: u64) {
     let id = Id::new(place);
     if core.is_open(id) {
@@ -24,8 +24,7 @@ fn end(core: &mut Core, place: u64) {
     }
 }
 
-// So many requests are submitted and end, every seventh
-// first; they have the places from this one on.
+// Submits and ends `count` requests, every seventh first. They have the places from `from` on.
 fn end_all(core: &mut Core, from: u64, count: u64) -> Result<(), AllocError> {
     for sector in 0..count {
         submit(core, sector)?;
@@ -39,13 +38,13 @@ fn end_all(core: &mut Core, from: u64, count: u64) -> Result<(), AllocError> {
     Ok(())
 }
 
-// The place of the next entry.
+// Returns the place of the next entry.
 fn next_place(core: &mut Core) -> Option<u64> {
     let (id, _entry) = core.take()?;
     Some(id.place())
 }
 
-// Takes all, and tells how many came in the order of their ends, with the flush at the end.
+// Takes all entries. Returns how many came in the order of their ends, with the flush at the end.
 fn take_all(core: &mut Core, from: u64, count: u64, flush: u64) -> u64 {
     let mut right: u64 = 0;
     for number in 0..count {
@@ -76,7 +75,7 @@ fn a_flush_changes_few_links(rt: HostRuntime) -> Result<(), Fail> {
     Ok(())
 }
 
-// How many rows the core's chains have, as it is shown.
+// Returns the number of rows of the core's chains, as it is shown.
 fn rows_shown(alloc: Global, core: &Core) -> Result<usize, AllocError> {
     let shown = format!(in alloc; "{core:?}")?;
     let (_, links) = shown.as_str().split_once("next: [").unwrap_or(("", ""));
@@ -84,8 +83,8 @@ fn rows_shown(alloc: Global, core: &Core) -> Result<usize, AllocError> {
     Ok(rows.split(',').count())
 }
 
-// So many rounds: requests end, a flush ends, and all is taken. How many rows there are after the
-// second and the last one.
+// Does `count` rounds: requests end, a flush ends, and all entries are taken. Returns the number of
+// rows after the second and the last round.
 fn rounds(alloc: Global, count: u64, requests: u64) -> Result<(usize, usize), AllocError> {
     let mut core = Core::new(alloc)?;
     let mut second = 0;

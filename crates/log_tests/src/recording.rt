@@ -6,7 +6,7 @@ use std::process::Abort;
 use std::test::Fail;
 use test_devices::rows_are_told;
 
-// A write of so many bytes; the number has a bit each for flush, FUA and meta.
+// Returns a write of `length` bytes; the number has a bit each for flush, FUA and meta.
 fn write(alloc: Global, first: u64, length: usize, flags: u64) -> Result<Bio, AllocError> {
     Ok(Bio::Write {
         first,
@@ -17,7 +17,7 @@ fn write(alloc: Global, first: u64, length: usize, flags: u64) -> Result<Bio, Al
     })
 }
 
-// The request that a word names.
+// Returns the request that a word names.
 fn request(alloc: Global, word: &str, number: u64) -> Result<Bio, AllocError> {
     match word {
         "write" => write(alloc, number, 512, 0),
@@ -35,7 +35,7 @@ fn request(alloc: Global, word: &str, number: u64) -> Result<Bio, AllocError> {
     }
 }
 
-// The place that a submission got; a passed one has none.
+// Returns the place that a submission got; a passed one has none.
 fn place_of(answer: Submitted) -> u64 {
     match answer {
         Submitted::Tracked(id) => id.place(),
@@ -43,7 +43,7 @@ fn place_of(answer: Submitted) -> u64 {
     }
 }
 
-// Ends the request that was submitted at this place, where it is open.
+// Ends the request that was submitted at this place, if it is open.
 fn end(core: &mut Core, place: u64, ok: bool) {
     let id = Id::new(place);
     if core.is_open(id) {
@@ -51,7 +51,7 @@ fn end(core: &mut Core, place: u64, ok: bool) {
     }
 }
 
-// All that can be taken: the place, the sector and the flags of each.
+// Returns all that can be taken: the place, the sector and the flags of each.
 fn taken(alloc: Global, core: &mut Core) -> Result<String, AllocError> {
     let mut shown = String::new(alloc);
     for _ in 0..100 {
@@ -70,7 +70,7 @@ fn taken(alloc: Global, core: &mut Core) -> Result<String, AllocError> {
     Ok(shown)
 }
 
-// Marks with so many of this byte; what is shown where the mark isn't queued.
+// Sets a mark of `length` times this byte; returns what is shown if the mark isn't queued.
 fn marked(alloc: Global, core: &mut Core, byte: u8, length: u64) -> Result<String, AllocError> {
     match core.mark(&Bytes::from_vec(vec![in alloc; byte; length as usize]?)) {
         Ok(Marked::Queued(_)) => Ok(String::new(alloc)),
@@ -79,7 +79,7 @@ fn marked(alloc: Global, core: &mut Core, byte: u8, length: u64) -> Result<Strin
     }
 }
 
-// Does what a step's word says with its number.
+// Does what a step's word and its number mean.
 fn play(alloc: Global, core: &mut Core, word: &str, number: u64) -> Result<String, AllocError> {
     match word {
         "end" => end(core, number, true),
@@ -101,7 +101,7 @@ fn play(alloc: Global, core: &mut Core, word: &str, number: u64) -> Result<Strin
     Ok(String::new(alloc))
 }
 
-// What is shown of these steps.
+// Returns what is shown of these steps.
 fn play_all(alloc: Global, core: &mut Core, steps: &str) -> Result<String, AllocError> {
     let mut shown = String::new(alloc);
     for step in steps.split(',') {
@@ -112,17 +112,17 @@ fn play_all(alloc: Global, core: &mut Core, steps: &str) -> Result<String, Alloc
     Ok(shown)
 }
 
-// What is shown of a row's steps, and how many events were recorded.
+// Returns what is shown of a row's steps, and how many events were recorded.
 fn played(alloc: Global, core: &mut Core, steps: &str) -> Result<String, AllocError> {
     let shown = play_all(alloc, core, steps)?;
     format!(in alloc; "{shown}{}", core.events().len())
 }
 
-// Steps, and what is shown of them: a flush takes what ended before it; a FUA write is queued at
-// its end, failed or not, behind an older write of its sector, also of a discard's, and before
-// those of other sectors; a busy core isn't closed; nothing is queued after a stop; of two flushes
-// the one that ends first takes what ended before it, also if it has data; recording goes on
-// after a take; and a mark waits for nothing.
+// Steps, and what is shown of them. A flush takes what ended before it. A FUA write is queued when
+// it ends, failed or not. It follows an older write or discard of its sector, and is before those
+// of other sectors. A busy core isn't closed. Nothing is queued after a stop. For two flushes, the
+// one that ends first takes what ended before it, also if it has data. Recording goes on after a
+// take. A mark waits for nothing.
 const ROWS: &str =
     "write 10,write 20,write 30,end 2,end 1,flush,end 0,end 5,close,take=2 30+1 0;1 20+1 0;5 0+0 1;0 10+1 0;8 0+0 8;9
 fua 5,fail 0,take,take=0 5+1 2;2
@@ -149,7 +149,7 @@ fn steps_are_answered(rt: HostRuntime) -> Result<(), Fail> {
     Ok(())
 }
 
-// The place of what is taken next.
+// Returns the place of what is taken next.
 fn next_place(core: &mut Core) -> Option<u64> {
     let (id, _entry) = core.take()?;
     Some(id.place())
@@ -162,8 +162,8 @@ fn write_one(alloc: Global, core: &mut Core, sector: u64, flags: u64) -> Result<
     Ok(())
 }
 
-// Of 8,192 writes that wait a FUA write takes the one of
-// its sector; over another sector it takes none.
+// When 8,192 writes wait, a FUA write takes the one of its sector. Over another sector it takes
+// none.
 fn check_many(rt: &impl Abort, alloc: Global, core: &mut Core) -> Result<(), Fail> {
     for sector in 0..8192 {
         write_one(alloc, core, sector, 0)?;
@@ -182,7 +182,7 @@ fn one_of_many_is_taken(rt: HostRuntime) -> Result<(), Fail> {
     check_many(&rt, rt.alloc(), &mut Core::new(rt.alloc())?)
 }
 
-// A request of the mix: flushes, and writes with flush, only if they are asked for.
+// Returns a request of the mix; flushes, and writes with flush, only if they are asked for.
 fn mixed(alloc: Global, random: u64, flushes: bool) -> Result<Bio, AllocError> {
     match random % 4096 {
         0..64 if flushes => Ok(Bio::Flush),
@@ -196,7 +196,8 @@ fn mixed(alloc: Global, random: u64, flushes: bool) -> Result<Bio, AllocError> {
     }
 }
 
-// Submits so many requests of the mix, and ends some of the open ones, but for 200.
+// Submits a number of requests of the mix, and ends some of the open ones, so that at most 200 stay
+// open.
 fn submit_mixed(
     alloc: Global,
     core: &mut Core,
@@ -219,8 +220,8 @@ fn submit_mixed(
     Ok(())
 }
 
-// Records requests of the mix, some without flushes and
-// some with them, and marks; and ends and closes it all.
+// Records requests of the mix, some without flushes and some with them, and marks. Ends all of
+// them, and closes.
 fn record_mix(alloc: Global, core: &mut Core) -> Result<(), Fail> {
     let mut open = Vec::new(alloc);
     submit_mixed(alloc, core, &mut open, 2_000, false)?;

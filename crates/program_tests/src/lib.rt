@@ -1,6 +1,6 @@
-//! Tests of the program that only code can make: the system's files, lack of memory, sizes that no
-//! file of a test has, generated scripts, and public calls that no command shows whole. What a
-//! command prints and writes is tested by a transcript (`transcripts`).
+//! Tests of the program that only code can make. They are of the system's files, lack of memory,
+//! sizes that no file of a test has, and generated scripts. They are also of public calls that no
+//! command shows whole. What a command prints and writes is tested by a transcript (`transcripts`).
 #![tactic(auto)]
 
 #[cfg(test)]

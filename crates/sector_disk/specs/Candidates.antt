@@ -87,9 +87,9 @@ abbrev pub unsynced_below : Cache → ℕ → ℕ
 unsynced_below cache zero = 0
 unsynced_below cache (suc sector) = unsynced_below cache sector + unsynced_at cache sector
 
--- which of its candidates a sector takes: the n-th unsynced one takes the
--- n-th pick, modulo the number of its candidates, and the durable value
--- if there is no pick; a sector that is synced has no other candidate
+-- Which of its candidates a sector takes. The n-th unsynced one takes the n-th pick, modulo the
+-- number of its candidates, and the durable value if there is no pick. A sector that is synced has
+-- no other candidate.
 abbrev pub choice_of : Cache → List ℕ → ℕ → ℕ
 choice_of cache picks sector =
     unwrap_or (slice_get picks (unsynced_below cache sector)) 0 % length (cache.may sector)

@@ -10,7 +10,7 @@ pub record IsDiskSize (sectors : ℕ) : Type 0 where
   pub some : 0 < sectors
   pub few : sectors ≤ 1048576
 
--- this many bytes may be the image of a disk: whole sectors, and as many as a disk may have
+-- an image of a disk may have this many bytes: whole sectors, and no more than a disk may have
 pub record IsImageSize (length : ℕ) : Type 0 where
   pub whole : length % 512 ≡ 0
   pub some : 0 < length

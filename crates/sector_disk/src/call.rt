@@ -30,7 +30,7 @@ pub enum Change {
 }
 
 impl Change {
-    /// How many sectors it puts a value in.
+    /// Returns how many sectors it puts a value in.
     pub fn sectors(&self) -> u64
         ensures { result ≡ count_of self.now }
     {
@@ -132,7 +132,8 @@ pub fn read_places(calls: &[Call], places: &[usize], first: usize, buffer: &mut 
     }
 }
 
-/// Whether the first of these calls is a write of `sectors` sectors, from the first sector on.
+/// Returns whether the first of these calls is a write of `sectors` sectors, from the first sector
+/// on.
 pub fn begins_with_image(calls: &[Call], sectors: usize) -> bool
     requires { sectors ≤ 1048576 }
     ensures { result ≡ is_image_in (slice_get calls.now 0) sectors }
@@ -143,7 +144,7 @@ pub fn begins_with_image(calls: &[Call], sectors: usize) -> bool
     }
 }
 
-// Whether a change is a write of `sectors` sectors.
+// Returns whether a change is a write of `sectors` sectors.
 fn is_write_of(change: &Change, sectors: usize) -> bool
     requires { sectors ≤ 1048576 }
     ensures { result ≡ is_write_of change.now sectors }
@@ -249,7 +250,8 @@ pub fn add_call(
     Ok(())
 }
 
-/// Whether the call at a place isn't durable: it came after the last flush, and without FUA.
+/// Returns whether the call at a place isn't durable: it came after the last flush, and without
+/// FUA.
 pub fn is_open(calls: &[Call], synced: usize, place: usize) -> bool
     ensures { result ≡ is_open calls.now synced place }
 {

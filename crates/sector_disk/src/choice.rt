@@ -6,7 +6,7 @@ ghost use Rattle.sector_disk.specs.inside.Storage.{ArePlaced, is_chain, walk};
 
 use crate::call::{Call, before, is_open};
 
-// How many candidates a sector has: the calls that aren't
+// Returns how many candidates a sector has: the calls that aren't
 // durable, from its newest back to the first that is.
 fn count_candidates(calls: &[Call], synced: usize, sector: usize, newest: usize) -> usize
     ensures some { 0 < result }

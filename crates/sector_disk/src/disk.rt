@@ -29,9 +29,9 @@ pub struct SectorDisk {
     // And of the one that had it when the past began, at the last crash. Empty before the first
     // crash, when each has the first's: there is room then for all sectors.
     base: Vec<usize>,
-    // How many calls there were when the past began.
+    // The number of calls when the past began.
     begun: usize,
-    // How many there were at the last flush.
+    // The number of calls at the last flush.
     synced: usize,
     // Whether that flush came after the last call.
     flushed: bool,

@@ -1,5 +1,5 @@
-//! Bytes of which the last are often all the same, as those of a sector: the others are held, and
-//! that one byte once.
+//! Bytes whose last ones are often all the same, as in a sector. The others are stored, and that
+//! one byte once.
 ghost use Rattle.std.specs.Prelude.{◌≡◌, ◌+◌, ◌++◌, ◌-◌, ◌<◌, ◌≤◌, IfOk, OnOk, drop, length, replicate, take};
 
 use std::alloc::{AllocError, Global};
@@ -10,7 +10,7 @@ use std::marker::Model;
 pub struct FilledBytes {
     // The first bytes.
     bytes: Vec<u8>,
-    // How many bytes follow on those.
+    // The number of bytes that follow those.
     more: u32,
     // Each of the bytes that follow.
     fill: u8,
@@ -129,7 +129,7 @@ impl FilledBytes {
         })
     }
 
-    /// How many bytes there are.
+    /// Returns how many bytes there are.
     pub fn len(&self) -> usize
         ensures { result ≡ length self.now }
     {

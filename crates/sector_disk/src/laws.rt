@@ -33,8 +33,8 @@ pub fn unsynced_sectors_may_be_old()
         (shown_of old).crash left → (shown_of new).crash left }
 {}
 
-/// While a write or a discard runs, one with FUA too, a crash may leave any part of it: in each of
-/// its sectors the old value or the new one, over whatever a crash could leave before.
+/// While a write or a discard runs, one with FUA too, a crash may leave any part of it. In each of
+/// its sectors it leaves the old value or the new one, over whatever a crash could leave before.
 pub fn running_calls_tear()
     ensures write { (old new : SectorDisk) (first : ℕ) (bytes : List ℕ) (fua : Bool) (now end : ℕ)
         (before left : Content) →

@@ -7,7 +7,7 @@ use crate::filled::count_before;
 use std::alloc::{AllocError, Global};
 use std::marker::Model;
 
-// How many bytes a bound takes.
+// The number of bytes of a bound.
 const BOUND: usize = 4;
 
 /// The bytes of up to 128 whole sectors. The bytes at a sector's end that are all the same take the
@@ -16,7 +16,8 @@ const BOUND: usize = 4;
 pub struct PackedSectors {
     // For each sector in turn, its bytes up to the first of those at its end that are all the same.
     bytes: Vec<u8>,
-    // Where the bytes of each sector begin in those, and then where the last ones end.
+    // The places at which the bytes of each sector begin, and then the place at which the last ones
+    // end.
     bounds: Vec<u32>,
 }
 
@@ -32,7 +33,7 @@ impl Model for PackedSectors {
     ghost invariant = { λ s. ArePacked s.bytes.items s.bounds.items };
 }
 
-// How many of a sector's first bytes are held. The last of them fills the rest.
+// Returns how many of a sector's first bytes are held. The last of them fills the rest.
 fn count_held(sector: &[u8]) -> usize
     requires { length sector.now ≡ 512 }
     ensures within { result ≤ 512 }
@@ -66,8 +67,8 @@ fn refill(part: &[u8], buffer: &mut [u8])
     rest.fill(last);
 }
 
-/// How many bytes of a slice are held if it is packed. None if it isn't whole sectors, or if that
-/// takes more than `most` bytes of memory.
+/// Returns how many bytes of a slice are held if it is packed. None if it isn't whole sectors, or
+/// if that takes more than `most` bytes of memory.
 pub fn packed_size(bytes: &[u8], most: usize) -> Option<usize>
     ensures { IsSome result → length bytes.now % 512 ≡ 0 }
 {
@@ -114,7 +115,7 @@ impl PackedSectors {
         })
     }
 
-    /// How many bytes there are: those of whole sectors.
+    /// Returns how many bytes there are: those of whole sectors.
     pub fn len(&self) -> usize
         ensures count { result ≡ length self.now }
         ensures whole { result % 512 ≡ 0 }

@@ -7,7 +7,7 @@ use crate::piece::Piece;
 use std::alloc::{AllocError, Global};
 use std::marker::Model;
 
-// How many bytes each piece but the last has.
+// The number of bytes of each piece but the last.
 const PIECE: usize = 65_536;
 
 // Reads a sector of the bytes that pieces make.
@@ -105,7 +105,7 @@ impl Image {
         Ok(bytes)
     }
 
-    /// How many bytes there are.
+    /// Returns how many bytes there are.
     pub fn len(&self) -> usize
         ensures { result ≡ length self.now }
     {

@@ -9,7 +9,7 @@ use std::marker::Brand;
 use std::test::*;
 use test_devices::is_same;
 
-// Statuses that are to be posted in turn, and whether each may be.
+// Statuses that are posted in turn, and whether each may be.
 const ROWS: [(u64, u64, Option<End>, bool); 12] = [
     (0, 0, None, true),
     (3, 4, None, true),
@@ -25,7 +25,7 @@ const ROWS: [(u64, u64, Option<End>, bool); 12] = [
     (1_048_576, 1_048_576, Some(End::Full), true),
 ];
 
-// Posts the status where that is allowed, and says whether it was.
+// Posts the status if that is allowed, and returns whether it was.
 fn post<N: Names>(board: &Board<N>, writer: &mut WriterSeat<N>, status: Status) -> bool {
     let may_publish = writer.may_publish(status);
     if may_publish {
@@ -34,7 +34,7 @@ fn post<N: Names>(board: &Board<N>, writer: &mut WriterSeat<N>, status: Status) 
     may_publish
 }
 
-// What readers read after each row: one that reads each time, and one that is made then.
+// Checks what readers read after each row: one that reads each time, and one that is made then.
 fn rows_are_read<N: Names>(rt: &impl Print, blank: Blank) -> bool
     requires { blank ≡ N.board }
 {
@@ -75,14 +75,14 @@ fn rows_are_read<N: Names>(rt: &impl Print, blank: Blank) -> bool
     are_read
 }
 
-// A reader, and what it read last.
+// A reader, and the status that it read last.
 #[derive(Drop)]
 struct Reader<N: Names> {
     seat: StatusSeat<N>,
     last: Status,
 }
 
-// Whether so many readers read a status that is posted after they were made.
+// Returns whether `count` readers read a status that is posted after they were made.
 fn are_reading<N: Names>(alloc: Global, blank: Blank, count: usize) -> Result<bool, AllocError>
     requires { blank ≡ N.board }
 {

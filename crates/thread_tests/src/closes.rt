@@ -1,5 +1,5 @@
-//! A recorder of one seat: its calls, a close that wasn't
-//! asked for, and one that writes all by itself.
+//! A recorder of one seat: its calls, a close that nobody asked for, and a close that writes
+//! everything itself.
 ghost use Rattle.std.specs.Prelude.{◌≡◌};
 ghost use Rattle.thread_tests.specs.Disks.{disk_ground};
 
@@ -14,10 +14,10 @@ use std::marker::Brand;
 use std::sync::Wait;
 use std::test::*;
 
-// How many sectors each disk has.
+// The number of sectors of each disk.
 const SECTORS: u64 = 16;
 
-// A recorder of one seat over two disks. None where it couldn't be started.
+// Starts a recorder of one seat over two disks. Returns None if it couldn't be started.
 fn start<R: Run + Names>(
     alloc: Global,
     unnamed: Unnamed,
@@ -35,12 +35,12 @@ fn start<R: Run + Names>(
     Ok(Shared::new(alloc, unnamed, device, log, 1, 1).ok())
 }
 
-// A write of one sector of sevens.
+// Returns a write of one sector of sevens.
 fn write(alloc: Global, first: u64) -> Result<Bio, AllocError> {
     write_of(alloc, first, 7)
 }
 
-// Whether a sector of sevens and then one of nines was read.
+// Returns whether a sector of sevens and then one of nines was read.
 fn has_read<C>(answer: &Answer<C>) -> bool {
     match answer {
         Answer::Read(bytes) => {
@@ -53,7 +53,7 @@ fn has_read<C>(answer: &Answer<C>) -> bool {
     }
 }
 
-// A write of one sector of this byte.
+// Returns a write of one sector of this byte.
 fn write_of(alloc: Global, first: u64, byte: u8) -> Result<Bio, AllocError> {
     Ok(Bio::Write {
         first,
@@ -64,8 +64,8 @@ fn write_of(alloc: Global, first: u64, byte: u8) -> Result<Bio, AllocError> {
     })
 }
 
-// A recorder that wasn't asked to close is returned with its seat. Once it was asked, the close
-// itself writes all, with no writer's thread.
+// A recorder that nobody asked to close is returned with its seat. After it was asked, the close
+// itself writes everything, with no writer's thread.
 fn unasked<R: Run + Names, H: Wait>(
     rt: &H,
     alloc: Global,
@@ -113,9 +113,9 @@ fn unasked<R: Run + Names, H: Wait>(
     Ok(matches!(answer, Answer::Done) && is_asked && is_written)
 }
 
-// A recorder whose seat writes, flushes and reads; once recording is closed the writer writes all,
-// and the close finds nothing left to write. Who looks sees the status of an empty log before, and
-// that of the whole log behind it; and what it saw is a prefix of what was posted.
+// The seat of a recorder writes, flushes and reads. After recording is closed, the writer writes
+// everything, and the close has nothing left to write. A reader sees the status of an empty log
+// before, and the status of the whole log after it. What it saw is a prefix of what was posted.
 fn recorded<R: Run + Names, H: Wait>(
     rt: &H,
     alloc: Global,
@@ -180,8 +180,8 @@ struct Wrote<R: Run + Names> {
     writer: WriterSeat<R>,
 }
 
-// Starts a recorder, makes a write of this sector, and asks
-// to close. None where that couldn't be done.
+// Starts a recorder, makes a write of this sector, and asks to close. Returns None if that couldn't
+// be done.
 fn start_and_write<R: Run + Names, H: Wait>(
     rt: &H,
     alloc: Global,
@@ -220,8 +220,8 @@ fn start_and_write<R: Run + Names, H: Wait>(
     }))
 }
 
-// Closes a recorder. Says whether it found that its seat
-// isn't its own, and handed it back with nothing placed.
+// Closes a recorder. Returns whether it found that its seat isn't its own, and returned the seat
+// with nothing placed.
 fn is_foreign<R: Run + Names>(alloc: Global, wrote: Wrote<R>) -> Result<bool, AllocError> {
     let Wrote {
         recorder,
@@ -237,8 +237,8 @@ fn is_foreign<R: Run + Names>(alloc: Global, wrote: Wrote<R>) -> Result<bool, Al
     Ok(back.seats.len() == 1 && back.closed.placed.is_empty() && is_unposted)
 }
 
-// A recorder whose logging ended before its seat's calls: a write with FUA and a mark are told the
-// cause, a plain write is done.
+// Logging of a recorder ended before its seat's calls. A write with FUA and a mark are answered by
+// the cause, and a plain write is done.
 fn stopped<R: Run + Names, H: Wait>(
     rt: &H,
     alloc: Global,
@@ -280,8 +280,8 @@ fn stopped<R: Run + Names, H: Wait>(
     Ok(is_told && matches!(done, Answer::Done) && is_marked)
 }
 
-// The seats of two recorders change their calls: each recorder
-// finds that its seat isn't its own, and hands it back.
+// The seats of two recorders are swapped. Each recorder finds that its seat isn't its own, and
+// returns it.
 fn foreign_seats<B: Run + Names, C: Run + Names, H: Wait>(
     rt: &H,
     alloc: Global,
@@ -336,7 +336,7 @@ fn a_write_behind_a_stop_is_told_its_cause(rt: HostRuntime) -> Result<(), Fail> 
     Ok(())
 }
 
-// A seat's calls once recording was closed: a write with FUA is done, and a mark is refused by 36.
+// A seat's calls after recording was closed: a write with FUA is done, and a mark is refused by 36.
 fn closed<R: Run + Names, H: Wait>(
     rt: &H,
     alloc: Global,

@@ -1,4 +1,4 @@
-//! A device that holds one call until it is let go, or until it has looked ten thousand times.
+//! A device that holds one call until it is released, or until it has checked ten thousand times.
 ghost use Rattle.std.specs.Prelude.{◌≡◌};
 
 use bio::{DevError, Ms};
@@ -9,7 +9,7 @@ use std::sync::atomic::{AtomicU64, Ordering};
 use std::thread::sleep;
 use std::time::{Clock, Duration};
 
-// How often a held call looks whether it may go on. It sleeps a millisecond after each look.
+// How often a held call checks whether it may go on. It sleeps a millisecond after each check.
 const LOOKS: u64 = 10_000;
 
 // The states of a sign: no call is held; one is; it may go on.
@@ -21,7 +21,7 @@ const LET_GO: u64 = 2;
 
 const GAVE_UP: u64 = 3;
 
-/// What a gate shows of the call that it holds, and hears.
+/// A sign between a gate and another thread: whether a call is held, and whether it may go on.
 #[derive(Drop)]
 pub struct Sign {
     state: Arc<AtomicU64>,
@@ -34,14 +34,14 @@ impl Sign {
         })
     }
 
-    /// The same sign.
+    /// Returns another handle on the same sign.
     pub fn again(&self) -> Result<Sign, AllocError> {
         Ok(Sign {
             state: Arc::try_clone(&self.state)?,
         })
     }
 
-    /// Waits until a call is held, as long as a gate holds it.
+    /// Waits until a call is held, at most as long as a gate holds one.
     pub fn wait(&self, clock: &impl Clock) {
         for _ in 0..LOOKS {
             if self.state.load(Ordering::SeqCst) != IDLE {
@@ -51,14 +51,14 @@ impl Sign {
         }
     }
 
-    /// Lets the call go. Says whether it was still held.
+    /// Releases the call. Returns whether it was still held.
     pub fn let_go(&self) -> bool {
         self.state
             .compare_exchange(HELD, LET_GO, Ordering::SeqCst, Ordering::SeqCst)
             .is_ok()
     }
 
-    // Holds a call, until it is let go or this gives up.
+    // Holds a call, until it is released or this gives up.
     fn hold(&self, clock: &impl Clock) {
         self.state.store(HELD, Ordering::SeqCst);
         for _ in 0..LOOKS {
@@ -80,13 +80,13 @@ pub struct Gate<D: BlockDev + Drop, C: Clock + Drop> {
     clock: C,
     sign: Sign,
     sector: u64,
-    // How many writes to the sector pass before the one
-    // that is held; none is held from 2^64 - 1 on.
+    // The number of writes to the sector that pass before the one that is held. From 2^64 - 1 on
+    // none is held.
     passes: u64,
 }
 
 impl<D: BlockDev + Drop, C: Clock + Drop> Gate<D, C> {
-    /// Holds no call.
+    /// Returns a gate that holds no call.
     pub fn open(lower: D, clock: C, sign: Sign) -> Gate<D, C>
         ensures { result.lower ≡ lower }
     {
@@ -99,7 +99,7 @@ impl<D: BlockDev + Drop, C: Clock + Drop> Gate<D, C> {
         }
     }
 
-    /// Holds the write to this sector that comes after so many.
+    /// Returns a gate that holds the write to this sector that comes after `passes` others.
     pub fn holding(lower: D, clock: C, sign: Sign, sector: u64, passes: u64) -> Gate<D, C>
         ensures { result.lower ≡ lower }
     {
@@ -125,7 +125,7 @@ impl<D: BlockDev + Drop, C: Clock + Drop> Gate<D, C> {
         lower
     }
 
-    // Holds the call if it is the one.
+    // Holds the call if it is the one to hold.
     fn pass(&mut self, first: u64)
         ensures { self.new.lower ≡ self.old.lower }
     {

@@ -1,11 +1,11 @@
-//! A keeper and its holders go through their calls.
+//! A keeper and its holders make their calls.
 ghost use Rattle.std.specs.Prelude.{◌≡◌};
 
 use lock_state::{Fresh, Whose};
 use std::marker::Brand;
 use std::test::*;
 
-// Two holders take and let go in turn.
+// Checks that two holders take and release in turn.
 fn are_held<W: Whose>(fresh: Fresh)
     requires { fresh ≡ W.table }
 {

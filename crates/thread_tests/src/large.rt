@@ -17,15 +17,15 @@ use std::thread::Threads;
 use std::time::Clock;
 use test_devices::{holds, is_same};
 
-// How many seats there are, and how many sectors each has for its own.
+// The number of seats, and of sectors that each has for itself.
 const SEATS: u64 = 4;
 
 const OWN: u64 = 100;
 
-// The byte that a seat writes once it was asked to close.
+// The byte that a seat writes after it was asked to close.
 const LATE: u8 = 200;
 
-// The calls of a seat that writes each of its sectors once and then marks its number.
+// Returns the calls of a seat that writes each of its sectors once and then marks its number.
 fn writes_and_mark(alloc: Global, seat: u64) -> Result<Table, AllocError>
     requires { seat < 4 }
 {
@@ -47,7 +47,7 @@ fn writes_and_mark(alloc: Global, seat: u64) -> Result<Table, AllocError>
     })
 }
 
-// Whether each seat had these answers.
+// Returns whether each seat had these answers.
 fn have_answers(rt: &impl Print, found: &[Tally], wanted: &Tally) -> bool {
     let mut have = is_same(rt, &found.len(), &4, "seats");
     for place in 0..found.len() {
@@ -56,7 +56,7 @@ fn have_answers(rt: &impl Print, found: &[Tally], wanted: &Tally) -> bool {
     have
 }
 
-// Whether each reader saw this status last.
+// Returns whether each reader saw this status last.
 fn have_seen(rt: &impl Print, seen: &[Status], last: &Status) -> bool {
     let mut have = is_same(rt, &seen.len(), &4, "readers");
     for place in 0..seen.len() {
@@ -65,7 +65,7 @@ fn have_seen(rt: &impl Print, seen: &[Status], last: &Status) -> bool {
     have
 }
 
-// Whether this receipt is that of the mark with this byte.
+// Returns whether this receipt is that of the mark with this byte.
 fn is_marks(receipt: (Id, u64), placed: &[Item], byte: u8) -> bool {
     let (id, number) = receipt;
     match placed.get(number as usize) {
@@ -74,7 +74,7 @@ fn is_marks(receipt: (Id, u64), placed: &[Item], byte: u8) -> bool {
     }
 }
 
-// Whether there is a receipt for each seat's mark, and each names its own item.
+// Returns whether there is a receipt for each seat's mark, and each names its item.
 fn are_named(rt: &impl Print, receipts: &[(Id, u64)], placed: &[Item]) -> bool {
     if receipts.len() != 4 {
         return holds(rt, false, "four receipts");
@@ -87,7 +87,7 @@ fn are_named(rt: &impl Print, receipts: &[(Id, u64)], placed: &[Item]) -> bool {
     are
 }
 
-// How many entries are read from a log.
+// Returns the number of entries that are read from a log.
 fn read_back(alloc: Global, log: SectorDisk) -> u64 {
     let Ok(mut reader) = LogReader::open(alloc, log) else {
         return u64::MAX;
@@ -102,10 +102,10 @@ fn read_back(alloc: Global, log: SectorDisk) -> u64 {
     count
 }
 
-// Four seats write a hundred sectors each and mark their numbers, over a log of so many sectors,
-// while four readers look at the status. Says whether the answers, the receipts, the status and the
-// log that is read back are these, no reader saw a status go back, and each sees the last one in
-// the end.
+// Four seats write a hundred sectors each and mark their numbers, over a log of `sectors` sectors,
+// while four readers read the status. Returns whether the answers, the receipts, the status and the
+// log that is read again are these. Also, no reader saw a status go back, and each sees the last
+// one in the end.
 fn four_seats<H: Threads + Wait + Clock + Print + Sync + Send + Copy + Drop>(
     rt: &H,
     alloc: Global,
@@ -165,9 +165,9 @@ fn four_seats_find_a_log_full(rt: HostRuntime) -> Result<(), Fail> {
     Ok(())
 }
 
-// The calls of a seat that writes each of its sectors, reads it back at once, and then flushes.
-// Once it was asked to close it writes its first sector again, its second one with FUA, discards its
-// third one and reads each back, and marks.
+// Returns the calls of a seat that writes each of its sectors, reads it at once, and then flushes.
+// After it was asked to close, it writes its first sector again, and its second one with FUA. It
+// discards its third one, reads each, and marks.
 fn writes_read_back(alloc: Global, seat: u64) -> Result<Table, AllocError>
     requires { seat < 4 }
 {
@@ -190,7 +190,7 @@ fn writes_read_back(alloc: Global, seat: u64) -> Result<Table, AllocError>
     })
 }
 
-// The calls of a seat with this first sector, once it was asked to close.
+// Returns the calls of a seat with this first sector, after it was asked to close.
 fn late_calls(alloc: Global, first: u64) -> Result<Vec<Call>, AllocError>
     requires { first < 400 }
 {
@@ -220,7 +220,7 @@ fn late_calls(alloc: Global, first: u64) -> Result<Vec<Call>, AllocError>
     ]?)
 }
 
-// Whether the sector of a disk is filled with this byte.
+// Returns whether the sector of a disk is filled with this byte.
 fn has_byte(
     disk: &mut SectorDisk,
     alloc: Global,
@@ -240,7 +240,8 @@ fn has_byte(
     Ok(buffer.as_slice().iter().all(|&found| found == byte))
 }
 
-// The byte that fills this sector of a seat's: one of the first three, or the number of the write.
+// Returns the byte that fills this sector of a seat: one of the first three, or the number of the
+// write.
 fn byte_of(place: u64, first: [u8; 3]) -> u8 {
     match place {
         0 => first[0],
@@ -250,7 +251,7 @@ fn byte_of(place: u64, first: [u8; 3]) -> u8 {
     }
 }
 
-// Whether each sector of four seats is filled with its byte.
+// Returns whether each sector of four seats is filled with its byte.
 fn have_bytes(disk: &mut SectorDisk, alloc: Global, first: [u8; 3]) -> Result<bool, AllocError> {
     let mut have = true;
     for sector in 0..SEATS * OWN {
@@ -259,9 +260,9 @@ fn have_bytes(disk: &mut SectorDisk, alloc: Global, first: [u8; 3]) -> Result<bo
     Ok(have)
 }
 
-// Four seats write and read back, flush, and write and discard again after the close was asked for.
-// Says whether each read found what was written, each sector of the device has its last value, and
-// after a crash the one that was flushed; the late write with FUA stays.
+// Four seats write and read, flush, and write and discard again after the close was asked for.
+// Returns whether each read found what was written, and each sector of the device has its last
+// value. After a crash each has the value that was flushed, and the late write with FUA stays.
 fn readback<H: Threads + Wait + Clock + Print + Sync + Send + Copy + Drop>(
     rt: &H,
     alloc: Global,

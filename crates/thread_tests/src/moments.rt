@@ -1,4 +1,4 @@
-//! The moment at which a seat's request is handed to the device.
+//! The time at which a seat's request is passed to the device.
 ghost use Rattle.std.specs.Prelude.{◌≡◌};
 ghost use Rattle.thread_tests.specs.Disks.{disk_ground};
 
@@ -13,10 +13,10 @@ use std::marker::Brand;
 use std::sync::Wait;
 use std::test::*;
 
-// How many sectors each disk has.
+// The number of sectors of each disk.
 const SECTORS: u64 = 16;
 
-// A device that keeps the moment at which its last call began.
+// A device that keeps the time at which its last call began.
 #[derive(Drop)]
 struct Timed<D: BlockDev + Drop> {
     lower: D,
@@ -74,8 +74,8 @@ impl<D: BlockDev + Drop> BlockDev for Timed<D> {
     ghost lawful = { λ device. D.lawful device.lower };
 }
 
-// A seat's request begins at the moment at which it was submitted, also once recording was closed
-// (`late`).
+// Checks that a seat's request begins at the time at which it was submitted, also after recording
+// was closed (`late`).
 fn is_handed_on<R: Run + Names, H: Wait>(
     rt: &H,
     alloc: Global,
@@ -126,7 +126,7 @@ fn is_handed_on<R: Run + Names, H: Wait>(
     Ok(is_answered && is_asked && closed.device.last == Ms::new(5))
 }
 
-// The same of a new recorder.
+// As above, for a new recorder.
 fn begins_at_its_moment<H: Wait>(
     rt: &H,
     alloc: Global,

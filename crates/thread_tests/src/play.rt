@@ -24,10 +24,10 @@ pub struct Table {
     pub after: Option<Sign>,
 }
 
-// How often a reader looks.
+// How often a reader reads the status.
 const LOOKS: u64 = 10_000;
 
-/// What a reader saw: the status that it saw last, and whether one went back.
+/// A reader's results: the status that it saw last, and whether one went back.
 #[derive(Drop)]
 pub struct Watch<R: Run + Names> {
     pub seat: StatusSeat<R>,
@@ -36,7 +36,7 @@ pub struct Watch<R: Run + Names> {
 }
 
 impl<R: Run + Names> Watch<R> {
-    // Looks so often.
+    // Reads the status this many times.
     fn look<D: BlockDev + Drop, L: BlockDev + Drop>(
         &mut self,
         recorder: &Shared<D, L, R>,
@@ -51,32 +51,32 @@ impl<R: Run + Names> Watch<R> {
     }
 }
 
-/// What a recorder that was played left, with each seat's tally, in the order of the tables.
+/// The results of a recorder that was played, with each seat's tally, in the order of the tables.
 #[derive(Drop)]
 pub struct Played<D: Drop, L: Drop> {
     pub tallies: Vec<Tally>,
     pub let_go: bool,
-    /// For each reader the status that it saw last, once all threads had ended.
+    /// For each reader, the status that it saw last, after all threads had ended.
     pub seen: Vec<Status>,
     /// Whether no reader saw a status go back.
     pub rises: bool,
     /// The id and the number of each receipt.
     pub receipts: Vec<(Id, u64)>,
     pub closed: Closed<D, L>,
-    /// Why those who waited were let go, where they were.
+    /// Why the waiting seats were released, if they were.
     pub released: Option<End>,
 }
 
-// The seats and the readers, once all calls were made.
+// The seats and the readers, after all calls were made.
 #[derive(Drop)]
 struct Called<R: Run + Names> {
     works: Vec<Work<R>>,
     watches: Vec<Watch<R>>,
 }
 
-// Starts the writer, makes all calls, a thread for each seat, asks to
-// close, and makes the late calls. None where not all that was begun;
-// then logging ends, so that the writer doesn't wait for more.
+// Starts the writer, makes all calls, with a thread for each seat, asks to close, and makes the
+// late calls. Returns None if not all of that could be started. Then logging ends, so that the
+// writer doesn't wait for more.
 fn run_all<
     D: BlockDev + Drop + Send,
     L: BlockDev + Drop + Send,
@@ -118,7 +118,7 @@ fn run_all<
     )
 }
 
-// Each reader looks, in a thread of its own.
+// Lets each reader read the status, in its own thread.
 fn look_all<
     D: BlockDev + Drop + Send,
     L: BlockDev + Drop + Send,
@@ -136,7 +136,7 @@ fn look_all<
     watches
 }
 
-// Each seat makes its calls, in a thread of its own.
+// Makes each seat's calls, in its own thread.
 fn call_all<
     D: BlockDev + Drop + Send,
     L: BlockDev + Drop + Send,
@@ -154,7 +154,7 @@ fn call_all<
     works
 }
 
-// Each seat makes its late calls, in a thread of its own.
+// Makes each seat's late calls, in its own thread.
 fn call_all_late<
     D: BlockDev + Drop + Send,
     L: BlockDev + Drop + Send,
@@ -172,7 +172,7 @@ fn call_all_late<
     works
 }
 
-// A seat with its calls for each table, as long as there are seats.
+// Returns a seat with its calls for each table, as long as there are seats.
 fn works_of<R: Run + Names>(
     alloc: Global,
     seats: Vec<Seat<R>>,
@@ -195,7 +195,7 @@ fn works_of<R: Run + Names>(
     Ok(works)
 }
 
-// The readers before their first look.
+// Returns the readers before they read for the first time.
 fn watches_of<R: Run + Names>(
     alloc: Global,
     readers: Vec<StatusSeat<R>>,
@@ -216,7 +216,7 @@ fn watches_of<R: Run + Names>(
     Ok(watches)
 }
 
-// What the seats leave.
+// The seats, their tallies and their receipts.
 #[derive(Drop)]
 struct Parts<R: Run + Names> {
     seats: Vec<Seat<R>>,
@@ -225,7 +225,7 @@ struct Parts<R: Run + Names> {
     let_go: bool,
 }
 
-// The seats, their tallies in the same order, and all receipts.
+// Returns the seats, their tallies in the same order, and all receipts.
 fn parts_of<R: Run + Names>(alloc: Global, works: Vec<Work<R>>) -> Result<Parts<R>, AllocError> {
     let mut seats = Vec::new(alloc);
     let mut receipts = Vec::new(alloc);
@@ -250,7 +250,7 @@ fn parts_of<R: Run + Names>(alloc: Global, works: Vec<Work<R>>) -> Result<Parts<
     })
 }
 
-// The id and the number of each receipt.
+// Returns the id and the number of each receipt.
 fn names_of<R: Run>(alloc: Global, receipts: &[Receipt<R>]) -> Result<Vec<(Id, u64)>, AllocError> {
     let mut names = Vec::new(alloc);
     for receipt in receipts {
@@ -259,7 +259,8 @@ fn names_of<R: Run>(alloc: Global, receipts: &[Receipt<R>]) -> Result<Vec<(Id, u
     Ok(names)
 }
 
-// Each reader looks once more. What they saw last, and whether none saw a status go back.
+// Lets each reader read once more. Returns what each saw last, and whether none saw a status go
+// back.
 fn last_looks<D: BlockDev + Drop, L: BlockDev + Drop, R: Run + Names>(
     alloc: Global,
     recorder: &Shared<D, L, R>,
@@ -276,8 +277,8 @@ fn last_looks<D: BlockDev + Drop, L: BlockDev + Drop, R: Run + Names>(
     Ok((seen, rises))
 }
 
-/// Plays the tables, a seat for each. None where the
-/// recorder couldn't be started, or didn't close as its own.
+/// Plays the tables, with a seat for each. Returns None if the recorder couldn't be started, or
+/// didn't close as its own.
 pub fn play<
     D: BlockDev + Drop + Send,
     L: BlockDev + Drop + Send,

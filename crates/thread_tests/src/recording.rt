@@ -1,5 +1,5 @@
-//! Two seats record requests through the values behind the locks, what was queued is placed, and
-//! all is compared at the end.
+//! Two seats record requests through the values behind the locks. What was queued is placed, and
+//! all of it is compared at the end.
 ghost use Rattle.std.specs.Prelude.{◌≡◌, None};
 ghost use Rattle.bio.specs.Sizes.{bytes_of};
 ghost use Rattle.lock_state.specs.PlacedItems.{ground_of};
@@ -18,12 +18,12 @@ use std::sync::ledger::Blank;
 use std::test::*;
 use test_devices::holds;
 
-// How many sectors the recorded device has, and the log's.
+// The number of sectors of the recorded device, and of the log.
 const SECTORS: u64 = 64;
 
 const LOG_SECTORS: u64 = 128;
 
-// A write of one log sector, the one of this number.
+// Returns a write of one log sector, the one of this number.
 fn write(alloc: Global, size: SectorSize, number: u64, fua: bool) -> Result<Bio, AllocError> {
     Ok(Bio::Write {
         first: number.saturating_mul(size.sectors()),
@@ -34,7 +34,8 @@ fn write(alloc: Global, size: SectorSize, number: u64, fua: bool) -> Result<Bio,
     })
 }
 
-// Records a request of a seat, hands it over and records its end. Says whether all that was done.
+// Records a request of a seat, passes it to the device and records its end. Returns whether all of
+// that was done.
 fn call<R: Run>(
     queue: &mut QueueState<R>,
     data_state: &mut DataState<SectorDisk, R>,
@@ -60,7 +61,7 @@ fn call<R: Run>(
     false
 }
 
-// Places the next item, and says whether there was one.
+// Places the next item, and returns whether there was one.
 fn turn<R: Run>(queue: &mut QueueState<R>, log: &mut LogState<SectorDisk, R>) -> bool {
     let mut hand = WriterPart::new();
     if log.reserve().is_err() || queue.take(&mut hand).is_err() || hand.is_empty() {
@@ -69,7 +70,7 @@ fn turn<R: Run>(queue: &mut QueueState<R>, log: &mut LogState<SectorDisk, R>) ->
     log.place(&mut hand).is_ok()
 }
 
-// Records a mark of a seat. Says whether that was done.
+// Records a mark of a seat. Returns whether that was done.
 fn mark<R: Run>(
     alloc: Global,
     queue: &mut QueueState<R>,
@@ -83,7 +84,7 @@ fn mark<R: Run>(
     Ok(true)
 }
 
-// A seat's call after recording ended is passed. Says whether it was.
+// Passes a seat's call after recording ended. Returns whether it was passed.
 fn pass<R: Run>(queue: &QueueState<R>, seat: &mut Seat<R>) -> Result<bool, AllocError> {
     if queue.is_recording() {
         return Ok(false);
@@ -92,7 +93,7 @@ fn pass<R: Run>(queue: &QueueState<R>, seat: &mut Seat<R>) -> Result<bool, Alloc
     Ok(true)
 }
 
-// Whether the device was called for what the history has.
+// Returns whether the device was called for what the history has.
 fn is_served<R: Run>(
     alloc: Global,
     queue: &QueueState<R>,
@@ -102,8 +103,8 @@ fn is_served<R: Run>(
     Ok(queue.is_served(data_state.done(), notes.as_mut_slice()))
 }
 
-// Places what is left of a closed recorder's log. Says whether that could be done, and so many
-// items are placed and settled then.
+// Places what is left of a closed recorder's log. Returns whether that could be done, and `count`
+// items are then placed and settled.
 pub fn writes_rest<R: Run>(
     queue: &mut QueueState<R>,
     log: &mut LogState<SectorDisk, R>,
@@ -119,7 +120,7 @@ pub fn writes_rest<R: Run>(
     log.placed().len() == count && log.settled() == count as u64 && queue.has_taken(log.placed())
 }
 
-// The requests of two seats, in turn, and a mark. Says whether all was done.
+// Makes the requests of two seats, in turn, and a mark. Returns whether all of them were done.
 fn calls<R: Run>(
     alloc: Global,
     queue: &mut QueueState<R>,
@@ -140,7 +141,7 @@ fn calls<R: Run>(
     Ok(mark(alloc, queue, one)? && is_done)
 }
 
-// Whether both seats, and the device, agree with the history.
+// Returns whether both seats, and the device, agree with the history.
 fn agree<R: Run>(
     alloc: Global,
     queue: &QueueState<R>,
@@ -152,8 +153,8 @@ fn agree<R: Run>(
     Ok(has_both && is_served(alloc, queue, data_state)?)
 }
 
-// Two seats' requests: their lists and passed calls are what
-// the history has of them, and so are the placed items.
+// Records two seats' requests. Returns whether their lists and passed calls are the history's, and
+// the placed items too.
 fn two_seats_record<R: Run>(
     rt: &impl Print,
     alloc: Global,
@@ -199,7 +200,7 @@ fn two_seats_record<R: Run>(
     )
 }
 
-// The same, by a new recorder.
+// As above, by a new recorder.
 fn two_seats(rt: &impl Print, alloc: Global, size: SectorSize) -> Result<bool, AllocError> {
     let blank = Blank::new(2);
     let fresh = (Fresh::new(alloc)?, Fresh::new(alloc)?, Fresh::new(alloc)?);

@@ -18,10 +18,10 @@ use std::thread::Threads;
 use std::time::Clock;
 use test_devices::{Failing, holds, is_same};
 
-// How many sectors the disks of two seats have.
+// The number of sectors of the disks of two seats.
 const FEW: u64 = 64;
 
-/// A tally of these answers.
+/// Returns a tally of these answers.
 pub fn tally(done: u64, logged: u64, found: u64) -> Tally {
     Tally {
         done,
@@ -33,7 +33,7 @@ pub fn tally(done: u64, logged: u64, found: u64) -> Tally {
     }
 }
 
-// A call alone.
+// Returns a table of one call.
 fn alone(alloc: Global, call: Call, after: Option<Sign>) -> Result<Table, AllocError> {
     Ok(Table {
         calls: vec![in alloc; call; 1]?,
@@ -42,7 +42,7 @@ fn alone(alloc: Global, call: Call, after: Option<Sign>) -> Result<Table, AllocE
     })
 }
 
-/// A disk behind a gate that holds nothing.
+/// Returns a disk under a gate that holds nothing.
 pub fn open_disk<H: Clock + Copy + Drop>(
     rt: &H,
     alloc: Global,
@@ -76,16 +76,16 @@ pub fn stage<
     play::<D, L, Brand, H>(rt, alloc, unnamed, device, log, tables, count, readers)
 }
 
-// Where a call is held.
+// The place at which a call is held.
 #[derive(Clone, Copy, Debug, PartialEq, Eq)]
 enum Held {
     Device,
     Log,
 }
 
-// What two seats are to do: the first one's call is held at the device
-// or at the log, at the write to this sector after so many, until the
-// second one's was answered. Both are to be answered by these tallies.
+// What two seats do. The first one's call is held at the device or at the log, at the write to this
+// sector after `passes` others. It is held until the second one's was answered. Both must be
+// answered by these tallies.
 #[derive(Clone, Copy, Debug)]
 struct Scene {
     held: Held,
@@ -97,7 +97,7 @@ struct Scene {
     status: Status,
 }
 
-// The calls of both seats. The second one's waits for this sign.
+// Returns the calls of both seats. The second one's waits for this sign.
 fn two_calls(alloc: Global, calls: (Call, Call), sign: Sign) -> Result<Vec<Table>, AllocError> {
     let mut tables = Vec::new(alloc);
     tables.push(alone(alloc, calls.0, None)?)?;
@@ -105,7 +105,7 @@ fn two_calls(alloc: Global, calls: (Call, Call), sign: Sign) -> Result<Vec<Table
     Ok(tables)
 }
 
-// Whether each of two seats had the answers that it was to have.
+// Returns whether each of two seats had the expected answers.
 fn are_answered(rt: &impl Print, found: &[Tally], wanted: (Tally, Tally)) -> bool {
     let [one, other] = found else {
         return holds(rt, false, "two tallies");
@@ -114,8 +114,8 @@ fn are_answered(rt: &impl Print, found: &[Tally], wanted: (Tally, Tally)) -> boo
     is_same(rt, other, &wanted.1, "the other call") && is_one
 }
 
-// Plays the scene. Says whether the first call was still held
-// once the second one was answered, and both had their answers.
+// Plays the scene. Returns whether the first call was still held when the second one was answered,
+// and both had their answers.
 fn gated<H: Threads + Wait + Clock + Print + Sync + Send + Copy + Drop>(
     rt: &H,
     alloc: Global,
@@ -150,7 +150,7 @@ fn gated<H: Threads + Wait + Clock + Print + Sync + Send + Copy + Drop>(
     Ok(are_tallies && is_let_go && is_status && is_end)
 }
 
-// A log that goes on, with this number of entries up to this sector.
+// Returns the status of a log that goes on, with this number of entries up to this sector.
 fn goes_on(entries: u64, sector: u64) -> Status {
     Status {
         entries,
@@ -159,8 +159,8 @@ fn goes_on(entries: u64, sector: u64) -> Status {
     }
 }
 
-// The log's first write after its creation, which is a
-// flush's entry, until another thread's write was answered.
+// The log's first write after its creation, which is a flush's entry, is held until another
+// thread's write was answered.
 #[test]
 fn a_write_is_answered_while_the_log_is_written(rt: HostRuntime) -> Result<(), Fail> {
     let scene = Scene {
@@ -182,7 +182,7 @@ fn a_write_is_answered_while_the_log_is_written(rt: HostRuntime) -> Result<(), F
     Ok(())
 }
 
-// A Stop while the log is written: the entry that the writer had taken is still written.
+// Logging stops while the log is written. The entry that the writer had taken is still written.
 #[test]
 fn a_taken_entry_is_written_after_a_stop(rt: HostRuntime) -> Result<(), Fail> {
     let scene = Scene {
@@ -200,7 +200,7 @@ fn a_taken_entry_is_written_after_a_stop(rt: HostRuntime) -> Result<(), Fail> {
     Ok(())
 }
 
-// A Stop while the device holds a write with FUA: its seat doesn't wait for the log for ever.
+// Logging stops while the device holds a write with FUA. Its seat doesn't wait for the log forever.
 #[test]
 fn a_write_is_let_go_after_a_stop(rt: HostRuntime) -> Result<(), Fail> {
     let scene = Scene {
@@ -231,7 +231,7 @@ fn a_write_is_let_go_after_a_stop(rt: HostRuntime) -> Result<(), Fail> {
     Ok(())
 }
 
-// A close is asked for while the device holds a request, which is open: it is busy, and recording
+// A close is asked for while the device holds a request, which is open. It is busy, and recording
 // goes on.
 #[test]
 fn a_close_is_busy_while_a_request_is_open(rt: HostRuntime) -> Result<(), Fail> {
@@ -260,7 +260,7 @@ fn a_close_is_busy_while_a_request_is_open(rt: HostRuntime) -> Result<(), Fail> 
     Ok(())
 }
 
-// The super block of one seat's mark, until another's write was answered.
+// The super block of one seat's mark is held until another's write was answered.
 #[test]
 fn a_write_is_answered_while_a_mark_is_made_sure(rt: HostRuntime) -> Result<(), Fail> {
     let scene = Scene {
@@ -282,7 +282,7 @@ fn a_write_is_answered_while_a_mark_is_made_sure(rt: HostRuntime) -> Result<(), 
     Ok(())
 }
 
-// The super block of one seat's write with FUA, until another's write was answered.
+// The super block of one seat's write with FUA is held until another's write was answered.
 #[test]
 fn a_write_is_answered_while_a_fua_write_is_made_sure(rt: HostRuntime) -> Result<(), Fail> {
     let scene = Scene {
@@ -308,7 +308,7 @@ fn a_write_is_answered_while_a_fua_write_is_made_sure(rt: HostRuntime) -> Result
     Ok(())
 }
 
-// The device's write of one seat, until another's mark was answered.
+// The device's write of one seat is held until another's mark was answered.
 #[test]
 fn a_mark_is_answered_while_the_device_writes(rt: HostRuntime) -> Result<(), Fail> {
     let scene = Scene {
@@ -330,8 +330,8 @@ fn a_mark_is_answered_while_the_device_writes(rt: HostRuntime) -> Result<(), Fai
     Ok(())
 }
 
-// One seat makes one call, over a log of so many sectors.
-// Says whether the answer and the status are these.
+// Makes one call of one seat, over a log of `sectors` sectors. Returns whether the answer and the
+// status are these.
 fn small_log<H: Threads + Wait + Clock + Print + Sync + Send + Copy + Drop>(
     rt: &H,
     alloc: Global,
@@ -390,8 +390,8 @@ fn one_seat_finds_room_for_a_write_alone(rt: HostRuntime) -> Result<(), Fail> {
     Ok(())
 }
 
-// A seat's mark, over a log whose device passes the one write that begins the log, and fails at each
-// later one. By that the log ends, logging stops, and the waiter is let go.
+// A seat's mark, over a log whose device passes the write that creates the log, and fails each
+// later one. The log then ends, logging stops, and the waiting seat is released.
 fn failing_log<H: Threads + Wait + Clock + Print + Sync>(
     rt: &H,
     alloc: Global,

@@ -1,4 +1,4 @@
-//! What one thread does at its seat: a table of calls, and a tally of their answers.
+//! The calls that one thread makes at its seat: a table of calls, and a tally of their answers.
 use crate::gate::Sign;
 use bio::{Bio, Bytes, Ms};
 use blockdev::BlockDev;
@@ -18,13 +18,13 @@ pub enum Call {
     Flush,
     Discard { first: u64 },
     Mark { byte: u8 },
-    /// Asks to close: done, or refused as busy.
+    /// Asks to close. The answer is done, or refused as busy.
     AskClose,
-    /// Ends logging for lack of memory: done.
+    /// Ends logging for lack of memory. The answer is done.
     GiveUp,
 }
 
-/// How many calls had which answer.
+/// The number of calls that had each answer.
 #[derive(Clone, Copy, Debug, PartialEq, Eq)]
 pub struct Tally {
     pub done: u64,
@@ -32,7 +32,7 @@ pub struct Tally {
     pub failed: u64,
     pub not_logged: u64,
     pub refused: u64,
-    /// Reads that found the byte.
+    /// The number of reads that found the byte.
     pub found: u64,
 }
 
@@ -49,12 +49,12 @@ impl Tally {
     }
 }
 
-// One more, up to 2^64 - 1.
+// Adds one, up to 2^64 - 1.
 fn count(number: &mut u64) {
     *number = number.saturating_add(1);
 }
 
-/// A seat, with what its calls came to.
+/// A seat, with the answers of its calls.
 #[derive(Drop)]
 pub struct Player<R: Run + Names> {
     pub seat: Seat<R>,
@@ -68,12 +68,12 @@ pub struct Work<R: Run + Names> {
     pub player: Player<R>,
     /// The calls that are made while recording goes on.
     pub calls: Vec<Call>,
-    /// The calls that are made once it was asked to close.
+    /// The calls that are made after it was asked to close.
     pub late: Vec<Call>,
-    /// The gate that has to hold a call before this seat's
-    /// first, and that is let go after its last.
+    /// The gate that has to hold a call before this seat's first, and that is released after its
+    /// last.
     pub after: Option<Sign>,
-    /// Whether the gate still held its call then.
+    /// Whether the gate then still held its call.
     pub let_go: bool,
 }
 
@@ -121,8 +121,7 @@ impl<R: Run + Names> Player<R> {
         }
     }
 
-    // Makes a call, and counts its answer. Lack of memory
-    // of the test's own counts as a failed call.
+    // Makes a call, and counts its answer. The test's own lack of memory counts as a failed call.
     fn make<D: BlockDev + Drop, L: BlockDev + Drop, H: Wait>(
         &mut self,
         rt: &H,
@@ -155,7 +154,7 @@ impl<R: Run + Names> Player<R> {
         self.count_answer(call, answer);
     }
 
-    // Counts what became of a close that was asked for.
+    // Counts the answer to a request to close.
     fn count_asked(&mut self, asked: Result<(), CloseError>) {
         match asked {
             Ok(()) => count(&mut self.tally.done),
@@ -164,7 +163,7 @@ impl<R: Run + Names> Player<R> {
         }
     }
 
-    // Counts what became of a mark.
+    // Counts the answer to a mark.
     fn count_mark(&mut self, answer: MarkAnswer<Receipt<R>>) {
         match answer {
             MarkAnswer::Logged(receipt) => {
@@ -176,7 +175,7 @@ impl<R: Run + Names> Player<R> {
         }
     }
 
-    // Counts what became of a request.
+    // Counts the answer to a request.
     fn count_answer(&mut self, call: Call, answer: Answer<Receipt<R>>) {
         match answer {
             Answer::Done => count(&mut self.tally.done),
@@ -196,7 +195,7 @@ impl<R: Run + Names> Player<R> {
     }
 }
 
-// Whether these bytes are what the call's sector is to hold.
+// Returns whether these bytes are those that the call's sector must hold.
 fn is_filled(bytes: &[u8], call: Call) -> bool {
     match call {
         Call::Read { byte, .. } => bytes.len() == 512 && bytes.iter().all(|&found| found == byte),
@@ -204,7 +203,7 @@ fn is_filled(bytes: &[u8], call: Call) -> bool {
     }
 }
 
-// The request of a call; a flush for a call that is none.
+// Returns the request of a call; a flush for a call that is none.
 fn bio_of(alloc: Global, call: Call) -> Result<Bio, AllocError> {
     Ok(match call {
         Call::Write { first, byte, fua } => Bio::Write {

@@ -358,7 +358,7 @@ fn push_ending(
 }
 
 // Appends a text, with `\r` for each carriage return. If the text doesn't end with a line feed,
-// appends a word that says so.
+// appends words that mark this.
 fn push_text(shown: &mut String, bytes: &[u8]) -> Result<(), AllocError> {
     let text = str::from_utf8(bytes).unwrap_or("no text\n");
     if text.is_empty() {

@@ -13,7 +13,7 @@ pub record CellState : Type 0 where
   pub landed : List ℕ
   pub settled : List ℕ
 
--- a sector where nothing landed
+-- a sector on which nothing landed
 abbrev pub empty_cell : CellState
 empty_cell = record { landed = []; settled = [] }
 

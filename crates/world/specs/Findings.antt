@@ -8,9 +8,9 @@ use Rattle.world.specs.declared.finding.Finding.{Finding}
 use Rattle.world.specs.declared.finding.Finding.TheVariants.{Run, RuledOut}
 use Rattle.world.specs.Runs.{Leaves}
 
--- what a finding about an image of this many sectors means, after these events: the run is one of
--- the cache machine, fits the events and leaves the image; or there is none, and the verdict is
--- this no
+-- what a finding about an image of this many sectors means, after these events. Either the run is
+-- one of the cache machine, fits the events and leaves the image. Or there is none, and the verdict
+-- is this no.
 abbrev pub IsFinding : ℕ → List CoreEvent → Content → Content → Finding → Type 0
 IsFinding sectors events first now (Run run) = Leaves events first run.items now
 IsFinding sectors events first now (RuledOut sector by) =

@@ -12,9 +12,9 @@ use Rattle.bio.specs.Requests.{first_sector, has_fua, sector_count}
 use Rattle.world.specs.declared.step.Step.{Step}
 use Rattle.world.specs.declared.step.Step.TheVariants.{Submit, Land, Destage, End, Power}
 
--- for each sector the requests that landed there, newest first, and
--- those of them that had landed when it was destaged last; the
--- submissions and ends so far, newest first; and whether power has gone
+-- For each sector, the requests that landed there, newest first, and those of them that had landed
+-- when it was destaged last. Also the submissions and ends so far, newest first, and whether power
+-- has gone.
 pub record Machine : Type 0 where
   pub landed : ℕ → List ℕ
   pub settled : ℕ → List ℕ
@@ -86,9 +86,9 @@ abbrev pub settled_if_ended : List CoreEvent → Machine → Step → Bool
 settled_if_ended events m (End id ok) = not ok || has_settled events m id
 settled_if_ended events m _ = true
 
--- The request may end with success: it has landed on all its sectors; with
--- FUA, each was destaged after that; and if it has a flush, the same holds
--- for each request that ended with success before its submission.
+-- The request may end with success. It has landed on all its sectors. With FUA, each was destaged
+-- after that. If it has a flush, the same holds for each request that ended with success before its
+-- submission.
 abbrev pub may_succeed : List CoreEvent → Machine → ℕ → Bool
 may_succeed events m id =
     has_landed events m id
@@ -96,9 +96,9 @@ may_succeed events m id =
     && (not (is_flush_submit (slice_get events id))
     || list_all (settled_if_ended events m) (before_submit id m.calls))
 
--- the step may be taken while power is there: a request is submitted once; one that is pending
--- lands once on each of its sectors; a sector where some landed is destaged; a request that is
--- pending ends, with success if it may
+-- The step may be taken while power is there. A request is submitted once. A pending request lands
+-- once on each of its sectors. A sector on which some landed is destaged. A pending request ends,
+-- with success if it may.
 abbrev pub may_take : List CoreEvent → Machine → Step → Bool
 may_take events m (Submit id) =
     is_request (slice_get events id) && not (list_any (is_submit id) m.calls)

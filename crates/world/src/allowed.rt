@@ -19,7 +19,7 @@ use crate::cell::Cell;
 use crate::step::Step;
 use bio::{Bio, CoreEvent, Id};
 
-/// Whether the step may be taken while power is there.
+/// Returns whether the step may be taken while power is there.
 pub fn is_allowed(cells: &[Cell], calls: &[Step], events: &[CoreEvent], step: &Step) -> bool
     requires { AllEnd events.now }
     ensures { result ≡ is_allowed events.now cells.now (reverse calls.now) step.now }
@@ -39,7 +39,7 @@ pub fn is_allowed(cells: &[Cell], calls: &[Step], events: &[CoreEvent], step: &S
     }
 }
 
-// Whether the event of this place submits a request that is followed to its end.
+// Returns whether the event of this place submits a request that is followed to its end.
 fn is_request_at(events: &[CoreEvent], id: u64) -> bool
     ensures { result ≡ is_request (slice_get events.now id) }
 {
@@ -49,7 +49,7 @@ fn is_request_at(events: &[CoreEvent], id: u64) -> bool
     }
 }
 
-/// Whether the event submits a request that is followed to its end.
+/// Returns whether the event submits a request that is followed to its end.
 pub fn is_request(event: &CoreEvent) -> bool
     ensures { result ≡ is_request (Some event.now) }
 {
@@ -59,7 +59,7 @@ pub fn is_request(event: &CoreEvent) -> bool
     }
 }
 
-// Whether the call submits the request.
+// Returns whether the call submits the request.
 fn is_submit(call: &Step, id: u64) -> bool
     ensures { result ≡ is_submit id call.now }
 {
@@ -69,7 +69,7 @@ fn is_submit(call: &Step, id: u64) -> bool
     }
 }
 
-// Whether the call ends the request.
+// Returns whether the call ends the request.
 fn is_end(call: &Step, id: u64) -> bool
     ensures { result ≡ is_end id call.now }
 {
@@ -79,42 +79,42 @@ fn is_end(call: &Step, id: u64) -> bool
     }
 }
 
-// Whether some call submits the request.
+// Returns whether some call submits the request.
 fn any_submit(calls: &[Step], id: u64) -> bool
     ensures { result ≡ list_any (is_submit id) calls.now }
 {
     calls.iter().any(|call| is_submit(call, id))
 }
 
-// Whether some call ends the request.
+// Returns whether some call ends the request.
 fn any_end(calls: &[Step], id: u64) -> bool
     ensures { result ≡ list_any (is_end id) calls.now }
 {
     calls.iter().any(|call| is_end(call, id))
 }
 
-// Whether the request was submitted.
+// Returns whether the request was submitted.
 fn was_submitted(calls: &[Step], id: u64) -> bool
     ensures { result ≡ list_any (is_submit id) (reverse calls.now) }
 {
     any_submit(calls, id)
 }
 
-// Whether the request has ended.
+// Returns whether the request has ended.
 fn has_ended(calls: &[Step], id: u64) -> bool
     ensures { result ≡ list_any (is_end id) (reverse calls.now) }
 {
     any_end(calls, id)
 }
 
-// Whether the request was submitted and hasn't ended.
+// Returns whether the request was submitted and hasn't ended.
 fn pends(calls: &[Step], id: u64) -> bool
     ensures { result ≡ pends (reverse calls.now) id }
 {
     was_submitted(calls, id) && !has_ended(calls, id)
 }
 
-// Whether the event of this place submits a request that covers the sector.
+// Returns whether the event of this place submits a request that covers the sector.
 fn covers_at(events: &[CoreEvent], id: u64, sector: u64) -> bool
     ensures { result ≡ covers_at sector (slice_get events.now id) }
 {
@@ -124,7 +124,7 @@ fn covers_at(events: &[CoreEvent], id: u64, sector: u64) -> bool
     }
 }
 
-// Whether the event submits a request that covers the sector.
+// Returns whether the event submits a request that covers the sector.
 fn event_covers(event: &CoreEvent, sector: u64) -> bool
     ensures { result ≡ covers_at sector (Some event.now) }
 {
@@ -134,21 +134,21 @@ fn event_covers(event: &CoreEvent, sector: u64) -> bool
     }
 }
 
-// Whether the request covers the sector.
+// Returns whether the request covers the sector.
 fn covers(bio: &Bio, sector: u64) -> bool
     ensures { result ≡ covers bio.now sector }
 {
     bio.is_tracked() && is_in(bio.first_sector(), bio.sector_count(), sector)
 }
 
-// Whether the sector is one of a range.
+// Returns whether the sector is one of a range.
 fn is_in(first: u64, count: u64, sector: u64) -> bool
     ensures { result ≡ is_in first count sector }
 {
     first <= sector && sector - first < count
 }
 
-// Whether the request has landed on the sector.
+// Returns whether the request has landed on the sector.
 fn has_landed_at(cells: &[Cell], sector: usize, id: u64) -> bool
     ensures { result ≡ is_among (landed_of (slice_get cells.now sector)) id }
 {
@@ -158,7 +158,7 @@ fn has_landed_at(cells: &[Cell], sector: usize, id: u64) -> bool
     }
 }
 
-// Whether the request had landed on the sector when that was destaged last.
+// Returns whether the request had landed on the sector when that was destaged last.
 fn has_settled_at(cells: &[Cell], sector: usize, id: u64) -> bool
     ensures { result ≡ is_among (settled_of (slice_get cells.now sector)) id }
 {
@@ -178,7 +178,7 @@ pub fn newest_at(cells: &[Cell], sector: usize) -> Option<Id>
     }
 }
 
-// Whether the request has landed on each of its sectors.
+// Returns whether the request has landed on each of its sectors.
 fn has_landed(cells: &[Cell], bio: &Bio, id: u64) -> bool
     requires { first_sector bio.now + sector_count bio.now < 2 ^ 64 }
     ensures { result ≡ is_landed cells.now id (Some (core_events.Submit bio.now)) }
@@ -192,7 +192,7 @@ fn has_landed(cells: &[Cell], bio: &Bio, id: u64) -> bool
     true
 }
 
-// Whether each of its sectors was destaged after it had landed there.
+// Returns whether each of its sectors was destaged after it had landed there.
 fn has_settled(cells: &[Cell], bio: &Bio, id: u64) -> bool
     requires { first_sector bio.now + sector_count bio.now < 2 ^ 64 }
     ensures { result ≡ is_settled cells.now id (Some (core_events.Submit bio.now)) }
@@ -206,7 +206,7 @@ fn has_settled(cells: &[Cell], bio: &Bio, id: u64) -> bool
     true
 }
 
-// Whether the request that this event submits has landed on each of its sectors.
+// Returns whether the request that this event submits has landed on each of its sectors.
 fn is_landed(cells: &[Cell], events: &[CoreEvent], event: &CoreEvent, id: u64) -> bool
     requires within { AllEnd events.now }
     requires there { slice_get events.now id ≡ Some event.now }
@@ -219,7 +219,7 @@ fn is_landed(cells: &[Cell], events: &[CoreEvent], event: &CoreEvent, id: u64) -
     }
 }
 
-// Whether each of its sectors was destaged after it had landed there.
+// Returns whether each of its sectors was destaged after it had landed there.
 fn is_settled(cells: &[Cell], events: &[CoreEvent], event: &CoreEvent, id: u64) -> bool
     requires within { AllEnd events.now }
     requires there { slice_get events.now id ≡ Some event.now }
@@ -232,7 +232,7 @@ fn is_settled(cells: &[Cell], events: &[CoreEvent], event: &CoreEvent, id: u64) 
     }
 }
 
-// The same of the request of this place; it is so if there is none.
+// As above, for the request of this place; true if there is none.
 fn is_settled_at(cells: &[Cell], events: &[CoreEvent], id: u64) -> bool
     requires { AllEnd events.now }
     ensures { result ≡ is_settled cells.now id (slice_get events.now id) }
@@ -243,7 +243,7 @@ fn is_settled_at(cells: &[Cell], events: &[CoreEvent], id: u64) -> bool
     }
 }
 
-// Whether the call is no end with success, or its request is settled.
+// Returns whether the call is no end with success, or its request is settled.
 fn end_settled(cells: &[Cell], events: &[CoreEvent], call: &Step) -> bool
     requires { AllEnd events.now }
     ensures { result ≡ end_settled events.now cells.now call.now }
@@ -254,7 +254,7 @@ fn end_settled(cells: &[Cell], events: &[CoreEvent], call: &Step) -> bool
     }
 }
 
-// Whether each of the calls that is an end with success has its request settled.
+// Returns whether each of the calls that is an end with success has its request settled.
 fn ends_settled(cells: &[Cell], events: &[CoreEvent], calls: &[Step]) -> bool
     requires { AllEnd events.now }
     ensures { result ≡ list_all (end_settled events.now cells.now) (reverse calls.now) }
@@ -280,7 +280,7 @@ fn before_submit(calls: &[Step], id: u64) -> &[Step]
     &calls[..end]
 }
 
-// Whether the request that this event submits may end with success.
+// Returns whether the request that this event submits may end with success.
 fn succeeds(
     cells: &[Cell],
     calls: &[Step],
@@ -297,7 +297,7 @@ fn succeeds(
         && (!event.submits_flush() || ends_settled(cells, events, before_submit(calls, id)))
 }
 
-// The same of the request of this place; it may if there is none.
+// As above, for the request of this place; true if there is none.
 fn may_succeed(cells: &[Cell], calls: &[Step], events: &[CoreEvent], id: u64) -> bool
     requires { AllEnd events.now }
     ensures { result ≡ succeeds events.now cells.now (reverse calls.now) id

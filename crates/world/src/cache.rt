@@ -45,7 +45,7 @@ impl Model for World {
     ghost invariant = { λ world. length world.image.items ≡ 512 * length world.cells.items };
 }
 
-// Makes `sectors` sectors where nothing landed.
+// Makes `sectors` sectors on which nothing landed.
 fn empty_cells(alloc: Global, sectors: usize) -> Result<Vec<Cell>, AllocError>
     ensures { IfOk result (λ cells. cells.items ≡ replicate sectors empty_cell) }
 {
@@ -75,7 +75,7 @@ impl World {
     /// Takes a step. `events` is a list that a recorder of the device may have recorded
     /// (`is_lawful`), the same for all steps. `BadStep` comes exactly if the device has no such
     /// step then; after an error nothing has changed. Takes memory of 24 bytes for a submission or
-    /// an end and of 8 for a landing, and time by the calls so far; an end with success takes time
+    /// an end and of 8 for a landing, and time by the calls so far. An end with success takes time
     /// by the sectors of the requests that it asks for, and by what landed there.
     pub fn step(&mut self, events: &[CoreEvent], step: &Step) -> Result<(), StepError>
         requires { is_lawful (length self.old.image / 512) events.now ≡ true }
@@ -93,7 +93,7 @@ impl World {
         Ok(())
     }
 
-    // Whether the device has the step.
+    // Returns whether the device has the step.
     fn has_step(&self, events: &[CoreEvent], step: &Step) -> bool
         requires { is_lawful (length self.now.image / 512) events.now ≡ true }
         ensures has { result ≡ has_step events.now (machine_of self.now) step.now }
@@ -170,7 +170,7 @@ impl World {
         self.off = true;
     }
 
-    /// What is durable: what the device holds once power goes.
+    /// Returns what is durable: what the device holds after power goes.
     pub fn image(&self) -> &[u8]
         ensures { result.now ≡ self.now.image }
     {

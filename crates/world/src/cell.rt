@@ -27,7 +27,7 @@ impl Model for Cell {
 }
 
 impl Cell {
-    /// A sector where nothing landed.
+    /// Returns a sector on which nothing landed.
     pub fn new(alloc: Global) -> Cell
         ensures { result ≡ empty_cell }
     {
@@ -61,14 +61,14 @@ impl Cell {
         newest_of(&self.ids)
     }
 
-    /// Whether the request has landed.
+    /// Returns whether the request has landed.
     pub fn has_landed(&self, id: u64) -> bool
         ensures { result ≡ is_among self.now.landed id }
     {
         is_among(&self.ids, id)
     }
 
-    /// Whether the request had landed when the sector was destaged last.
+    /// Returns whether the request had landed when the sector was destaged last.
     pub fn has_settled(&self, id: u64) -> bool
         ensures { result ≡ is_among self.now.settled id }
     {
@@ -86,7 +86,7 @@ fn newest_of(ids: &[u64]) -> Option<Id>
     }
 }
 
-// Whether the request is one of these, oldest first.
+// Returns whether the request is one of these, oldest first.
 fn is_among(ids: &[u64], id: u64) -> bool
     ensures { result ≡ is_among (reverse ids.now) id }
 {

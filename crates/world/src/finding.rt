@@ -8,7 +8,8 @@ use bio::Id;
 pub enum Finding {
     /// A run of the cache machine that fits the events and leaves the image, in order.
     Run(Vec<Step>),
-    /// There is none: the lowest sector that no run leaves so; and, of the durable requests that
-    /// cover the sector, the one that was submitted last, none if no durable request covers it.
+    /// There is none. This has the lowest sector that no run leaves so. It also has the last
+    /// submitted of the durable requests that cover the sector; none if no durable request covers
+    /// it.
     RuledOut { sector: u64, by: Option<Id> },
 }

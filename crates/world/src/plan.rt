@@ -13,7 +13,7 @@ use bio::{Bio, Id};
 use judge::Account;
 use std::alloc::AllocError;
 
-// Whether the request of this place is the one that is wanted.
+// Returns whether the request of this place is the one that is wanted.
 fn is_wanted(wanted: Option<usize>, id: usize) -> bool
     ensures { result ≡ is_wanted wanted id }
 {
@@ -23,7 +23,7 @@ fn is_wanted(wanted: Option<usize>, id: usize) -> bool
     }
 }
 
-// Whether a place was found, and this one isn't past it.
+// Returns whether a place was found, and this one isn't past it.
 fn is_upto(id: usize, last: Option<usize>) -> bool
     ensures { result ≡ is_upto id last }
 {

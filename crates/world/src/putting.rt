@@ -19,7 +19,7 @@ pub fn put_newest(image: &mut [u8], events: &[CoreEvent], newest: Option<Id>, se
     }
 }
 
-// The same of a place.
+// As above, for the event at a place.
 fn put_id(image: &mut [u8], events: &[CoreEvent], id: u64, sector: usize)
     requires { sector < length image.old / 512 }
     ensures { IsPut (values_at (slice_get events.now id)) sector image.old image.new }

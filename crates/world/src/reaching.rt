@@ -24,14 +24,14 @@ use bio::{CoreEvent, Id};
 use judge::{Account, First, Verdict, beginning};
 use std::alloc::{AllocError, Global};
 
-/// Makes a machine run that fits the first `moment` of the events and leaves the image, if
-/// `first` was on the device before the first event; none if there is no such run. `events` is a
-/// list that a recorder of the device may have recorded (`is_lawful`), a later moment than its last
-/// counts as all of them; the image has the device's length in bytes, whole sectors of 512.
+/// Makes a machine run that fits the first `moment` of the events and leaves the image, if `first`
+/// was on the device before the first event. Returns none if there is no such run. `events` is a
+/// list that a recorder of the device may have recorded (`is_lawful`). A later moment than its last
+/// counts as all of them. The image has the device's length in bytes, whole sectors of 512.
 ///
-/// Takes memory of 32 bytes for each sector, 16 for each event and what
-/// the run's steps take, two for each sector that a request covers at
-/// most; and time by the sum of these. Lack of memory is the only error.
+/// Takes memory of 32 bytes for each sector, 16 for each event and what the run's steps take, two
+/// for each sector that a request covers at most. Takes time by the sum of these. Lack of memory is
+/// the only error.
 pub fn reach(
     alloc: Global,
     events: &[CoreEvent],
@@ -54,8 +54,8 @@ pub fn reach(
     }
 }
 
-/// The same run; or, if there is none, the verdict that
-/// `could_hold` gives, of one account of the image.
+/// Makes the same machine run. If there is none, returns the verdict of `could_hold`, from one
+/// account of the image.
 pub fn find(
     alloc: Global,
     events: &[CoreEvent],
@@ -135,7 +135,7 @@ fn take_event(
     }
 }
 
-// Whether the request of this place ended with success.
+// Returns whether the request of this place ended with success.
 fn ended_ok(events: &[CoreEvent], account: &Account, id: usize) -> bool
     requires { (id : ℕ) → place_at account.now.ends.items id ≡ end_of events.now id }
     ensures { result ≡ ended_ok events.now id }
@@ -146,7 +146,7 @@ fn ended_ok(events: &[CoreEvent], account: &Account, id: usize) -> bool
     }
 }
 
-// Whether an end with success is at this place.
+// Returns whether an end with success is at this place.
 fn is_success_at(events: &[CoreEvent], place: usize) -> bool
     ensures { result ≡ is_success (slice_get events.now place) }
 {
@@ -224,7 +224,7 @@ fn land_left(
     Ok(())
 }
 
-// Whether the request of this place hasn't ended.
+// Returns whether the request of this place hasn't ended.
 fn is_open_at(events: &[CoreEvent], account: &Account, id: usize) -> bool
     requires { (id : ℕ) → place_at account.now.ends.items id ≡ end_of events.now id }
     ensures { result ≡ is_open_at events.now id }

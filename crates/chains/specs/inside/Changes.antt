@@ -8,7 +8,7 @@ abbrev pub IsWithin : List ℕ → List (Option ℕ) → Change → Type 0
 IsWithin next lasts (Last chain row) = (chain < length lasts) × IfSome row (λ r. r < length next)
 IsWithin next lasts (Next row to) = row < length next
 
--- where the links lead then
+-- where the links lead after the change
 abbrev pub next_after : List ℕ → Change → List ℕ
 next_after next (Last chain row) = next
 next_after next (Next row to) = slice_set next row to

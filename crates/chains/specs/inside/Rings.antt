@@ -36,8 +36,8 @@ abbrev pub IsChain : List ℕ → Option ℕ → List ℕ → Type 0
 IsChain next None rows = rows ≡ []
 IsChain next (Some last) rows = IsRing next last rows
 
--- The links hold these chains. Each row is there exactly once,
--- in one of them or in the list of those that are loose.
+-- The links hold these chains. Each row is there exactly once, in one of them or in the list of
+-- loose rows.
 pub record Holds (next : List ℕ) (lasts : List (Option ℕ)) (loose : List ℕ)
     (chains : List (List ℕ)) : Type 0 where
   pub size : length chains ≡ length lasts

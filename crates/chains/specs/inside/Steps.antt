@@ -4,8 +4,8 @@ use Rattle.std.specs.Prelude.{vec_capacity}
 use Rattle.chains.specs.declared.links.Links.{Links}
 use Rattle.chains.specs.inside.Rings.{last_in, Holds, IsRing}
 
--- At most `most` changes more are counted. There is as
--- much room, and there are as many rows and chains.
+-- At most `most` more changes are counted. The room, the number of rows and the number of chains
+-- are the same.
 pub record Changes (old new : Links) (most : ℕ) : Type 0 where
   pub few : new.changed ≤ old.changed + most
   pub rises : old.changed ≤ new.changed

@@ -74,7 +74,7 @@ module _ {T : Type 0} where
     pub full : (row : ℕ) → row < length rows
         → filled (value_at rows row) + times row (chain_in chains 0) ≡ 1
 
-  -- The same while one row is loose, which has no value.
+  -- As above, while one row is loose, which has no value.
   pub record IsOpen (next : List ℕ) (lasts : List (Option ℕ)) (rows : List (Option T)) (row : ℕ)
       (chains : List (List ℕ)) : Type 0 where
     pub holds : Holds next lasts (row ∷ []) chains

@@ -19,7 +19,7 @@ use std::alloc::Global;
 /// The result of a copy.
 #[derive(Debug, Drop)]
 pub(crate) struct Copied {
-    /// How many entries were copied.
+    /// The number of entries that were copied.
     pub(crate) count: u64,
     /// The new log's disk.
     pub(crate) disk: SectorDisk,

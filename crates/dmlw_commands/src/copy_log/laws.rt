@@ -9,8 +9,8 @@ ghost use Rattle.log_reader.specs.declared.fault.LogFault.{LogFault};
 ghost use Rattle.log_reader.specs.ImageLog.{IsReading};
 ghost use Rattle.dmlw_commands.specs.LogCopies.{IsCopied};
 
-/// The image of a copy has as many readable entries as the log, and no fault. On each disk its
-/// first n entries replay to what the log's first n entries replay to.
+/// The image of a copy has the same number of readable entries as the log, and no fault. On each
+/// disk its first n entries replay to the same content as the log's first n entries.
 pub fn copies_replay_alike()
     ensures whole { (log image : List ℕ) (count sectors : ℕ) (new : Super) (copies : List Entry)
         (fault : Option LogFault) →

@@ -33,7 +33,8 @@ fn write_bytes<W: Write>(number: u64, to: &mut W) -> fmt::Result {
     Ok(())
 }
 
-/// What helps if a command is refused so: one sentence, or none if its name says it all.
+/// Returns what helps if a command is refused by this: one sentence, or none if its name says
+/// everything.
 pub(crate) fn advice(refusal: Refusal) -> &'static str {
     match refusal {
         Refusal::Memory | Refusal::EndMemory =>

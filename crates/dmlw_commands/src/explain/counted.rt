@@ -5,7 +5,7 @@ use std::fmt;
 /// A number of things, with the word for one or for more of them: `1 entry`, `3 entries`.
 #[derive(Clone, Copy, Debug)]
 pub struct Counted {
-    /// How many they are.
+    /// Their number.
     pub count: u64,
     /// The word for one.
     pub one: &'static str,

@@ -152,7 +152,7 @@ pub fn explain_replaying<F: Files>(
     }
 }
 
-// Writes what there is to add about a replay that ended so.
+// Writes what there is to add about a replay with this result.
 fn write_replaying<F: Files, W: Write>(
     alloc: Global,
     done: Result<u64, RunError>,
@@ -210,7 +210,7 @@ pub fn explain_copying<F: Files>(
     }
 }
 
-// Writes what there is to add about a copy that ended so.
+// Writes what there is to add about a copy with this result.
 fn write_copying<F: Files, W: Write>(
     alloc: Global,
     done: Result<u64, RunError>,
@@ -291,7 +291,7 @@ fn write_line_of<F: Files, W: Write>(
     write_line(grammar, script, &text, number, refusal, to)
 }
 
-// Writes what there is to add about a command on a log that ended so.
+// Writes what there is to add about a command on a log with this result.
 fn write_reading<F: Files, W: Write>(
     alloc: Global,
     done: Result<(), RunError>,
@@ -311,7 +311,7 @@ fn write_reading<F: Files, W: Write>(
     }
 }
 
-// Writes what there is to add about a judging that ended so.
+// Writes what there is to add about a judging with this result.
 fn write_judging<F: Files, W: Write>(
     alloc: Global,
     done: Result<(), RunError>,

@@ -180,13 +180,14 @@ fn write_length<W: Write>(image: &str, length: u64, to: &mut W) -> Result<bool, 
     Ok(length == 0 || over != 0)
 }
 
-// Whether a read fails for this reason only if the file was read before: a refusal for want of
-// memory is no refusal of a file.
+// Returns whether a read fails for this reason only if the file was read before. A refusal for lack
+// of memory is no refusal of a file.
 fn is_of_rereading(kind: io::ErrorKind) -> bool {
     kind == io::ErrorKind::NotSeekable || kind == io::ErrorKind::OutOfMemory
 }
 
-// Writes why a file that is to be of some kind couldn't be read, if the first read failed for that.
+// Writes why a file that has to be of some kind couldn't be read, if the first read failed for
+// that.
 fn write_unread<F: Files, W: Write>(
     name: &str,
     limit: u64,

@@ -47,7 +47,7 @@ const PICK: &[u8] = b"<pick> ..";
 // The most bytes of a line that are shown.
 const SHOWN_BYTES: usize = 100;
 
-/// Explains a line of a script's text that isn't one of a script's, or isn't in its place: writes
+/// Explains a line of a script's text that isn't one of a script's, or isn't in its place. Writes
 /// the usual cause if there is one, or else the first word that doesn't fit the form of its first
 /// word, or what its place asks for.
 pub(crate) fn explain_line<W: Write>(
@@ -184,7 +184,8 @@ fn form_of(grammar: Grammar, line: &[u8]) -> Option<&'static str> {
     None
 }
 
-// Whether a line begins as a form: with its first word, of a seat's line with its second one too.
+// Returns whether a line begins as a form: with its first word, of a seat's line with its second
+// one too.
 fn begins_as(form: &[u8], line: &[u8]) -> bool {
     let mut words = line.split(is_space);
     let mut wanted = form.split(is_space);
@@ -271,7 +272,7 @@ fn pick_flaw(line: &[u8]) -> Flaw<'_> {
     Flaw::None
 }
 
-// Whether a word is of the kind that a form has in its place.
+// Returns whether a word is of the kind that a form has in its place.
 fn fits(wanted: &[u8], word: &[u8]) -> bool {
     match wanted {
         b"<id>" => is_id(word),
@@ -298,7 +299,7 @@ fn is_id(word: &[u8]) -> bool {
     !word.is_empty() && word.len() <= 16 && word.iter().all(is_letter_of_id)
 }
 
-// Whether a word names a seat, there or not.
+// Returns whether a word names a seat, there or not.
 fn is_seat(word: &[u8]) -> bool {
     match word {
         [b's', number @ ..] => number_of(number).is_some(),

@@ -7,7 +7,7 @@ use refusals::Refusal;
 use std::fmt;
 use std::fmt::Write;
 
-/// Writes why a message is refused so, in a script of this text.
+/// Writes why a message is refused by this, in a script of this text.
 pub(crate) fn write_message<W: Write>(
     text: &[u8],
     line: Numbered,
@@ -70,7 +70,7 @@ fn write_words<W: Write>(layer: &[u8], line: Numbered, to: &mut W) -> fmt::Resul
     )
 }
 
-// How many blocks a dust layer has: the last may be cut short.
+// Returns how many blocks a dust layer has: the last may be cut short.
 fn blocks_of(layer: &[u8]) -> Option<u64> {
     let sectors = number_at(layer, 2)?;
     let bytes = number_at(layer, 6)?;

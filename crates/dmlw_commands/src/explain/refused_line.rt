@@ -14,8 +14,8 @@ use refusals::{Refusal, number_of};
 use std::fmt;
 use std::fmt::Write;
 
-/// Writes the line of this number of a script's text, at which a command was refused so, and what
-/// helps.
+/// Writes the line of this number of a script's text, at which a command was refused by this, and
+/// what helps.
 pub(crate) fn write_line<W: Write>(
     grammar: Grammar,
     script: &str,

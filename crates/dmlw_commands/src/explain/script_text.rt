@@ -2,12 +2,12 @@
 //! line asks of the others.
 use refusals::number_of;
 
-/// Which of the two kinds of scripts a text is to be.
+/// The two kinds of scripts, of which a text has to be one.
 #[derive(Clone, Copy, PartialEq, Eq)]
 pub(crate) enum Grammar {
-    /// Of `record`, `judge` and `path`.
+    /// The scripts of `record`, `judge` and `path`.
     Recorder,
-    /// Of `run`.
+    /// The scripts of `run`.
     Seats,
 }
 
@@ -32,7 +32,7 @@ pub(crate) fn line_at(text: &[u8], number: u64) -> Option<&[u8]> {
         .nth(number.saturating_sub(1) as usize)
 }
 
-/// Whether one of a text's lines is this.
+/// Returns whether one of a text's lines is this.
 pub(crate) fn has_line(text: &[u8], wanted: &[u8]) -> bool {
     for line in text.split(is_line_end) {
         if line == wanted {
@@ -56,7 +56,7 @@ fn is_filled(word: &&[u8]) -> bool {
     !word.is_empty()
 }
 
-/// Whether the first word of a line is this.
+/// Returns whether the first word of a line is this.
 pub(crate) fn begins_with(line: &[u8], word: &[u8]) -> bool {
     word_at(line, 0) == Some(word)
 }
@@ -77,7 +77,7 @@ pub(crate) fn line_of<'a>(text: &'a [u8], before: u64, word: &[u8]) -> Option<Nu
     found
 }
 
-/// How many lines before a number begin with this word.
+/// Returns how many lines before a number begin with this word.
 pub(crate) fn count_of(text: &[u8], before: u64, word: &[u8]) -> u64 {
     let mut count: u64 = 0;
     let mut number: u64 = 0;
@@ -134,7 +134,7 @@ pub(crate) fn first_of_body(text: &[u8], before: u64) -> Option<Numbered<'_>> {
     None
 }
 
-// Whether a line is skipped, or is in a script's head.
+// Returns whether a line is skipped, or is in a script's head.
 fn is_of_head(line: &[u8]) -> bool {
     let first = line.split(is_space).next().unwrap_or_default();
     match first {
@@ -173,8 +173,8 @@ pub(crate) fn end_of<'a>(text: &'a [u8], before: u64, id: &[u8]) -> Option<Numbe
     None
 }
 
-/// How many requests are submitted before a line, and ended nowhere before it, in a script that is
-/// read up to there.
+/// Returns how many requests are submitted before a line, and ended nowhere before it, in a script
+/// that is read up to there.
 pub(crate) fn open_requests(text: &[u8], before: u64) -> u64 {
     let mut open: u64 = 0;
     let mut number: u64 = 0;

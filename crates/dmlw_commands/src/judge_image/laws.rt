@@ -19,10 +19,10 @@ use judge::laws::verdicts_differ;
 use pending::laws::beginnings_are_possible;
 use world::laws::possible_is_exact;
 
-/// What replaying a prefix of a script's log over zeroes leaves is judged possible: each number
-/// of entries that belongs to a moment up to which logging goes on leaves a content on which the
-/// verdict at that moment is yes; and whoever judges an image of that content, by those events and
-/// at that moment, gets yes and never no. The log has sectors of any size that a log may have.
+/// What replaying a prefix of a script's log over zeroes leaves is judged possible. Each number of
+/// entries that belongs to a moment up to which logging goes on leaves a content on which the
+/// verdict at that moment is yes. Whoever judges an image of that content, by those events and at
+/// that moment, gets yes and never no. The log has sectors of any size that a log may have.
 pub fn replayed_beginnings_are_judged_possible()
     ensures content { (size : ℕ) (events : List CoreEvent) (moment count bytes : ℕ)
         → IsTrue (is_sector_size size) →

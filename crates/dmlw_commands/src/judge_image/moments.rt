@@ -30,7 +30,7 @@ pub fn last_moment(events: &[CoreEvent]) -> usize
     events.len()
 }
 
-// How many moments a run has, and why no more.
+// The number of moments of a run, and why there are no more.
 #[derive(Clone, Copy)]
 struct Moments {
     last: u64,

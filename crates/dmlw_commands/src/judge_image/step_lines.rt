@@ -130,17 +130,17 @@ fn event_lines(alloc: Global, text: &[u8]) -> Result<Vec<EventLine<'_>>, AllocEr
     Ok(lines)
 }
 
-// Whether a byte ends a line.
+// Returns whether a byte ends a line.
 fn is_line_feed(byte: &u8) -> bool {
     *byte == b'\n'
 }
 
-// Whether a byte ends a word.
+// Returns whether a byte ends a word.
 fn is_space(byte: &u8) -> bool {
     *byte == b' '
 }
 
-// Whether a line of a script is an event of its run.
+// Returns whether a line of a script is an event of its run.
 fn is_event(line: &[u8]) -> bool {
     let word = line.split(is_space).next().unwrap_or_default();
     word == b"w".as_slice()

@@ -17,7 +17,7 @@ use std::alloc::Global;
 /// The result of a replay.
 #[derive(Debug, Drop)]
 pub(crate) struct Replayed {
-    /// How many entries were replayed.
+    /// The number of entries that were replayed.
     pub(crate) count: u64,
     /// The disk with the resulting image.
     pub(crate) disk: SectorDisk,

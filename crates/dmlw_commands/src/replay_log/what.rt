@@ -1,4 +1,4 @@
-//! The word of `replay` that names where a replay ends.
+//! The word of `replay` that names the end of a replay.
 ghost use Rattle.std.specs.Prelude.{◌≡◌, IfSome, None};
 ghost use Rattle.dmlw_commands.specs.Whats.{IsNoWhat, IsWhat};
 

@@ -17,12 +17,13 @@ use std::process::Abort;
 use std::test::Fail;
 use test_devices::{Failing, rows_are_told};
 
-// Copies, a line each: how many sectors the new log's disk has, how many writes and flushes its
-// device does before it fails, the first of them as the log begins, and the entries of a log with
-// sectors of 512 bytes. `w` writes sectors 8 to 15, `u` does with FUA, `p` writes sectors 4 to 11,
-// `l` sectors 8 to 11, `d` discards sectors 16 to 31, `f` flushes, `m` is a mark. After `=` stand
-// the answer, the new log's status, and the entries that a crash leaves, which keeps only what is
-// settled: place, length, flags and first byte of each.
+// Copies, a line each: two numbers, and the old log's entries. The first number is the sectors of
+// the new log's disk. The second is the number of writes and flushes that its device does before it
+// fails. The first of these creates the log. The old log has sectors of 512 bytes. `w` writes
+// sectors 8 to 15, `u` does with FUA, `p` writes sectors 4 to 11, and `l` sectors 8 to 11. `d`
+// discards sectors 16 to 31, `f` flushes, and `m` is a mark. After `=` are the answer, the new
+// log's status, and the entries that a crash leaves, which keeps only what is settled. Each entry
+// is shown by its place, length, flags and first byte.
 const COPIES: &str = "64 99 =0;0 0;
 64 99 wm=2;2 31;1+1 0 65;0+0 8 100;
 72 99 wudfm=5;5 63;1+1 0 65;1+1 2 65;2+2 4 0;0+0 1 0;0+0 8 100;
@@ -36,14 +37,14 @@ const COPIES: &str = "64 99 =0;0 0;
 64 6 wm=19 Device after 2;2 31 logging_disabled;1+1 0 65;0+0 8 100;
 64 8 wm=2;2 31;1+1 0 65;0+0 8 100;";
 
-// Copies of logs with sectors of 4,096 bytes, and of such as have so many reads of their device
-// before it fails: the super block, and of each entry its own sector and a write's data.
+// Copies of logs with sectors of 4,096 bytes, and of logs whose device fails after a number of
+// reads. The reads are of the super block, and for each entry of its header and of a write's data.
 const READS: &str = "99 wdum=4;4 55;1+1 0 65;2+2 4 0;1+1 2 65;0+0 8 100;
 1 wm=1 Io after 0;0 0;
 2 um=1 Io after 0;0 0;
 3 um=1 Io after 1;1 23;1+1 2 65;";
 
-// The request that a letter stands for; any other one is a flush.
+// Returns the request that a letter names; any other letter is a flush.
 fn request(alloc: Global, kind: u8) -> Result<Bio, AllocError>
     ensures { IfOk result (λ bio. IsTrue (is_tracked bio)) }
 {
@@ -68,7 +69,7 @@ fn request(alloc: Global, kind: u8) -> Result<Bio, AllocError>
     })
 }
 
-// The entry that a letter stands for, in a log with sectors of this size.
+// Returns the entry that a letter names, in a log with sectors of this size.
 fn entry(rt: &impl Abort, alloc: Global, size: SectorSize, kind: u8) -> Result<Entry, Fail>
     ensures { IfOk result (λ entry. IsTrue (is_readable (bytes_of size) entry)) }
 {
@@ -82,7 +83,7 @@ fn entry(rt: &impl Abort, alloc: Global, size: SectorSize, kind: u8) -> Result<E
     Ok(Entry::of_request(alloc, &bio, size.bytes())?)
 }
 
-// A store over a device.
+// Returns a store over a device.
 fn store_over<D: BlockDev + Drop>(rt: &impl Abort, device: D, size: SectorSize) -> LogStore<D> {
     assert!(rt; device.sectors() >= size.sectors());
     LogStore::create_sized(device, size)
@@ -90,7 +91,7 @@ fn store_over<D: BlockDev + Drop>(rt: &impl Abort, device: D, size: SectorSize) 
         .expect(rt, "a first write passes")
 }
 
-// A disk that has the log of these entries.
+// Returns a disk that has the log of these entries.
 fn log_of(
     rt: &impl Abort,
     alloc: Global,
@@ -109,7 +110,7 @@ fn log_of(
     Ok(store.into_device())
 }
 
-// The entries of the log that a crash leaves.
+// Returns the entries of the log that a crash leaves.
 fn left(rt: &impl Abort, alloc: Global, disk: SectorDisk) -> Result<String, Fail> {
     let mut disk = disk;
     disk.crash(&[0; 128]);
@@ -133,7 +134,7 @@ fn left(rt: &impl Abort, alloc: Global, disk: SectorDisk) -> Result<String, Fail
     Ok(list)
 }
 
-// What is told of a copy of a device's log to a new one.
+// Returns what is shown of a copy of a device's log to a new one.
 fn copied<A: BlockDev + Drop>(
     rt: &impl Abort,
     alloc: Global,
@@ -158,8 +159,8 @@ fn number(word: Option<&str>) -> u64 {
     word.unwrap_or_default().parse::<u64>().unwrap_or(0)
 }
 
-// What is told of a copy: how many sectors its disk has,
-// how many calls its device does, and the log's entries.
+// Returns what is shown of a copy: the number of sectors of its disk, the number of calls that its
+// device does, and the log's entries.
 fn copy_told(rt: &impl Abort, alloc: Global, row: &str) -> Result<String, Fail> {
     let mut words = row.split(' ');
     let disk = SectorDisk::new(alloc, number(words.next()).clamp(8, 8192))?;
@@ -180,8 +181,8 @@ fn logs_are_copied(rt: HostRuntime) -> Result<(), Fail> {
     Ok(())
 }
 
-// What is told of a copy of a log whose device fails: how
-// many reads it does, and the log's entries.
+// Returns what is shown of a copy of a log whose device fails: the number of reads that it does,
+// and the log's entries.
 fn reads_told(rt: &impl Abort, alloc: Global, row: &str) -> Result<String, Fail> {
     let (reads, kinds) = row.split_once(' ').unwrap_or_default();
     let log = log_of(rt, alloc, SectorSize::B4096, kinds)?;

@@ -1,4 +1,4 @@
-//! Which calls a replay makes.
+//! The calls that a replay makes.
 use super::{disk_of, image_of, number_of, upto_of};
 use log_reader::LogReader;
 use refusals::Refusal;
@@ -17,8 +17,7 @@ struct Pair {
     target: Watched<Failing<SectorDisk>>,
 }
 
-// The log of an image of so many bytes, and a target of so
-// many sectors of zeroes; each passes so many calls.
+// Returns the log of an image, and a target of zeroes. Each passes a given number of calls.
 fn pair_of(
     rt: &impl Abort,
     alloc: Global,
@@ -38,7 +37,7 @@ fn pair_of(
     })
 }
 
-// What is shown of a replay: its answer, and the calls that its target has seen.
+// Returns what is shown of a replay: its answer, and the calls of its target.
 fn step(alloc: Global, pair: &mut Pair, upto: &Upto) -> Result<String, AllocError> {
     let mut text = match replay(&mut pair.log, &mut pair.target, upto) {
         Ok(count) => format!(in alloc; "{count}:")?,
@@ -71,13 +70,13 @@ const MARKS: &str =
 // A mark with FLUSH, a write with FLUSH, and a flush.
 const FLUSHES: &str = "8 1 3 512 0 512 0 0 9 0 1024 2 1 1 0 2048 0 0 1 0";
 
-// One entry is counted; a write, a flush and a mark stand behind it.
+// One entry is counted; a write, a flush and a mark follow it.
 const STALE: &str = "8 1 1 512 0 512 5 1 0 0 1536 6 1 0 0 2560 0 0 1 0 3072 0 0 8 0";
 
 // The second entry can't be read.
 const DAMAGED: &str = "8 1 2 512 0 512 5 1 0 0 1536 0 9223372036854775808 0 0";
 
-// The image of this name.
+// Returns the image of this name.
 fn image_named(alloc: Global, name: &str) -> Result<Vec<u8>, AllocError> {
     match name {
         "calls" => image_of(alloc, CALLS, 7_680),
@@ -91,8 +90,8 @@ fn image_named(alloc: Global, name: &str) -> Result<Vec<u8>, AllocError> {
     }
 }
 
-// The pair of a row: the name of an image, the calls that its device passes, how many sectors the
-// target has, and the calls that it passes.
+// Returns the pair of a row: the name of an image, the calls that its device passes, the number of
+// sectors of the target, and the calls that it passes.
 fn pair_in(rt: &impl Abort, alloc: Global, row: &str) -> Result<Pair, Fail> {
     let mut words = row.split(' ');
     let image = image_named(alloc, words.next().unwrap_or_default())?;
@@ -124,7 +123,7 @@ fn assert_steps(
     Ok(())
 }
 
-// Makes the replays of each row on its pair. Each call of the log's device is at the moment 0.
+// Makes the replays of each row on its pair. Each call of the log's device is at time 0.
 fn assert_replays(rt: &(impl Abort + Print), alloc: Global, rows: &str) -> Result<(), Fail> {
     for row in rows.lines() {
         let (made, replays) = row.split_once(';').unwrap_or_default();
@@ -136,7 +135,7 @@ fn assert_replays(rt: &(impl Abort + Print), alloc: Global, rows: &str) -> Resul
     Ok(())
 }
 
-// Each entry with sectors is one call, at the moment 0 and without FUA, and the others are none.
+// Each entry with sectors is one call, at time 0 and without FUA, and the others are none.
 #[test]
 fn each_entry_is_one_call(rt: HostRuntime) -> Result<(), Fail> {
     assert_replays(
@@ -153,7 +152,7 @@ wide - 131072 -;1=27 PastTarget after 0:",
     )
 }
 
-// Appends an entry of the log of thousands, and the call that is wanted of it.
+// Appends an entry of the log of thousands, and the call that is expected for it.
 fn push_discard(
     alloc: Global,
     number: u64,
@@ -167,14 +166,14 @@ fn push_discard(
     Ok(())
 }
 
-// What is shown of the replay of a log of this text, up to its first flush.
+// Returns what is shown of the replay of a log of this text, up to its first flush.
 fn long_text(rt: &impl Abort, alloc: Global, text: &str) -> Result<String, Fail> {
     let image = image_of(alloc, text, 15_361_024)?;
     let mut pair = pair_of(rt, alloc, image, u64::MAX, 16, u64::MAX)?;
     Ok(step(alloc, &mut pair, &Upto::Flush)?)
 }
 
-// Each of thousands of discards is one call, in their order; where the time of each grew with its
+// Each of thousands of discards is one call, in their order. If the time of each grew with its
 // place, the test would not end in time.
 #[test]
 fn thousands_of_entries_are_replayed(rt: HostRuntime) -> Result<(), Fail> {
@@ -205,8 +204,8 @@ calls - 16 5;9=9:w5+1 w6+2 w8+1 d9+3 w1+1",
     )
 }
 
-// A log device that fails does so too: in a search nothing is applied, in reading an entry's own
-// sector or its data that one isn't.
+// A log device that fails does so too. If it fails in a search, nothing is applied. If it fails in
+// reading an entry's header or its data, that entry isn't applied.
 #[test]
 fn log_devices_that_fail_end_a_replay(rt: HostRuntime) -> Result<(), Fail> {
     assert_replays(
@@ -227,7 +226,7 @@ calls 1 16 -;0=0:",
     )
 }
 
-// A replay up to the first mark of just these bytes shows so.
+// Checks what a replay up to the first mark of exactly these bytes shows.
 fn check_mark(
     rt: &(impl Abort + Print),
     alloc: Global,
@@ -241,7 +240,8 @@ fn check_mark(
     Ok(())
 }
 
-// The first mark of just the text is taken, whatever its bytes; none that begins with it.
+// The first mark of exactly the text is taken, whatever its bytes, and none that only begins with
+// it.
 #[test]
 fn marks_are_found_by_all_their_bytes(rt: HostRuntime) -> Result<(), Fail> {
     let alloc = rt.alloc();
@@ -258,7 +258,7 @@ marks - 16 -;mb=25 NoSuchMark after 0:",
     check_mark(&rt, alloc, &[0; 479], "25 NoSuchMark after 0:")
 }
 
-// A replay goes on where the one before it ended.
+// A replay goes on from the place at which the one before it ended.
 #[test]
 fn replays_go_on_from_the_place(rt: HostRuntime) -> Result<(), Fail> {
     assert_replays(
@@ -269,7 +269,7 @@ flushes - 16 -;f=2:w2+1;f=1:;f=26 NoFlush after 0:",
     )
 }
 
-// What stands behind the counted entries isn't looked at.
+// The entries after the counted ones aren't read.
 #[test]
 fn stale_entries_are_not_replayed(rt: HostRuntime) -> Result<(), Fail> {
     assert_replays(
@@ -279,8 +279,8 @@ fn stale_entries_are_not_replayed(rt: HostRuntime) -> Result<(), Fail> {
     )
 }
 
-// After a refusal of its own a reader refuses by 22, but for
-// more entries than there are; after another one it goes on.
+// After a refusal of its own a reader refuses each call by 22, except a call for more entries than
+// there are. After any other refusal it goes on.
 #[test]
 fn readers_refuse_after_a_refusal(rt: HostRuntime) -> Result<(), Fail> {
     assert_replays(

@@ -1,4 +1,4 @@
-//! Makes a disk, of zeroes or of an image, and gives its image back.
+//! Makes a disk, of zeroes or of an image, and returns its image.
 ghost use Rattle.std.specs.Prelude.{◌≡◌, ◌*◌, ◌/◌, ◌%◌, ◌≤◌, IfOk, length, replicate};
 ghost use Rattle.sector_disk.specs.DiskView.{shown_of};
 ghost use Rattle.sector_disk.specs.Sizes.{Begins, IsDiskSize, IsImageSize};
@@ -116,8 +116,9 @@ impl SectorDisk {
         Ok(image)
     }
 
-    /// The image of the disk, which goes. A disk that was made of an image gives that one back,
-    /// with what was put since, and takes no memory; else it may be refused as out of memory.
+    /// Returns the image of the disk, which is dropped. A disk that was made of an image returns
+    /// that one, with what was written since, and takes no memory. Otherwise it may be refused as
+    /// out of memory.
     pub fn into_bytes(self) -> Result<Vec<u8>, AllocError>
         ensures content { IfOk result (λ image.
             image.items ≡ gather (shown_of self).content 0 (shown_of self).size) }

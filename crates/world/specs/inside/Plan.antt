@@ -78,9 +78,9 @@ AllEnd events =
     (id : ℕ) (bio : Bio) → slice_get events id ≡ Some (core_events.Submit bio)
     → first_sector bio + sector_count bio < 2 ^ 64
 
--- A choice that a run can follow: in each sector a request whose value isn't replaced, or none if
--- no durable request covers it; and what has to be sure there are the durable requests, and none
--- that is later than all of them.
+-- A choice that a run can follow. In each sector it has a request whose value isn't replaced, or
+-- none if no durable request covers it. What has to be sure there are the durable requests, and
+-- none that is later than all of them.
 pub record IsChoice (events : List CoreEvent) (wanted : ℕ → Option ℕ)
     (sure : ℕ → ℕ → Bool) : Type 0 where
   pub covers : (sector id : ℕ) → wanted sector ≡ Some id

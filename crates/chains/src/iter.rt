@@ -50,7 +50,7 @@ impl<'a, T> Iterator for Iter<'a, T> {
 
 impl<'a, T> FusedIterator for Iter<'a, T> {}
 
-// A row, if it isn't the last one.
+// Returns a row, if it isn't the last one.
 fn unless_last(row: usize, last: usize) -> Option<usize>
     ensures { result ≡ (if row == last then None else Some row) }
 {
@@ -58,7 +58,7 @@ fn unless_last(row: usize, last: usize) -> Option<usize>
 }
 
 impl<T: Drop> Chains<T> {
-    /// The values of a chain, in order. For the chain that is
+    /// Returns the values of a chain, in order. For the chain that is
     /// being walked, from the one that the walk is at on.
     pub fn iter(&self, chain: usize) -> Iter<'_, T>
         requires { 0 < chain × chain < length self.now.chains }

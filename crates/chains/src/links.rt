@@ -47,7 +47,7 @@ impl Link {
         self.to
     }
 
-    // The row from which a link leads to this row, if it was noted right.
+    // Returns the row from which a link leads to this row, if it was noted right.
     fn from(&self) -> usize {
         self.from
     }
@@ -119,7 +119,7 @@ pub struct Links {
 }
 
 impl Links {
-    /// No rows, `chains` chains, and one more: chain 0.
+    /// Returns links of no rows, with `chains` chains and one more: chain 0.
     pub fn new(alloc: Global, chains: usize) -> Result<Links, AllocError>
         ensures next { IfOk result (λ links. links.next.items ≡ []) }
         ensures lasts { IfOk result (λ links. links.lasts.items ≡ replicate (chains + 1) None) }
@@ -134,7 +134,7 @@ impl Links {
         })
     }
 
-    /// The row to which the link of this row leads.
+    /// Returns the row to which the link of this row leads.
     pub fn next(&self, row: usize) -> usize
         requires { row < length self.now.next.items }
         ensures { result ≡ after self.now.next.items row }
@@ -142,7 +142,7 @@ impl Links {
         self.next[row].to()
     }
 
-    /// The row whose link leads to this one. `write` notes it at this row, so
+    /// Returns the row whose link leads to this one. `write` notes it at this row, so
     /// that no search is needed; that the note is right is tried, and not proved.
     pub fn before(&self, row: usize) -> usize
         requires { (some : ℕ) × (some < length self.now.next.items)
@@ -164,7 +164,7 @@ impl Links {
         unreachable!()
     }
 
-    /// The last row of a chain, if it has rows.
+    /// Returns the last row of a chain, if it has rows.
     pub fn last(&self, chain: usize) -> Option<usize>
         requires { chain < length self.now.lasts.items }
         ensures { result ≡ last_in self.now.lasts.items chain }
@@ -196,7 +196,7 @@ impl Links {
         self.changed = self.changed.saturating_add(1);
     }
 
-    // The link of this row leads to that one, which notes it.
+    // Leads the link of this row to that one, and notes it there.
     fn lead(&mut self, row: usize, to: usize)
         requires { row < length self.old.next.items }
         ensures next { self.new.next.items ≡ slice_set self.old.next.items row to }
@@ -242,7 +242,7 @@ impl Links {
         self.next.reserve(more)
     }
 
-    /// One more chain, with no rows.
+    /// Adds a chain, with no rows.
     pub fn begin(&mut self)
         requires { vec_len self.old.lasts < vec_capacity self.old.lasts }
         ensures next { self.new.next ≡ self.old.next }
@@ -253,7 +253,7 @@ impl Links {
         self.lasts.push_reserved(LastRow::new(None));
     }
 
-    /// One more row, in no chain.
+    /// Adds a row, in no chain.
     pub fn add_row(&mut self)
         requires { vec_len self.old.next < vec_capacity self.old.next }
         ensures next { self.new.next.items ≡ self.old.next.items ++ 0 ∷ [] }

@@ -8,9 +8,9 @@ ghost use Rattle.chains.specs.inside.Steps.{Changes, IsKept, IsLast, IsLoose, Is
 
 use crate::links::{Change, Links};
 
-/// Takes the first row out of the chain of which this is the last row, so
-/// that it's loose, and answers which row is the last then, if one is
-/// left. At most 1 change; the last rows of chains stay as they are noted.
+/// Takes the first row out of the chain whose last row is `last`, so that it's loose. Returns the
+/// row that is then the last, if one is left. At most 1 change; the last rows of chains stay as
+/// they are noted.
 pub fn cut(links: &mut Links, last: usize) -> Option<usize>
     requires { IsLast links.old.next.items last }
     ensures holds { (lasts : List (Option ℕ)) (loose : List ℕ) (chains : List (List ℕ))

@@ -70,7 +70,7 @@ pub fn put_value<T>(rows: &mut Vec<Option<T>>, row: usize, value: T) -> Option<T
     mem::replace(&mut rows[row], Some(value))
 }
 
-/// The value in a row that has one, to be changed.
+/// Returns the value in a row that has one, to be changed.
 pub fn value_mut<T>(slot: &mut Option<T>) -> &mut T
     requires { IsSome slot.old }
     ensures* lends { sem 𝓛 (Lends (the_row T.row) T.row slot.entry result Some) }

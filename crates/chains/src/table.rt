@@ -42,7 +42,7 @@ impl<T: Drop> Chains<T> {
     ghost use Rattle.std.specs.Borrow.{sem};
     ghost use Rattle.chains.specs.Lends.{lends_first};
 
-    /// A table of `chains` empty chains, numbered from 1 on.
+    /// Returns a table of `chains` empty chains, numbered from 1 on.
     ///
     /// # Errors
     ///
@@ -245,7 +245,8 @@ impl<T: Drop> Chains<T> {
         self.links.chains()
     }
 
-    /// The first value of a chain. For the chain that is being walked, the one that the walk is at.
+    /// Returns the first value of a chain. For the chain that is being walked, the one that the
+    /// walk is at.
     pub fn first(&self, chain: usize) -> Option<&T>
         requires { 0 < chain × chain < length self.now.chains }
         ensures { option_copied result ≡ slice_get (chain_in self.now.chains chain) 0 }
@@ -276,7 +277,7 @@ impl<T: Drop> Chains<T> {
         put_value(&mut self.rows, row, value)
     }
 
-    /// The first value of a chain that has some, to be changed; no link is changed.
+    /// Returns the first value of a chain that has some, to be changed; no link is changed.
     pub fn first_mut(&mut self, chain: usize) -> &mut T
         requires chain { 0 < chain × chain < length self.old.chains }
         requires some { 0 < length (chain_in self.old.chains chain) }
@@ -287,7 +288,7 @@ impl<T: Drop> Chains<T> {
         value_mut(&mut self.rows[row])
     }
 
-    /// Which chain is being walked, if one is.
+    /// Returns which chain is being walked, if one is.
     pub fn walked(&self) -> Option<usize>
         ensures { result ≡ self.now.walked }
     {

@@ -13,7 +13,7 @@ pub struct Walk {
     pub at: Option<usize>,
 }
 
-/// The row that is seen as a chain's last one, if it has rows.
+/// Returns the row that is seen as a chain's last one, if it has rows.
 pub fn seen_last(links: &Links, walk: Option<Walk>, chain: usize) -> Option<usize>
     requires { chain < length links.now.lasts.items }
     ensures { result ≡ last_in (seen_lasts links.now.lasts.items walk) chain }
@@ -24,7 +24,7 @@ pub fn seen_last(links: &Links, walk: Option<Walk>, chain: usize) -> Option<usiz
     }
 }
 
-/// The first row of a chain that has rows.
+/// Returns the first row of a chain that has rows.
 pub fn first_row(links: &Links, walk: Option<Walk>, chain: usize) -> usize
     requires there { IsKept links.now.next.items (seen_lasts links.now.lasts.items walk) }
     requires chain { chain < length links.now.lasts.items }

@@ -112,8 +112,8 @@ pub record HoldsCopied (log_file : Option (List ℕ)) (sectors : ℕ)
   pub copied : IsCopiedFrom log_file count sectors image
   pub held : MatchesContents written image
 
--- the log in a file was copied, how many entries was printed, and one more write was asked for, of
--- the file of this name with the image that came of it
+-- The log in a file was copied, and the number of entries was printed. One more write was asked
+-- for, of the file of this name with the resulting image.
 pub record PrintsCopy (log_file : Option (List ℕ)) (name : List ℕ) (sectors : ℕ)
     (writes_old writes_new : Option (List Write)) (old new : Option (List ℕ))
     (count : ℕ) : Type 0 where

@@ -92,8 +92,8 @@ pub data FailsOnImages (log first : List ℕ) (upto : Upto) : RunError → Type 
   stopped : (stop : ReplayFault) → StopsReplay log first upto stop
       → FailsOnImages log first upto (replay_stopped stop)
 
--- Why the log in a file isn't replayed: a file can't be used, or there is no memory, which is the
--- only cause if both files are known to hold images; or the replay of the images in the files
+-- Why the log in a file isn't replayed: A file can't be used, or there is no memory; this is the
+-- only cause if both files are known to hold images. Or the replay of the images in the files
 -- fails.
 pub data FailsReplay (log_file first_file : Option (List ℕ)) (upto : Upto) : RunError → Type 0 where
   file : (fault : RunError) → IsFileError fault
@@ -120,8 +120,8 @@ pub record HoldsReplayed (log_file first_file : Option (List ℕ)) (upto : Upto)
   pub replayed : IsReplayedFrom log_file first_file upto count image
   pub held : MatchesContents written image
 
--- the log in a file was replayed, how many entries was printed, and one more write was asked for,
--- of the file of this name with the image that came of it
+-- The log in a file was replayed, and the number of entries was printed. One more write was asked
+-- for, of the file of this name with the resulting image.
 pub record PrintsReplay (log_file first_file : Option (List ℕ)) (name : List ℕ) (upto : Upto)
     (writes_old writes_new : Option (List Write))
     (old new : Option (List ℕ)) (count : ℕ) : Type 0 where

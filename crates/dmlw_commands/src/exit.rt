@@ -21,7 +21,7 @@ pub enum Exit {
 }
 
 impl Exit {
-    /// The exit status, from 0 to 3.
+    /// Returns the exit status, from 0 to 3.
     pub fn status(self) -> u8
         ensures { result ≡ status_of self }
     {

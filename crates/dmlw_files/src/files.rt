@@ -76,8 +76,8 @@ pub trait Files {
     /// Whether there is a reason why the last call failed.
     ghost has_failure: { Self → Bool };
 
-    /// The whole of a file of at most `limit` bytes. A longer file is refused. If a file's bytes
-    /// are known and aren't too many, only lack of memory refuses it.
+    /// Returns the whole of a file of at most `limit` bytes. A longer file is refused. If a file's
+    /// bytes are known and aren't too many, only lack of memory refuses it.
     fn read(&mut self, alloc: Global, name: &str, limit: u64) -> Result<Image, FileError>
         ensures contents { IfOk result
             (λ image. MatchesContents (contents self.old name.now) image) }
@@ -98,7 +98,7 @@ pub trait Files {
         ensures writes { writes self.new ≡ one_more (writes self.old) name.now (image_of disk) }
         ensures cleared { OnOk result (has_failure self.new ≡ false) };
 
-    /// Why the last read or write failed, if it did and that is known.
+    /// Returns why the last read or write failed, if it did and that is known.
     fn failure(&self) -> Option<&FileFailure>
         ensures { is_some result ≡ has_failure self.now };
 

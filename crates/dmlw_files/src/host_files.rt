@@ -55,7 +55,7 @@ struct Spent {
 }
 
 impl Spent {
-    // The bytes of the file, or 0 if they are more than the limit.
+    // Returns the bytes of the file, or 0 if they are more than the limit.
     fn read(&self, alloc: Global, limit: u64) -> io::Result<Result<Image, u64>>
         ensures { IfOk result (λ found. IfOk found (λ image. length image ≤ limit)) }
     {
@@ -78,7 +78,8 @@ impl<'a, R: std::rt::Files> HostFiles<'a, R> {
         }
     }
 
-    // The whole of a file, or how long it is, as the system has it, if it is longer than the limit.
+    // Returns the whole of a file, or how long it is, as the system has it, if it is longer than
+    // the limit.
     fn find(&mut self, alloc: Global, name: &str, limit: u64) -> io::Result<Result<Image, u64>>
         ensures within { IfOk result (λ found. IfOk found (λ image. length image ≤ limit)) }
         ensures failure { self.new.failure ≡ self.old.failure }
@@ -177,7 +178,7 @@ fn reads_again<R: std::rt::Files>(runtime: &R, name: &str) -> bool {
     }
 }
 
-// A copy of these bytes, if they are few enough to be kept and there is memory.
+// Returns a copy of these bytes, if they are few enough to be kept and there is memory.
 fn kept(alloc: Global, image: &Image) -> Option<Vec<u8>> {
     if image.len() as u64 > MAX_SCRIPT_BYTES {
         return None;
@@ -185,7 +186,8 @@ fn kept(alloc: Global, image: &Image) -> Option<Vec<u8>> {
     image.to_vec(alloc).ok()
 }
 
-// The whole of a file, or how long it is, as the system has it, if it is longer than the limit.
+// Returns the whole of a file, or how long it is, as the system has it, if it is longer than the
+// limit.
 fn read_file<R: std::rt::Files>(
     runtime: &R,
     alloc: Global,
@@ -198,7 +200,7 @@ fn read_file<R: std::rt::Files>(
     read_open::<R>(file, alloc, limit)
 }
 
-// The whole of an open file, likewise.
+// Returns the whole of an open file, likewise.
 fn read_open<R: std::rt::Files>(
     file: R::File,
     alloc: Global,
@@ -217,7 +219,8 @@ fn read_open<R: std::rt::Files>(
     Ok(Ok(image))
 }
 
-// What a reader has left, if that is at most `most` bytes. It is read into `room`, piece by piece.
+// Returns what a reader has left, if that is at most `most` bytes. It is read into `room`, piece by
+// piece.
 fn read_rest<R: Read>(
     alloc: Global,
     reader: &mut R,
@@ -381,7 +384,7 @@ fn replace<R: std::rt::Files>(
     done
 }
 
-// A new file in the folder of another one, and its name, which no other file has.
+// Returns a new file in the folder of another one, and its name, which no other file has.
 fn create_beside<R: std::rt::Files>(
     runtime: &R,
     alloc: Global,

@@ -9,7 +9,7 @@ use std::alloc::Global;
 /// The most bytes of a script.
 pub const MAX_SCRIPT_BYTES: u64 = 4_194_304;
 
-/// The text in a script's file: at most 4,194,304 bytes.
+/// Returns the text in a script's file: at most 4,194,304 bytes.
 /// Any other file is refused, as is one that can't be read.
 pub fn read_text<F: Files>(alloc: Global, script: &str, files: &mut F) -> Result<Vec<u8>, FileError>
     ensures contents { IfOk result

@@ -106,7 +106,7 @@ fn read_place(calls: &[Call], place: usize, sector: u64, buffer: &mut [u8])
     }
 }
 
-// The place of a sector: the first call's if there is no table yet.
+// Returns the place of a sector: the first call's if there is no table yet.
 fn place_of(places: &[usize], sector: usize) -> usize
     ensures { result ≡ place_of places.now sector }
 {
@@ -184,8 +184,8 @@ fn put_in(later: &[Call], places: &[usize], sectors: usize, image: &mut Vec<u8>)
     put_later(later, places, sectors, image);
 }
 
-/// The bytes of all sectors, each as the call at its place left it, in the bytes of the first call,
-/// which is a write of all of them. Lack of memory is an error.
+/// Returns the bytes of all sectors, each as the call at its place left it, in the bytes of the
+/// first call, which is a write of all of them. Lack of memory is an error.
 pub fn take_image(
     alloc: Global,
     calls: &mut [Call],
@@ -207,7 +207,7 @@ pub fn take_image(
     Ok(Vec::new(alloc))
 }
 
-/// The places of a range of sectors. Lack of memory is an error.
+/// Returns the places of a range of sectors. Lack of memory is an error.
 pub fn copy_places(
     alloc: Global,
     places: &[usize],
@@ -258,7 +258,7 @@ pub fn is_open(calls: &[Call], synced: usize, place: usize) -> bool
     synced <= place && calls.get(place).is_some_and(|call| !call.fua)
 }
 
-/// The place of the call that put a sector's value before the call at this place did.
+/// Returns the place of the call that put a sector's value before the call at this place did.
 pub fn before(calls: &[Call], place: usize, sector: usize) -> usize
     ensures { result ≡ before_at calls.now place sector }
 {

@@ -34,7 +34,7 @@ fn walk_back(calls: &[Call], sector: usize, newest: usize, steps: usize) -> usiz
     place
 }
 
-// The pick at a place, and 0 if there is none.
+// Returns the pick at a place, and 0 if there is none.
 fn pick_at(picks: &[u64], place: usize) -> u64
     ensures { result ≡ unwrap_or (slice_get picks.now place) 0 }
 {

@@ -26,8 +26,8 @@ impl Model for FilledBytes {
     ghost invariant = { λ b. length b.bytes.items + b.more < 18446744073709551616 };
 }
 
-// The end of the bytes without the groups of N at it in which each byte is this one. Behind `end`
-// each byte is this one already.
+// Returns the end of the bytes without the groups of N at it in which each byte is this one. Behind
+// `end` each byte is this one already.
 fn without_groups<const N: usize>(bytes: &[u8], end: usize, fill: u8) -> usize
     requires some { 0 < N }
     requires within { end ≤ length bytes.now }
@@ -43,7 +43,7 @@ fn without_groups<const N: usize>(bytes: &[u8], end: usize, fill: u8) -> usize
     end
 }
 
-/// The end of the bytes without those at it that are this one.
+/// Returns the end of the bytes without those at it that are this one.
 pub(crate) fn count_before(bytes: &[u8], fill: u8) -> usize
     ensures within { result ≤ length bytes.now }
     ensures filled { drop result bytes.now ≡ replicate (length bytes.now - result) fill }
@@ -70,7 +70,7 @@ fn split_counts(bytes: &[u8], end: usize, fill: u8) -> (usize, u32)
 }
 
 impl FilledBytes {
-    /// No bytes. Takes no memory.
+    /// Returns an empty list of bytes. Takes no memory.
     pub fn empty(alloc: Global) -> FilledBytes
         ensures { length result ≡ 0 }
     {
@@ -81,7 +81,7 @@ impl FilledBytes {
         }
     }
 
-    /// The bytes of a vector, which is kept. Takes no memory.
+    /// Returns the bytes of a vector, which is kept. Takes no memory.
     pub fn from_vec(bytes: Vec<u8>) -> FilledBytes
         ensures { result ≡ bytes.items }
     {
@@ -92,8 +92,8 @@ impl FilledBytes {
         }
     }
 
-    /// The bytes of a slice. Takes memory for those up to the last that differs from the byte at
-    /// the end.
+    /// Returns the bytes of a slice. Takes memory for those up to the last that differs from the
+    /// byte at the end.
     ///
     /// # Errors
     ///
@@ -105,8 +105,8 @@ impl FilledBytes {
         FilledBytes::from_filled(alloc, bytes, count_before(bytes, fill), fill)
     }
 
-    /// The bytes of a slice, of which those from `end` on are all `fill`. Takes memory for the
-    /// others.
+    /// Returns the bytes of a slice, of which those from `end` on are all `fill`. Takes memory for
+    /// the others.
     ///
     /// # Errors
     ///
@@ -161,7 +161,7 @@ impl FilledBytes {
         to.resize(to.len() + self.more as usize, self.fill)
     }
 
-    /// The bytes as a vector. Takes no memory if they were made from one.
+    /// Returns the bytes as a vector. Takes no memory if they were made from one.
     ///
     /// # Errors
     ///

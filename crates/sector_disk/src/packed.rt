@@ -43,7 +43,7 @@ fn count_held(sector: &[u8]) -> usize
     (count_before(sector, last) + 1).min(SECTOR)
 }
 
-// The bytes that are held of a sector.
+// Returns the bytes that are held of a sector.
 fn part_at<'a>(bytes: &'a [u8], bounds: &[u32], sector: usize) -> &'a [u8]
     requires packed { ArePacked bytes.now bounds.now }
     requires within { sector + 1 < length bounds.now }
@@ -89,7 +89,7 @@ pub fn packed_size(bytes: &[u8], most: usize) -> Option<usize>
 }
 
 impl PackedSectors {
-    /// The bytes of a slice, of which `size` are held.
+    /// Returns the bytes of a slice, of which `size` are held.
     ///
     /// # Errors
     ///

@@ -31,7 +31,7 @@ impl Model for Piece {
 }
 
 impl Piece {
-    /// The bytes of a slice.
+    /// Returns the bytes of a slice.
     ///
     /// # Errors
     ///

@@ -45,7 +45,7 @@ impl Model for Image {
 }
 
 impl Image {
-    /// No bytes. Takes no memory.
+    /// Returns an image of no bytes. Takes no memory.
     pub fn empty(alloc: Global) -> Image
         ensures { result ≡ [] }
     {
@@ -55,7 +55,7 @@ impl Image {
         }
     }
 
-    /// The bytes of a slice.
+    /// Returns the bytes of a slice.
     ///
     /// # Errors
     ///
@@ -73,7 +73,7 @@ impl Image {
         Ok(image)
     }
 
-    /// The bytes as a vector.
+    /// Returns the bytes as a vector.
     ///
     /// # Errors
     ///
@@ -88,7 +88,7 @@ impl Image {
         Ok(bytes)
     }
 
-    /// The bytes as a vector. Each piece is let go as it is copied.
+    /// Returns the bytes as a vector. Each piece is dropped when it was copied.
     ///
     /// # Errors
     ///

@@ -38,7 +38,7 @@ impl Model for Runs {
     ghost view = { λ r. held_values r.held };
 }
 
-// The first run of a list.
+// Returns the first run of a list.
 fn first_run(values: &[usize]) -> Run
     ensures within { result.count ≤ length values.now }
     ensures run { values.now ≡ replicate result.count result.value ++ drop result.count values.now }
@@ -52,7 +52,7 @@ fn first_run(values: &[usize]) -> Run
     Run { count, value }
 }
 
-// The value at an index in runs.
+// Returns the value at an index in runs.
 fn value_at(runs: &[Run], index: usize) -> Option<usize>
     ensures { result ≡ slice_get (unrolled runs.now) index }
 {
@@ -68,7 +68,7 @@ fn value_at(runs: &[Run], index: usize) -> Option<usize>
     None
 }
 
-// The runs of a list.
+// Returns the runs of a list.
 fn runs_of(alloc: Global, values: &[usize]) -> Result<Vec<Run>, AllocError>
     ensures { IfOk result (λ runs. unrolled runs.items ≡ values.now) }
 {
@@ -83,14 +83,14 @@ fn runs_of(alloc: Global, values: &[usize]) -> Result<Vec<Run>, AllocError>
 }
 
 impl Runs {
-    /// No numbers. Takes no memory.
+    /// Returns an empty list of numbers. Takes no memory.
     pub fn empty() -> Runs
         ensures { result ≡ [] }
     {
         Runs::repeated(0, 0)
     }
 
-    // One number, which follows on itself `count` times. Takes no memory.
+    // Returns one number, `count` times. Takes no memory.
     fn repeated(count: u32, value: usize) -> Runs
         ensures { result ≡ replicate count value }
     {
@@ -99,7 +99,7 @@ impl Runs {
         }
     }
 
-    /// The numbers of a slice.
+    /// Returns the numbers of a slice.
     ///
     /// # Errors
     ///
@@ -119,7 +119,7 @@ impl Runs {
         })
     }
 
-    /// The number at an index.
+    /// Returns the number at an index.
     pub fn get(&self, index: usize) -> Option<usize>
         ensures { result ≡ slice_get self.now index }
     {

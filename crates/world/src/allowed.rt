@@ -168,7 +168,7 @@ fn has_settled_at(cells: &[Cell], sector: usize, id: u64) -> bool
     }
 }
 
-/// The request that landed last in the sector.
+/// Returns the request that landed last in the sector.
 pub fn newest_at(cells: &[Cell], sector: usize) -> Option<Id>
     ensures { result ≡ newest (landed_of (slice_get cells.now sector)) }
 {
@@ -267,7 +267,7 @@ fn ends_settled(cells: &[Cell], events: &[CoreEvent], calls: &[Step]) -> bool
     true
 }
 
-// The calls before the last submission of the request; none if there is no submission.
+// Returns the calls before the last submission of the request; none if there is no submission.
 fn before_submit(calls: &[Step], id: u64) -> &[Step]
     ensures { reverse result.now ≡ before_submit id (reverse calls.now) }
 {

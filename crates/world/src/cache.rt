@@ -57,8 +57,8 @@ fn empty_cells(alloc: Global, sectors: usize) -> Result<Vec<Cell>, AllocError>
 }
 
 impl World {
-    /// A device before its first step, with these bytes, whole sectors of 512. Takes memory of the
-    /// bytes and of 40 for each sector. Lack of memory is the only error.
+    /// Returns a device before its first step, with these bytes, whole sectors of 512. Takes memory
+    /// of the bytes and of 40 for each sector. Lack of memory is the only error.
     pub fn new(alloc: Global, first: &[u8]) -> Result<World, AllocError>
         requires { length first.now % 512 ≡ 0 }
         ensures { IfOk result (IsFresh first.now) }
@@ -134,7 +134,7 @@ impl World {
         Ok(())
     }
 
-    // A request lands in a sector.
+    // Lands a request in a sector.
     fn land(&mut self, id: u64, sector: usize) -> Result<(), AllocError>
         requires { sector < length self.old.cells }
         ensures landed { OnOk result (self.new ≡ record self.old {
@@ -146,7 +146,7 @@ impl World {
         land_in(&mut self.cells, sector, id)
     }
 
-    // A sector is destaged.
+    // Destages a sector.
     fn destage(&mut self, events: &[CoreEvent], sector: usize)
         requires { sector < length self.old.cells }
         ensures cells { self.new ≡ record self.old {
@@ -163,7 +163,7 @@ impl World {
         settle_in(&mut self.cells, sector);
     }
 
-    // Power goes.
+    // Takes the power away.
     fn power(&mut self)
         ensures { self.new ≡ record self.old { off = true } }
     {

@@ -37,7 +37,7 @@ impl Cell {
         }
     }
 
-    /// A request lands.
+    /// Notes that a request lands.
     pub fn land(&mut self, id: u64) -> Result<(), AllocError>
         ensures landed { OnOk result
             (self.new ≡ record self.old { landed = id ∷ self.old.landed }) }
@@ -47,14 +47,14 @@ impl Cell {
         Ok(())
     }
 
-    /// The sector is destaged.
+    /// Notes that the sector is destaged.
     pub fn settle(&mut self)
         ensures { self.new ≡ record self.old { settled = self.old.landed } }
     {
         self.safe = self.ids.len();
     }
 
-    /// The request that landed last.
+    /// Returns the request that landed last.
     pub fn newest(&self) -> Option<Id>
         ensures { result ≡ newest self.now.landed }
     {
@@ -76,7 +76,7 @@ impl Cell {
     }
 }
 
-// The last of these, oldest first.
+// Returns the last of these, oldest first.
 fn newest_of(ids: &[u64]) -> Option<Id>
     ensures { result ≡ newest (reverse ids.now) }
 {
@@ -93,14 +93,14 @@ fn is_among(ids: &[u64], id: u64) -> bool
     contains(ids, id)
 }
 
-// The same, of a list seen as it is kept.
+// As above, for a list seen as it is kept.
 fn contains(ids: &[u64], id: u64) -> bool
     ensures { result ≡ is_among ids.now id }
 {
     ids.iter().any(|other| *other == id)
 }
 
-/// A request lands in a sector.
+/// Notes that a request lands in a sector.
 pub fn land_in(cells: &mut [Cell], sector: usize, id: u64) -> Result<(), AllocError>
     requires { sector < length cells.old }
     ensures landed { OnOk result
@@ -110,7 +110,7 @@ pub fn land_in(cells: &mut [Cell], sector: usize, id: u64) -> Result<(), AllocEr
     cells[sector].land(id)
 }
 
-/// A sector is destaged.
+/// Notes that a sector is destaged.
 pub fn settle_in(cells: &mut [Cell], sector: usize)
     requires { sector < length cells.old }
     ensures { cells.new ≡ slice_set cells.old sector

@@ -70,7 +70,7 @@ fn lands_early(
     touch(run, lands, settles, id, sector)
 }
 
-// The steps of a request for a sector at its end.
+// Adds the steps of a request for a sector at its end.
 fn lands_late(
     run: &mut Vec<Step>,
     account: &Account,
@@ -106,7 +106,7 @@ pub fn land_early(
     Ok(())
 }
 
-/// The steps of a request for all its sectors at its end.
+/// Adds the steps of a request for all its sectors at its end.
 pub fn land_late(
     run: &mut Vec<Step>,
     account: &Account,

@@ -77,7 +77,7 @@ pub fn find(
     }
 }
 
-// The run that the account says.
+// Returns the run of the account.
 fn run_of(alloc: Global, events: &[CoreEvent], account: &Account) -> Result<Vec<Step>, AllocError>
     requires ends { (id : ℕ) → place_at account.now.ends.items id ≡ end_of events.now id }
     requires within { AllEnd events.now }
@@ -92,7 +92,7 @@ fn run_of(alloc: Global, events: &[CoreEvent], account: &Account) -> Result<Vec<
     Ok(run)
 }
 
-// The steps for all events.
+// Adds the steps for all events.
 fn follow(run: &mut Vec<Step>, events: &[CoreEvent], account: &Account) -> Result<(), AllocError>
     requires ends { (id : ℕ) → place_at account.now.ends.items id ≡ end_of events.now id }
     requires within { AllEnd events.now }
@@ -106,7 +106,7 @@ fn follow(run: &mut Vec<Step>, events: &[CoreEvent], account: &Account) -> Resul
     Ok(())
 }
 
-// The steps for one event.
+// Adds the steps for one event.
 fn take_event(
     run: &mut Vec<Step>,
     events: &[CoreEvent],
@@ -156,7 +156,7 @@ fn is_success_at(events: &[CoreEvent], place: usize) -> bool
     }
 }
 
-// The steps of the request of this place at its end.
+// Adds the steps of the request of this place at its end.
 fn land_at(
     run: &mut Vec<Step>,
     events: &[CoreEvent],
@@ -173,7 +173,7 @@ fn land_at(
     }
 }
 
-// The same, by the event of this place.
+// As above, by the event of this place.
 fn land_event(
     run: &mut Vec<Step>,
     events: &[CoreEvent],
@@ -193,7 +193,7 @@ fn land_event(
     }
 }
 
-// The steps of all requests that haven't ended.
+// Adds the steps of all requests that haven't ended.
 fn finish(run: &mut Vec<Step>, events: &[CoreEvent], account: &Account) -> Result<(), AllocError>
     requires ends { (id : ℕ) → place_at account.now.ends.items id ≡ end_of events.now id }
     requires within { AllEnd events.now }

@@ -88,7 +88,7 @@ fn begin_log(alloc: Global, sectors: u64) -> Result<LogStore<SectorDisk>, RunErr
     }
 }
 
-// A disk of `sectors` sectors of zeroes.
+// Returns a disk of `sectors` sectors of zeroes.
 fn new_disk(alloc: Global, sectors: u64) -> Result<SectorDisk, RunError>
     requires least { 8 ≤ sectors }
     requires most { sectors ≤ 1048576 }

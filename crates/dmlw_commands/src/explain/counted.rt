@@ -23,7 +23,7 @@ impl fmt::Display for Counted {
     }
 }
 
-/// So many sectors.
+/// Returns a count of sectors.
 pub fn counted_sectors(count: u64) -> Counted {
     Counted {
         count,
@@ -32,7 +32,7 @@ pub fn counted_sectors(count: u64) -> Counted {
     }
 }
 
-/// So many entries.
+/// Returns a count of entries.
 pub(crate) fn counted_entries(count: u64) -> Counted {
     Counted {
         count,

@@ -17,8 +17,8 @@ use std::alloc::Global;
 use std::fmt;
 use std::fmt::Write;
 
-/// What `--explain` adds to how a recording ended: lines that each begin with two spaces. Empty if
-/// it isn't asked for, if there is nothing to add, or if there is no memory for it.
+/// Returns what `--explain` adds to how a recording ended: lines that each begin with two spaces.
+/// Empty if it isn't asked for, if there is nothing to add, or if there is no memory for it.
 pub fn explain_recording<F: Files>(
     alloc: Global,
     explains: bool,
@@ -46,7 +46,7 @@ pub fn explain_recording<F: Files>(
     }
 }
 
-/// What `--explain` adds to how a run of seats ended, likewise.
+/// Returns what `--explain` adds to how a run of seats ended, likewise.
 pub fn explain_running<F: Files>(
     alloc: Global,
     explains: bool,
@@ -74,7 +74,7 @@ pub fn explain_running<F: Files>(
     }
 }
 
-/// What `--explain` adds to how a command on a log ended, likewise.
+/// Returns what `--explain` adds to how a command on a log ended, likewise.
 pub fn explain_reading<F: Files>(
     alloc: Global,
     explains: bool,
@@ -96,7 +96,7 @@ pub fn explain_reading<F: Files>(
     }
 }
 
-/// What `--explain` adds to how a judging of an image ended, likewise.
+/// Returns what `--explain` adds to how a judging of an image ended, likewise.
 pub fn explain_judging<F: Files>(
     alloc: Global,
     explains: bool,
@@ -130,7 +130,7 @@ pub struct ReplayNames<'a> {
     pub out: &'a str,
 }
 
-/// What `--explain` adds to how a replay of these files ended, likewise.
+/// Returns what `--explain` adds to how a replay of these files ended, likewise.
 pub fn explain_replaying<F: Files>(
     alloc: Global,
     explains: bool,
@@ -188,7 +188,7 @@ pub struct CopyNames<'a> {
     pub out: &'a str,
 }
 
-/// What `--explain` adds to how a copy of a log ended, likewise.
+/// Returns what `--explain` adds to how a copy of a log ended, likewise.
 pub fn explain_copying<F: Files>(
     alloc: Global,
     explains: bool,
@@ -334,7 +334,7 @@ fn write_judging<F: Files, W: Write>(
     }
 }
 
-// The fault that ended a recording before its time, if one did.
+// Returns the fault that ended a recording before its time, if one did.
 fn fault_of(done: Result<Status, RunError>) -> Option<Fault> {
     match done {
         Ok(status) => {

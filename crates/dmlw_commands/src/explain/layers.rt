@@ -61,7 +61,8 @@ const DELAY: LayerForm = LayerForm {
     numbers: &[1, 2, 5, 6, 8, 9, 11, 12],
 };
 
-// The form of the lines with the target that a script's line names, if there is such a target.
+// Returns the form of the lines with the target that a script's line names, if there is such a
+// target.
 fn form_of(line: &[u8]) -> Option<LayerForm> {
     match word_at(line, 3)? {
         b"linear" => Some(LINEAR),

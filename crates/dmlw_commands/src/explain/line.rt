@@ -99,7 +99,7 @@ fn write_unknown<W: Write>(grammar: Grammar, line: &[u8], to: &mut W) -> fmt::Re
     write_forms(grammar, to)
 }
 
-// The other kind of scripts.
+// Returns the other kind of scripts.
 fn other_of(grammar: Grammar) -> Grammar {
     match grammar {
         Grammar::Recorder => Grammar::Seats,
@@ -137,7 +137,7 @@ impl fmt::Display for Shown<'_> {
     }
 }
 
-// What a line has that no line may have.
+// Returns what a line has that no line may have.
 fn cause_of(line: &[u8]) -> Option<&'static str> {
     if line.starts_with(b"\xef\xbb\xbf".as_slice()) {
         return Some(
@@ -174,7 +174,7 @@ fn has_own_words(line: &[u8]) -> bool {
         || line.starts_with(b"log-layer ".as_slice())
 }
 
-// The form of the lines that begin as this one.
+// Returns the form of the lines that begin as this one.
 fn form_of(grammar: Grammar, line: &[u8]) -> Option<&'static str> {
     for form in forms_of(grammar) {
         if begins_as(form.as_bytes(), line) {
@@ -239,7 +239,7 @@ enum Flaw<'a> {
     TooMany(&'a [u8]),
 }
 
-// The first word of a line that doesn't fit a form.
+// Returns the first word of a line that doesn't fit a form.
 fn flaw_of<'a>(line: &'a [u8], form: &'a [u8]) -> Flaw<'a> {
     if form.ends_with(PICK) {
         return pick_flaw(line);
@@ -262,7 +262,7 @@ fn flaw_of<'a>(line: &'a [u8], form: &'a [u8]) -> Flaw<'a> {
         None => Flaw::None,
     }
 }
-// The first pick of a crash that is no number.
+// Returns the first pick of a crash that is no number.
 fn pick_flaw(line: &[u8]) -> Flaw<'_> {
     for word in line.split(is_space).skip(1) {
         if number_of(word).is_none() {
@@ -285,7 +285,7 @@ fn fits(wanted: &[u8], word: &[u8]) -> bool {
     }
 }
 
-// What a word of a kind is.
+// Returns what a word of a kind means, in words.
 fn meaning_of(wanted: &[u8]) -> &'static str {
     match wanted {
         b"<id>" => "1 to 16 of the characters a to z and 0 to 9",
@@ -307,7 +307,7 @@ fn is_seat(word: &[u8]) -> bool {
     }
 }
 
-// Bytes that a script's line may have.
+// Returns whether a script's line may have these bytes.
 fn is_text(line: &[u8]) -> bool {
     line.is_ascii() && !line.contains(&0)
 }

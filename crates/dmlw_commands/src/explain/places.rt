@@ -33,7 +33,7 @@ pub(crate) fn write_place<W: Write>(
     }
 }
 
-// The lines of a head, in their order.
+// Returns the lines of a head, in their order.
 fn head_of(grammar: Grammar) -> &'static str {
     match grammar {
         Grammar::Recorder => "`data`, and then `log`",
@@ -41,7 +41,7 @@ fn head_of(grammar: Grammar) -> &'static str {
     }
 }
 
-// The first word of the line that a script's head lacks before a line, if it lacks one.
+// Returns the first word of the line that a script's head lacks before a line, if it lacks one.
 fn next_of_head(grammar: Grammar, text: &[u8], before: u64) -> Option<&'static str> {
     if line_of(text, before, b"data").is_none() {
         Some("data")

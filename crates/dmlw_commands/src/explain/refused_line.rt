@@ -48,7 +48,7 @@ pub(crate) fn write_line<W: Write>(
     }
 }
 
-// The lines that a script begins with.
+// Returns the lines that a script begins with.
 fn head_of(grammar: Grammar) -> &'static str {
     match grammar {
         Grammar::Recorder => "`data` and `log`",
@@ -110,7 +110,7 @@ fn write_id<W: Write>(text: &[u8], line: Numbered, to: &mut W) -> fmt::Result {
     }
 }
 
-// The first sector and the number of sectors of a line's request, if the line names them.
+// Returns the first sector and the number of sectors of a line's request, if the line names them.
 fn range_of(grammar: Grammar, line: &[u8]) -> Option<(u64, u64)> {
     // A line `r <first> <count>` has them as words 1 and 2, any other as words 2 and 3.
     let place = match grammar {
@@ -122,8 +122,8 @@ fn range_of(grammar: Grammar, line: &[u8]) -> Option<(u64, u64)> {
     Some((first, count))
 }
 
-// The number of sectors of a disk before a line, as seen from the top of its layers: that of the
-// disk, or of its last layer.
+// Returns the number of sectors of a disk before a line, as seen from the top of its layers: that
+// of the disk, or of its last layer.
 fn sectors_of(text: &[u8], before: u64, disk: &[u8], layer: &[u8]) -> Option<u64> {
     match line_of(text, before, layer) {
         Some(Numbered { text: line, .. }) => number_at(line, 2),

@@ -42,12 +42,12 @@ pub(crate) fn has_line(text: &[u8], wanted: &[u8]) -> bool {
     false
 }
 
-/// The word of a line at this place, counted from 0.
+/// Returns the word of a line at this place, counted from 0.
 pub(crate) fn word_at(line: &[u8], place: usize) -> Option<&[u8]> {
     line.split(is_space).filter(is_filled).nth(place)
 }
 
-/// The number that the word of a line at this place is, if it is one.
+/// Returns the number that the word of a line at this place is, if it is one.
 pub(crate) fn number_at(line: &[u8], place: usize) -> Option<u64> {
     number_of(word_at(line, place)?)
 }
@@ -61,7 +61,7 @@ pub(crate) fn begins_with(line: &[u8], word: &[u8]) -> bool {
     word_at(line, 0) == Some(word)
 }
 
-/// The last line before a number that begins with this word.
+/// Returns the last line before a number that begins with this word.
 pub(crate) fn line_of<'a>(text: &'a [u8], before: u64, word: &[u8]) -> Option<Numbered<'a>> {
     let mut found = None;
     let mut number: u64 = 0;
@@ -93,8 +93,8 @@ pub(crate) fn count_of(text: &[u8], before: u64, word: &[u8]) -> u64 {
     count
 }
 
-/// The line before a number that begins with this word and is the so manieth of these, counted from
-/// 1.
+/// Returns the line before a number that begins with this word, by its number among these, counted
+/// from 1.
 pub(crate) fn nth_of<'a>(
     text: &'a [u8],
     before: u64,
@@ -143,7 +143,7 @@ fn is_of_head(line: &[u8]) -> bool {
     }
 }
 
-/// The line before a number that submits the request of this id.
+/// Returns the line before a number that submits the request of this id.
 pub(crate) fn submission_of<'a>(text: &'a [u8], before: u64, id: &[u8]) -> Option<Numbered<'a>> {
     let mut number: u64 = 0;
     for line in text.split(is_line_end) {
@@ -158,7 +158,7 @@ pub(crate) fn submission_of<'a>(text: &'a [u8], before: u64, id: &[u8]) -> Optio
     None
 }
 
-/// The line before a number that ends the request of this id.
+/// Returns the line before a number that ends the request of this id.
 pub(crate) fn end_of<'a>(text: &'a [u8], before: u64, id: &[u8]) -> Option<Numbered<'a>> {
     let mut number: u64 = 0;
     for line in text.split(is_line_end) {
@@ -192,7 +192,7 @@ pub(crate) fn open_requests(text: &[u8], before: u64) -> u64 {
     open
 }
 
-/// The id of the request that a line submits, if it submits one.
+/// Returns the id of the request that a line submits, if it submits one.
 pub(crate) fn submitted_by(line: &[u8]) -> Option<&[u8]> {
     if begins_with(line, b"w") || begins_with(line, b"f") || begins_with(line, b"d") {
         return word_at(line, 1);

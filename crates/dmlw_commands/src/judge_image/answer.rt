@@ -39,8 +39,8 @@ pub(crate) trait Answer: Drop {
         ensures { OnOk result (Appends (O.contents out.old) (O.contents out.new)
             (meaning.printed self.now)) };
 
-    // What `--explain` adds after the answer, by the script in a file: lines that each begin with
-    // two spaces. Empty if it isn't asked for.
+    // Returns what `--explain` adds after the answer, by the script in a file: lines that each
+    // begin with two spaces. Empty if it isn't asked for.
     fn explain<F: Files>(
         &self,
         alloc: Global,
@@ -52,7 +52,7 @@ pub(crate) trait Answer: Drop {
         ensures kept { KeepsFiles (F.contents files.old) (F.contents files.new) }
         ensures unwritten { F.writes files.new ≡ F.writes files.old };
 
-    // How the answer ends the command.
+    // Returns how the answer ends the command.
     fn exit(&self) -> Exit
         ensures { result ≡ meaning.ends self.now };
 }

@@ -80,7 +80,7 @@ pub(crate) fn ask<A: Answer, F: Files, O: Write, E: Write>(
     )
 }
 
-// What `--explain` adds: lines for the answer, or what
+// Returns what `--explain` adds: lines for the answer, or what
 // helps against the fault.
 fn explain_answered<A: Answer, F: Files>(
     alloc: Global,

@@ -41,8 +41,8 @@ pub fn replayed_beginnings_are_judged_possible()
     beginnings_are_possible();
 }
 
-/// `path` and `judge` agree on an image: after the same events there is a run exactly if the
-/// verdict is yes, and if there is none, the verdict is the no that is printed.
+/// `path` and `judge` agree on an image. After the same events there is a run exactly if the
+/// verdict is yes. If there is none, the verdict is the no that is printed.
 pub fn findings_are_verdicts()
     ensures content { (sectors : ℕ) (events : List CoreEvent) (first now : Content)
         (verdict : Verdict) (finding : Finding) →

@@ -41,8 +41,8 @@ struct Moments {
     has_layers: bool,
 }
 
-/// What `--explain` adds if a moment, or an image's size, isn't one of a script's: lines that each
-/// begin with two spaces. Empty if it isn't asked for, or there is no memory for it.
+/// Returns what `--explain` adds if a moment, or an image's size, isn't one of a script's: lines
+/// that each begin with two spaces. Empty if it isn't asked for, or there is no memory for it.
 pub(crate) fn explain_moment<F: Files>(
     alloc: Global,
     explains: bool,

@@ -31,8 +31,8 @@ struct Told {
     landed: usize,
 }
 
-// The steps of a run, each followed by its line of the script in a file: lines that begin with two
-// spaces. Empty if it isn't asked for, or there is no memory for it.
+// Returns the steps of a run, each followed by its line of the script in a file: lines that begin
+// with two spaces. Empty if it isn't asked for, or there is no memory for it.
 pub(crate) fn explain_run<F: Files>(
     alloc: Global,
     explains: bool,
@@ -54,8 +54,8 @@ pub(crate) fn explain_run<F: Files>(
     }
 }
 
-/// The line of an event of a run, by the script in a file: a line that begins with two spaces.
-/// Empty if it isn't asked for, there is none, or there is no memory for it.
+/// Returns the line of an event of a run, by the script in a file: a line that begins with two
+/// spaces. Empty if it isn't asked for, there is none, or there is no memory for it.
 pub(crate) fn explain_event<F: Files>(
     alloc: Global,
     explains: bool,
@@ -117,7 +117,7 @@ fn write_run<F: Files, W: Write>(
     write_steps(&lines, run, to)
 }
 
-// The lines of a script's text that are events of its run, in order.
+// Returns the lines of a script's text that are events of its run, in order.
 fn event_lines(alloc: Global, text: &[u8]) -> Result<Vec<EventLine<'_>>, AllocError> {
     let mut lines = Vec::new(alloc);
     let mut number: u64 = 0;
@@ -177,8 +177,8 @@ fn write_step<W: Write>(step: Step, line: Option<&EventLine>, to: &mut W) -> fmt
 }
 
 impl Told {
-    // The place of the event that a step belongs to, after the steps before it. None for power that
-    // fails before the first event.
+    // Returns the place of the event that a step belongs to, after the steps before it. None for
+    // power that fails before the first event.
     fn place_of(&mut self, lines: &[EventLine], step: Step) -> Option<usize> {
         match step {
             Step::Submit(id) => Some(self.pass(id.place() as usize)),
@@ -199,7 +199,7 @@ impl Told {
     }
 }
 
-// The place of the first end at or after a place.
+// Returns the place of the first end at or after a place.
 fn end_from(lines: &[EventLine], from: usize) -> usize {
     for place in from..lines.len() {
         if lines[place].text.starts_with(b"c ".as_slice()) {

@@ -46,7 +46,7 @@ pub(crate) fn replay_images(
     }
 }
 
-// Why a log couldn't be reopened, or its replay stopped.
+// Returns why a log couldn't be reopened, or its replay stopped.
 fn stop_of(error: ReopenError) -> RunError
     ensures { result ≡ stop_by error }
 {

@@ -13,7 +13,7 @@ use crate::pieces::Image;
 use crate::runs::Runs;
 use std::alloc::{AllocError, Global};
 
-// A disk that is one change, which covers it from its first sector on.
+// Returns a disk that is one change, which covers it from its first sector on.
 fn make(alloc: Global, change: Change) -> Result<SectorDisk, AllocError>
     requires { IsDiskSize (count_of change) }
     ensures { IfOk result (λ disk.
@@ -73,7 +73,7 @@ fn give_all(
 }
 
 impl SectorDisk {
-    /// A disk of `sectors` sectors of zeroes, 1 to 1,048,576. Lack of memory is an error.
+    /// Returns a disk of `sectors` sectors of zeroes, 1 to 1,048,576. Lack of memory is an error.
     pub fn new(alloc: Global, sectors: u64) -> Result<SectorDisk, AllocError>
         requires { IsDiskSize sectors }
         ensures { IfOk result (λ disk. Begins sectors (λ _. replicate 512 0) (shown_of disk)) }
@@ -81,8 +81,8 @@ impl SectorDisk {
         make(alloc, Change::Discard(sectors))
     }
 
-    /// The disk that an image is: its bytes are whole sectors, 1 to 1,048,576. They are taken as
-    /// they are, with no copy. Lack of memory is an error.
+    /// Returns the disk that an image is: its bytes are whole sectors, 1 to 1,048,576. They are
+    /// taken as they are, with no copy. Lack of memory is an error.
     pub fn from_bytes(alloc: Global, bytes: Vec<u8>) -> Result<SectorDisk, AllocError>
         requires { IsImageSize (length bytes.items) }
         ensures { IfOk result (λ disk.
@@ -91,8 +91,8 @@ impl SectorDisk {
         make(alloc, Change::Write(FilledBytes::from_vec(bytes)))
     }
 
-    /// A disk of the sectors of an image: 1 to 1,048,576 whole sectors. The image isn't copied.
-    /// Want of memory is an error.
+    /// Returns a disk of the sectors of an image: 1 to 1,048,576 whole sectors. The image isn't
+    /// copied. Want of memory is an error.
     pub fn from_image(alloc: Global, image: Image) -> Result<SectorDisk, AllocError>
         requires { IsImageSize (length image) }
         ensures { IfOk result (λ disk.
@@ -101,7 +101,7 @@ impl SectorDisk {
         make(alloc, Change::Image(image))
     }
 
-    /// The image of the disk: the bytes of all its sectors. Lack of memory is an error.
+    /// Returns the image of the disk: the bytes of all its sectors. Lack of memory is an error.
     pub fn bytes(&self) -> Result<Vec<u8>, AllocError>
         ensures content { IfOk result (λ image.
             image.items ≡ gather (shown_of self.now).content 0 (shown_of self.now).size) }

@@ -131,7 +131,7 @@ pub record PrintsReplay (log_file first_file : Option (List ℕ)) (name : List �
   pub asked : writes_new ≡ one_more writes_old name image
 
 -- The result of replaying, into a file of this name that holds this. Either it was done. Or it
--- fails, nothing was printed, and no file was asked to be written. So does a replay that is refused
+-- fails, nothing was printed, and no file was asked to be written. Or the same, refused as a file,
 -- because that file is the log's. Or the log was replayed, the output can't be written, and no file
 -- was asked to be. Or the image can't be written, after the printing.
 abbrev pub Replays : Option (List ℕ) → Option (List ℕ) → Option (List ℕ) → List ℕ → Upto

@@ -198,7 +198,7 @@ impl<N: Names> Board<N> {
 
     /// A status that was posted, and none older than any that this reader has had: the last of what
     /// it has seen by then, which begins with all that it had seen before, and never goes back.
-    /// That none was posted since no clause says.
+    /// No clause says that none was posted since.
     pub fn read(&self, mine: &mut StatusSeat<N>) -> Status
         ensures later { MayFollow (last_of mine.old) result }
         ensures begins { Begins mine.old mine.new }

@@ -4,8 +4,9 @@
   bench/ready.py [--count]
         Says which files `rt fmt` would change (the gate refuses their crate whole), which edits, of must-fail/ and of planted.txt, name a text that isn't once in its
         file, which edits have no entry in their crate's planted.txt, and if docs/lab/PLANTED.md has other counts than there are. --count writes the counts.
-        Says also where docs/HEADLINE.md isn't what bench/headline.py writes, which places the documents cite that aren't there, which files have no head, which cite what
-        another crate has in proofs/ or specs/inside/, and if release/ is there and isn't of the tree at hand (bench/release.py).
+        Says also where docs/HEADLINE.md isn't what bench/headline.py writes, which places the documents cite that aren't there, which definitions docs/ARCHITECTURE.md
+        explains that aren't in the file that it names, which files have no head, which cite what another crate has in proofs/ or specs/inside/, and if release/ is there
+        and isn't of the tree at hand (bench/release.py).
         Warns of house words in the comments and pages that changed since origin/main (else since the last commit), of sentences of over 25 words in the documents,
         and of documents of over 40,000 words. Warnings leave the exit status.
 
@@ -85,6 +86,21 @@ def sources_off():
                     yield f"{os.path.relpath(file, root)}: cites {place} of {name}"
 
 
+def words_off():
+    """Definitions that docs/ARCHITECTURE.md explains, and that aren't in the file that it names."""
+    page = text_of(f"{root}/docs/ARCHITECTURE.md").split("## The words of the contracts")[1].replace("\n  ", " ")
+    crates = []
+    for line in page.split("\n"):
+        if re.fullmatch(r"(`\w+`(, )?)+:", line):
+            crates = re.findall(r"\w+", line)
+        for names, files in re.findall(r"((?:`\w+`(?:, )?)+) \(((?:`\w+`(?:, )?)+)\)", line if line.startswith("- ") else ""):
+            places = [f"{root}/crates/{crate}/specs/{file}.antt" for crate in crates for file in re.findall(r"\w+", files)]
+            text = "".join(text_of(it) for it in places if os.path.exists(it))
+            for name in re.findall(r"\w+", names):
+                if not re.search(rf"^ *(?:\w+ )*pub (?:\w+ )*{name}\b", text, re.M):
+                    yield f"docs/ARCHITECTURE.md: {name} isn't in {files} of {', '.join(crates)}"
+
+
 def pages():
     """The documents: all but the page of planted bugs, which is data."""
     found = [*glob.glob(f"{root}/*.md"), *glob.glob(f"{root}/docs/**/*.md", recursive=True), *glob.glob(f"{root}/crates/*/README.md")]
@@ -151,7 +167,7 @@ def main():
     kept = [(edit.split("/")[-3], os.path.basename(edit)[:-5], text_of(edit).split("\n")) for edit in sorted(glob.glob(f"{root}/crates/*/must-fail/*.edit"))]
     more = [(crate, planted.slug_of(name), edit) for crate in crates for name, _, edit in bugs[crate] if edit]
     page = text_of(f"{root}/docs/lab/PLANTED.md")
-    found = [*not_laid_out(), *edits_off(kept + more), *cited(), *headline_off(), *sources_off(), *release.off()]
+    found = [*not_laid_out(), *edits_off(kept + more), *cited(), *words_off(), *headline_off(), *sources_off(), *release.off()]
     for crate, name, _ in kept:
         if not any(planted.slug_of(bug) == name for bug, _, _ in bugs[crate]):
             found.append(f"crates/{crate}/must-fail/{name}.edit: no entry in planted.txt")

@@ -183,14 +183,14 @@ def explained(room):
         said = ran.stderr.replace(b"/dev/stdin", str(room / "in").encode())
         if name == "a script of more than 4 MiB":
             # The system has no length of a pipe.
-            said, exact = said.replace(b"has more than the 4194304 bytes of a script", b"SIZE"), wanted.stderr.replace(b"has 5000000 bytes, and a script at most 4194304", b"SIZE")
+            said, exact = said.replace(b"has more than 4194304 bytes, the limit for a script", b"SIZE"), wanted.stderr.replace(b"has 5000000 bytes; a script has at most 4194304", b"SIZE")
         else:
             exact = wanted.stderr
         trial(f"in a pipe: {name}", (ran.returncode, ran.stdout, said) == (wanted.returncode, wanted.stdout, exact) and b"\n  " in b"\n" + said, (ran, wanted))
     for name, data, wanted in (
         ("a log that is none, of 8 MiB", bytes(1 << 23), b"dmlw: 13 BadMagic\n  /dev/stdin: it isn't a log\n"),
         ("an odd log of 8 MiB", bytes((1 << 23) + 1), b"dmlw: 32 File\n"),
-        ("a log of 513 MiB", bytes(513 << 20), b"dmlw: 32 File\n  /dev/stdin has more than the 536870912 bytes of a log or an image\n  a log can be cut, and the entries within these bytes are read: head -c 536870912 /dev/stdin >cut.log\n"),
+        ("a log of 513 MiB", bytes(513 << 20), b"dmlw: 32 File\n  /dev/stdin has more than 536870912 bytes, the limit for a log or an image\n  the entries within the first 536870912 bytes of a log can be read: head -c 536870912 /dev/stdin >cut.log\n"),
     ):
         ran = subprocess.run([PROGRAM, "--explain", "list", "/dev/stdin"], input=data, capture_output=True)
         trial(f"in a pipe: {name}", (ran.returncode, ran.stdout, ran.stderr) == (1, b"", wanted), ran)

@@ -12,7 +12,7 @@ function __dmlw_at
 end
 
 complete -c dmlw -f
-complete -c dmlw -l explain -d "Behind a fault's line stands what helps"
+complete -c dmlw -l explain -d "Adds lines that help after a fault's line"
 complete -c dmlw -s h -l help -d 'Print help'
 complete -c dmlw -s V -l version -d 'Print version'
 complete -c dmlw -n 'test (count (__dmlw_words)) -eq 0' -a record -d 'Records the requests of a script in a new log'
@@ -22,7 +22,7 @@ complete -c dmlw -n 'test (count (__dmlw_words)) -eq 0' -a status -d 'Prints how
 complete -c dmlw -n 'test (count (__dmlw_words)) -eq 0' -a replay -d 'Replays a prefix of a log on an image'
 complete -c dmlw -n 'test (count (__dmlw_words)) -eq 0' -a copy -d 'Copies a log to one with sectors of 4096 bytes'
 complete -c dmlw -n 'test (count (__dmlw_words)) -eq 0' -a judge -d 'Judges whether an image could have been on the device'
-complete -c dmlw -n 'test (count (__dmlw_words)) -eq 0' -a path -d 'Tells how an image could have come to the device'
+complete -c dmlw -n 'test (count (__dmlw_words)) -eq 0' -a path -d 'Prints how an image could have come to be on the device'
 complete -c dmlw -n 'test (count (__dmlw_words)) -eq 0' -a help -d 'Prints the commands, or the words of one'
 complete -c dmlw -n '__dmlw_at 1 help' -a 'record run list status replay copy judge path formats'
 complete -c dmlw -n '__dmlw_at 4 replay' -a 'entries: mark: flush'

@@ -23,13 +23,13 @@ Commands:
   replay        Replays a prefix of a log on an image
   copy          Copies a log to one with sectors of 4096 bytes
   judge         Judges whether an image could have been on the device
-  path          Tells how an image could have come to the device
-  help          Prints this page; behind it a command: the words of that command
+  path          Prints how an image could have come to be on the device
+  help          Prints this page, or with a command's name that command's words
   help formats  Prints the grammar of scripts, the faults and the limits
 
 Options:
-      --explain  In any place: after a fault's line comes what helps. DMLW_EXPLAIN=1 adds it
-      --rebuild  Of the launcher ./dmlw, as its only word: proves and builds the program anew
+      --explain  In any place: adds lines that help after a fault's line. DMLW_EXPLAIN=1 does the same
+      --rebuild  The only word, for the launcher ./dmlw: proves and builds the program again
   -h, --help     Print help
   -V, --version  Print version
 
@@ -39,7 +39,7 @@ A status such as 3 4 says: 3 entries, of which the last uses sector 4.";
 // What counts as an event for `judge` and `path`.
 const EVENTS: &str = "\
 An event is a line of the script that submits a request (w, f, d) or ends one (c), a mark, or the
-close; so is the end of logging, where that comes first. Events count from 0. Other lines are none.
+close; so is the end of logging, if that comes first. Events count from 0. Other lines aren't events.
 
   data 16
   log 32
@@ -50,7 +50,7 @@ close; so is the end of logging, where that comes first. Events count from 0. Ot
   close         event 4
 
 M is 0 to 5 here. At 3 the flush hasn't ended: sector 5 may hold zeroes, or the bytes of a. At 4 it
-has, and made a sure: event 0 rules zeroes out. With --explain its line of the script is printed.";
+has, and made a durable: event 0 rules zeroes out. With --explain its line of the script is printed.";
 
 /// Returns the program's command line for `clap`.
 pub fn program_command<'a>(alloc: Global) -> Result<Command<'a>, AllocError>
@@ -166,7 +166,7 @@ fn path_command<'a>(alloc: Global) -> Result<Command<'a>, AllocError>
     ensures { IfOk result (IsCommandOf (command_app names.Path)) }
 {
     Command::new(alloc, "path")
-        .about("Tells how an image could have come to the device")
+        .about("Prints how an image could have come to be on the device")
         .after_help(EVENTS)
         .arg(argument(alloc, "SCRIPT", "The script to read"))?
         .arg(argument(alloc, "M", "The number of events before the power failure"))?

@@ -11,7 +11,7 @@ use std::fmt;
 pub enum Refusal {
     /// A device failed in this call.
     Io,
-    /// Memory lacks.
+    /// Memory ran out.
     Memory,
     /// A request reaches past the device's end.
     PastEnd,
@@ -47,7 +47,7 @@ pub enum Refusal {
     Full,
     /// Logging ended: the log's device failed.
     Device,
-    /// Logging ended: memory lacked.
+    /// Logging ended: memory ran out.
     EndMemory,
     /// A log is shorter than its count of entries needs.
     CutShort,

@@ -235,7 +235,7 @@ What helps: of a log that is too small, and of an entry that isn't aligned.
   $ dmlw --explain copy log out 64
   ! dmlw: 28 Unaligned after 1 entries
   !   the next entry of log, in sectors of 512 bytes: 1 @18 write 24+1
-  !   its place and its length aren't both multiples of 4096 bytes, as each of a log with such sectors is
+  !   its place or its length isn't a multiple of 4096 bytes, which a log with such sectors needs
   [1]
 
 A SECTORS that is none is a usage fault, before any file is read.

@@ -10,7 +10,7 @@ Nothing stands behind a crash.
   $ dmlw --explain record script log
   ! dmlw: line 4: 30 BadLine
   !   line 4 of script: turn
-  !   nothing may stand behind the `crash` of line 3
+  !   no line may follow the `crash` in line 3
   !   the form of the line: turn
   [1]
 A moment that goes back, with the line that set the later one.
@@ -23,7 +23,7 @@ A moment that goes back, with the line that set the later one.
   $ dmlw --explain record script log
   ! dmlw: line 4: 30 BadLine
   !   line 4 of script: at 300
-  !   the moment 300 is before 500, which line 3 sets: moments don't go back
+  !   the time 300 is before 500, which line 3 sets: times don't go back
   !   the form of the line: at <ms>
   [1]
 A size that is out of range, and one of a log with large sectors.
@@ -54,7 +54,7 @@ The log's line before the data disk's, and a request before the log's.
   $ dmlw --explain record script log
   ! dmlw: line 1: 30 BadLine
   !   line 1 of script: log 32
-  !   the line `data` has to stand before this one: a script begins with `data`, and then `log`
+  !   a line `data` must come before this one: a script begins with `data`, and then `log`
   !   the form of the line: log <sectors> [4096]
   [1]
   $ write script
@@ -63,7 +63,7 @@ The log's line before the data disk's, and a request before the log's.
   $ dmlw --explain record script log
   ! dmlw: line 2: 30 BadLine
   !   line 2 of script: w a 1 1 11
-  !   the line `log` has to stand before this one: a script begins with `data`, and then `log`
+  !   a line `log` must come before this one: a script begins with `data`, and then `log`
   !   the form of the line: w <id> <first> <count> <byte> [flush] [fua] [meta]
   [1]
 An id that is submitted twice, with the line that did so, and one that isn't open.
@@ -87,7 +87,7 @@ An id that is submitted twice, with the line that did so, and one that isn't ope
   $ dmlw --explain record script log
   ! dmlw: line 5: 31 BadId
   !   line 5 of script: c a
-  !   `a` isn't open: line 4 has ended it already
+  !   `a` isn't open: line 4 already ended it
   [1]
 A message to a layer that isn't there.
 
@@ -133,7 +133,7 @@ A message to a layer of another target, past the last block, and to layer 0.
   $ dmlw --explain record script log
   ! dmlw: line 4: 6 BadMessage
   !   line 4 of script: message data 1 enable
-  !   layer 1 of the data disk is of the target linear: a dust layer alone takes messages
+  !   layer 1 of the data disk has the target linear: only dust layers take messages
   [1]
   $ write script
   > data 16
@@ -143,7 +143,7 @@ A message to a layer of another target, past the last block, and to layer 0.
   $ dmlw --explain record script log
   ! dmlw: line 4: 6 BadMessage
   !   line 4 of script: message data 1 addbadblock 99
-  !   the layer has no block 99: it has 16, from 0 on
+  !   the layer has no block 99: it has 16, counted from 0
   [1]
   $ write script
   > data 16
@@ -168,7 +168,7 @@ A fifth layer, a layer behind the other disk's, and one behind a request.
   $ dmlw --explain record script log
   ! dmlw: line 7: 30 BadLine
   !   line 7 of script: data-layer 0 16 linear disk 0
-  !   4 layers stand over this disk already, which is the most
+  !   this disk already has 4 layers, which is the maximum
   !   the form of the line: data-layer 0 <length> <target> ..
   [1]
   $ write script
@@ -179,7 +179,7 @@ A fifth layer, a layer behind the other disk's, and one behind a request.
   $ dmlw --explain record script log
   ! dmlw: line 4: 30 BadLine
   !   line 4 of script: data-layer 0 16 linear disk 0
-  !   the layers of the data disk stand before those of the log, and line 3 is a `log-layer`
+  !   the data disk's layers must come before the log's, and line 3 is a `log-layer`
   !   the form of the line: data-layer 0 <length> <target> ..
   [1]
   $ write script
@@ -190,7 +190,7 @@ A fifth layer, a layer behind the other disk's, and one behind a request.
   $ dmlw --explain record script log
   ! dmlw: line 4: 30 BadLine
   !   line 4 of script: data-layer 0 16 linear disk 0
-  !   the layers stand before the requests, and line 3 is no layer
+  !   layers must come before the requests, and line 3 isn't a layer
   !   the form of the line: data-layer 0 <length> <target> ..
   [1]
 A close while a request is open.
@@ -288,7 +288,7 @@ Scripts of seats: a seat that isn't there, too many seats, a request past the en
   $ dmlw --explain run script log
   ! dmlw: line 4: 3 PastEnd
   !   line 4 of script: s0 w 16 1 11
-  !   the request 16+1 reaches past the data disk, which has 16 sectors, from 0 on
+  !   the request 16+1 reaches past the data disk, which has 16 sectors, counted from 0
   [1]
   $ write script
   > data 16
@@ -298,7 +298,7 @@ Scripts of seats: a seat that isn't there, too many seats, a request past the en
   $ dmlw --explain run script log
   ! dmlw: line 4: 30 BadLine
   !   line 4 of script: s0 w 1  1 11
-  !   it has a space too many: one stands between words, none at an end
+  !   it has an extra space: words are separated by one space, and a line has none at its ends
   !   the form of the line: s<k> w <first> <count> <byte> [flush] [fua] [meta]
   [1]
 Numbers of a log and of images.
@@ -327,7 +327,7 @@ Numbers of a log and of images.
   $ dmlw --explain replay log first out entries:1
   ! dmlw: 27 PastTarget after 0 entries
   !   the next entry of log, in sectors of 512 bytes: 0 @1 write 5+1
-  !   it reaches past the end of the image: give it the sectors of the device that was recorded
+  !   it reaches past the end of the image, which must be as large as the recorded device
   !   first has 2 sectors of 512 bytes
   [1]
   $ dmlw --explain replay log first out entries:x
@@ -339,7 +339,7 @@ Numbers of a log and of images.
   $ dmlw --explain copy log out 256
   ! dmlw: 28 Unaligned after 0 entries
   !   the next entry of log, in sectors of 512 bytes: 0 @1 write 5+1
-  !   its place and its length aren't both multiples of 4096 bytes, as each of a log with such sectors is
+  !   its place or its length isn't a multiple of 4096 bytes, which a log with such sectors needs
   [1]
   $ dmlw --explain judge script 99 first
   ! dmlw: 34 BadMoment
@@ -363,16 +363,16 @@ Numbers of a log and of images.
   [1]
   $ dmlw --explain list none
   ! dmlw: 32 File
-  !   none can't be read, or has more than the 536870912 bytes of a log or an image
+  !   none can't be read, or has more than 536870912 bytes, the limit for a log or an image
   [1]
   $ image odd 700
   $ dmlw --explain list odd
   ! dmlw: 32 File
-  !   odd has 700 bytes, which is 188 more than whole sectors of 512
+  !   odd has 700 bytes, 188 more than a multiple of 512
   [1]
   $ dmlw --explain replay log odd out flush
   ! dmlw: 32 File
-  !   odd has 700 bytes, which is 188 more than whole sectors of 512
+  !   odd has 700 bytes, 188 more than a multiple of 512
   [1]
 
 A log that is cut, one that is no log, an image that is longer than the entry's sectors.
@@ -417,19 +417,19 @@ A log that is cut, one that is no log, an image that is longer than the entry's 
   yes
   $ dmlw --explain judge none 2 first
   ! dmlw: 32 File
-  !   none can't be read, or has more than the 4194304 bytes of a script
+  !   none can't be read, or has more than 4194304 bytes, the limit for a script
   [1]
   $ dmlw --explain judge script 2 none
   ! dmlw: 32 File
-  !   none can't be read, or has more than the 536870912 bytes of a log or an image
+  !   none can't be read, or has more than 536870912 bytes, the limit for a log or an image
   [1]
   $ dmlw --explain replay none first out flush
   ! dmlw: 32 File
-  !   none can't be read, or has more than the 536870912 bytes of a log or an image
+  !   none can't be read, or has more than 536870912 bytes, the limit for a log or an image
   [1]
   $ dmlw --explain replay log none out flush
   ! dmlw: 32 File
-  !   none can't be read, or has more than the 536870912 bytes of a log or an image
+  !   none can't be read, or has more than 536870912 bytes, the limit for a log or an image
   [1]
   $ dmlw --explain replay log first log flush
   ! dmlw: 32 File
@@ -441,7 +441,7 @@ A log that is cut, one that is no log, an image that is longer than the entry's 
   [1]
   $ dmlw --explain record none log
   ! dmlw: 32 File
-  !   none can't be read, or has more than the 4194304 bytes of a script
+  !   none can't be read, or has more than 4194304 bytes, the limit for a script
   [1]
 
 A log of entries that a log with large sectors can't have, and one that doesn't fit.
@@ -469,7 +469,7 @@ A log of entries that a log with large sectors can't have, and one that doesn't 
   $ dmlw --explain replay log first out flush
   ! dmlw: 27 PastTarget after 1 entries
   !   the next entry of log, in sectors of 512 bytes: 1 @10 write 16+8
-  !   it reaches past the end of the image: give it the sectors of the device that was recorded
+  !   it reaches past the end of the image, which must be as large as the recorded device
   !   first has 16 sectors of 512 bytes
   [1]
 
@@ -487,7 +487,7 @@ A log that is too small, and a moment past the last event of its run.
   a ok
   b ok
   0 0 logging_disabled
-  !   script: the entries don't fit the log: give it more sectors, in the script's line `log <sectors>`
+  !   script: the entries don't fit in the log: ask for more sectors in the script's line `log <sectors>`
   [3]
   $ dmlw --explain judge script 99 first
   ! dmlw: 34 BadMoment
@@ -504,7 +504,7 @@ A layer that ends past what stands beneath it, and a request past its top.
   $ dmlw --explain record script log
   ! dmlw: line 4: 12 OutOfRange
   !   line 4 of script: data-layer 0 8 linear disk 1
-  !   the layer 1+8 ends past what stands beneath it, which has 8 sectors, from 0 on
+  !   the layer 1+8 ends past the device below it, which has 8 sectors, counted from 0
   [1]
   $ write script
   > data 16
@@ -514,7 +514,7 @@ A layer that ends past what stands beneath it, and a request past its top.
   $ dmlw --explain record script log
   ! dmlw: line 4: 3 PastEnd
   !   line 4 of script: w a 8 1 41
-  !   the request 8+1 reaches past the data disk, which has 8 sectors, from 0 on, seen from the top of its layers
+  !   the request 8+1 reaches past the data disk, which has 8 sectors, counted from 0, seen from the top of its layers
   [1]
   $ write script
   > data 16

@@ -7,7 +7,7 @@ What --explain adds behind a fault.
   $ dmlw --explain record script log
   ! dmlw: line 3: 3 PastEnd
   !   line 3 of script: w a 16 1 41
-  !   the request 16+1 reaches past the data disk, which has 16 sectors, from 0 on
+  !   the request 16+1 reaches past the data disk, which has 16 sectors, counted from 0
   [1]
   $ write script
   > data 16
@@ -36,7 +36,7 @@ What --explain adds behind a fault.
   $ dmlw --explain record script log
   ! dmlw: line 3: 30 BadLine
   !   line 3 of script: w a 5 1 41 7
-  !   the word `7` is one too many, or isn't in its order
+  !   the word `7` is extra, or is out of order
   !   the form of the line: w <id> <first> <count> <byte> [flush] [fua] [meta]
   [1]
   $ write script
@@ -46,7 +46,7 @@ What --explain adds behind a fault.
   $ dmlw --explain record script log
   ! dmlw: line 3: 30 BadLine
   !   line 3 of script: w a 5 1 41 fua flush
-  !   the word `flush` is one too many, or isn't in its order
+  !   the word `flush` is extra, or is out of order
   !   the form of the line: w <id> <first> <count> <byte> [flush] [fua] [meta]
   [1]
   $ write script
@@ -56,7 +56,7 @@ What --explain adds behind a fault.
   $ dmlw --explain record script log
   ! dmlw: line 3: 3 PastEnd
   !   line 3 of script: w a 16 1 41 flush fua meta
-  !   the request 16+1 reaches past the data disk, which has 16 sectors, from 0 on
+  !   the request 16+1 reaches past the data disk, which has 16 sectors, counted from 0
   [1]
   $ write script
   > data 16
@@ -85,7 +85,7 @@ What --explain adds behind a fault.
   $ dmlw --explain record script log
   ! dmlw: line 3: 30 BadLine
   !   line 3 of script: d a 5 1 41
-  !   the word `41` is one too many
+  !   the word `41` is extra
   !   the form of the line: d <id> <first> <count>
   [1]
   $ write script
@@ -222,7 +222,7 @@ What --explain adds behind a fault.
   $ dmlw --explain record script log
   ! dmlw: line 3: 30 BadLine
   !   line 3 of script: w a  5 1 41
-  !   it has a space too many: one stands between words, none at an end
+  !   it has an extra space: words are separated by one space, and a line has none at its ends
   !   the form of the line: w <id> <first> <count> <byte> [flush] [fua] [meta]
   [1]
   $ write script
@@ -232,7 +232,7 @@ What --explain adds behind a fault.
   $ dmlw --explain record script log
   ! dmlw: line 3: 30 BadLine
   !   line 3 of script: data 16
-  !   line 1 is `data` already: it stands once in a script
+  !   line 1 is already a `data` line: a script has only one
   !   the form of the line: data <sectors>
   [1]
   $ write script
@@ -251,7 +251,7 @@ What --explain adds behind a fault.
   $ dmlw --explain record script log
   ! dmlw: line 3: 4 TooLong
   !   line 3 of script: w a 5 3000 41
-  !   the request has 3000 sectors, and one has at most 2048
+  !   the request has 3000 sectors; the maximum is 2048
   [1]
   $ write script
   > data 16
@@ -289,7 +289,7 @@ What --explain adds behind a fault.
   $ dmlw --explain record script log
   ! dmlw: line 3: 9 UnknownTarget
   !   line 3 of script: data-layer 0 16 zero
-  !   the word `zero` is no target: a layer is one of linear, error, flakey, dust, delay and fuse
+  !   the word `zero` isn't a target: the targets are linear, error, flakey, dust, delay and fuse
   [1]
   $ write script
   > data 16
@@ -298,7 +298,7 @@ What --explain adds behind a fault.
   $ dmlw --explain record script log
   ! dmlw: line 3: 10 WrongCount
   !   line 3 of script: log-layer 0 16
-  !   the layer's line has 2 words behind its first, and it is to have at least 3: 0 <length> <target> ..
+  !   the layer's line has 2 words after its first, but needs at least 3: 0 <length> <target> ..
   [1]
   $ write script
   > data 16
@@ -316,7 +316,7 @@ What --explain adds behind a fault.
   $ dmlw --explain record script log
   ! dmlw: line 3: 12 OutOfRange
   !   line 3 of script: log-layer 0 32 linear disk 1
-  !   the layer 1+32 ends past what stands beneath it, which has 32 sectors, from 0 on
+  !   the layer 1+32 ends past the device below it, which has 32 sectors, counted from 0
   [1]
   $ write script
   > data 16
@@ -344,7 +344,7 @@ What --explain adds behind a fault.
   $ dmlw --explain record script log
   ! dmlw: line 3: 10 WrongCount
   !   line 3 of script: log-layer 0 32 linear disk
-  !   the layer's line has 4 words behind its first, and a line of this target has 5 words: 0 <length> linear <dev> <offset>
+  !   the layer's line has 4 words after its first, but this target takes 5 words: 0 <length> linear <dev> <offset>
   [1]
   $ write script
   > data 16
@@ -353,7 +353,7 @@ What --explain adds behind a fault.
   $ dmlw --explain record script log
   ! dmlw: line 3: 10 WrongCount
   !   line 3 of script: log-layer 0 32 fuse disk 0 1 1
-  !   the layer's line has 7 words behind its first, and a line of this target has 6 words: 0 <length> fuse <dev> <offset> <calls>
+  !   the layer's line has 7 words after its first, but this target takes 6 words: 0 <length> fuse <dev> <offset> <calls>
   [1]
   $ write script
   > data 16
@@ -371,7 +371,7 @@ What --explain adds behind a fault.
   $ dmlw --explain record script log
   ! dmlw: line 3: 12 OutOfRange
   !   line 3 of script: log-layer 1 32 linear disk 0
-  !   the start 1 isn't 0, and a layer's is
+  !   the start is 1, but must be 0
   [1]
   $ write script
   > data 16
@@ -407,7 +407,7 @@ What --explain adds behind a fault.
   $ dmlw --explain record script log
   ! dmlw: line 3: 12 OutOfRange
   !   line 3 of script: log-layer 0 32 delay disk 0 1 disk 1 1
-  !   a delay is at most 4294967295 milliseconds, and each names the same device and offset
+  !   a delay is at most 4294967295 milliseconds, and all delays of a layer name the same device and offset
   [1]
   $ write script
   > data 16
@@ -417,7 +417,7 @@ What --explain adds behind a fault.
   $ dmlw --explain record script log
   ! dmlw: line 3: 30 BadLine
   !   line 3 of script: seats 1
-  !   such a line is one of a script of `dmlw run`, and `dmlw record` has no such line
+  !   this line belongs to a script of `dmlw run`, not of `dmlw record`
   !   no line begins with the word `seats`; the lines are:
   !     data <sectors>
   !     log <sectors> [4096]
@@ -443,8 +443,8 @@ What --explain adds behind a fault.
   $ dmlw --explain run script log
   ! dmlw: line 4: 30 BadLine
   !   line 4 of script: w a 5 1 41
-  !   such a line is one of a script of `dmlw record`, and `dmlw run` has no such line
-  !   no line begins so; a script of seats has these lines, and its first seat is s0:
+  !   this line belongs to a script of `dmlw record`, not of `dmlw run`
+  !   no line begins like this; a script of seats has these lines, and its first seat is s0:
   !     data <sectors>
   !     log <sectors> [4096]
   !     seats <n>
@@ -464,7 +464,7 @@ What --explain adds behind a fault.
   $ image image 4096 0:=7268737766736a00 8:1,1,8192,0
   $ dmlw --explain status image
   ! dmlw: 15 BadSectorSize
-  !   image: the log's sectors are of 8192 bytes, and not of 512, 1024, 2048 or 4096: its first sector is damaged
+  !   image: the log's sector size is 8192 bytes, not 512, 1024, 2048 or 4096: its first sector is damaged
   [1]
   $ remove image
   $ image image 4096 0:=7268737766736a01 8:1,1,512,0
@@ -477,27 +477,27 @@ What --explain adds behind a fault.
   $ image image 4096 0:=7268737766736a00 8:1,2,512,0 512:0,0,1,0 1024:0,0,8,481
   $ dmlw --explain status image
   ! dmlw: 16 BadMark
-  !   image: a mark has sectors, or a text that its sector has no room for: the entry is damaged
+  !   image: a mark has sectors, or its text doesn't fit in its log sector: the entry is damaged
   !   image: the first entry that can't be read is entry 1, counted from 0, at log sector 2, of 512 bytes; `entries:1` replays all before it
   [1]
   $ remove image
   $ image image 4096 0:=7268737766736a00 8:1,1,512,0 512:0,9223372036854775808,0,0
   $ dmlw --explain status image
   ! dmlw: 17 TooLarge
-  !   image: an entry reaches past what a device can have: the entry is damaged
+  !   image: an entry reaches past the end of the largest device: the entry is damaged
   !   image: the first entry that can't be read is entry 0, counted from 0, at log sector 1, of 512 bytes; `entries:0` replays all before it
   [1]
   $ remove image
   $ image image 4096 0:=7268737766736a00 8:1,2,512,0 512:3,1,0,0 1536:0,7,0,0
   $ dmlw --explain status image
   ! dmlw: 21 CutShort
-  !   image: it counts 2 entries: the log is shorter than it says: it was cut, or wasn't written to its end; what stands before the fault is whole
+  !   image: it counts 2 entries: the log is shorter than its super block says: it was cut, or wasn't written to its end; the entries before the fault are whole
   !   image: the first entry that can't be read is entry 1, counted from 0, at log sector 3, of 512 bytes; `entries:1` replays all before it
   [1]
   $ remove image
   $ image image 4096 0:=7268737766736a00 8:1,99,512,0
   $ dmlw --explain status image
   ! dmlw: 21 CutShort
-  !   image: it counts 99 entries, which is more than its 4096 bytes have room for: it was cut, or its first sector is damaged
+  !   image: it counts 99 entries, more than fit in its 4096 bytes: it was cut, or its first sector is damaged
   [1]
   $ remove image

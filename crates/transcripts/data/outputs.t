@@ -290,13 +290,13 @@ Texts that are shown are flushed too, and so are faults.
     replay        Replays a prefix of a log on an image
     copy          Copies a log to one with sectors of 4096 bytes
     judge         Judges whether an image could have been on the device
-    path          Tells how an image could have come to the device
-    help          Prints this page; behind it a command: the words of that command
+    path          Prints how an image could have come to be on the device
+    help          Prints this page, or with a command's name that command's words
     help formats  Prints the grammar of scripts, the faults and the limits
   
   Options:
-        --explain  In any place: after a fault's line comes what helps. DMLW_EXPLAIN=1 adds it
-        --rebuild  Of the launcher ./dmlw, as its only word: proves and builds the program anew
+        --explain  In any place: adds lines that help after a fault's line. DMLW_EXPLAIN=1 does the same
+        --rebuild  The only word, for the launcher ./dmlw: proves and builds the program again
     -h, --help     Print help
     -V, --version  Print version
   

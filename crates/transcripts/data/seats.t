@@ -282,7 +282,7 @@ What `--explain` says of such a script.
   $ dmlw --explain run script log
   ! dmlw: line 4: 3 PastEnd
   !   line 4 of script: s0 w 15 2 11
-  !   the request 15+2 reaches past the data disk, which has 16 sectors, from 0 on
+  !   the request 15+2 reaches past the data disk, which has 16 sectors, counted from 0
   [1]
   $ write script
   > data 16

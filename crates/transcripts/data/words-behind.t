@@ -93,13 +93,13 @@ Command lines with `--explain`, behind two hyphens, and of words that are none.
   !   replay        Replays a prefix of a log on an image
   !   copy          Copies a log to one with sectors of 4096 bytes
   !   judge         Judges whether an image could have been on the device
-  !   path          Tells how an image could have come to the device
-  !   help          Prints this page; behind it a command: the words of that command
+  !   path          Prints how an image could have come to be on the device
+  !   help          Prints this page, or with a command's name that command's words
   !   help formats  Prints the grammar of scripts, the faults and the limits
   ! 
   ! Options:
-  !       --explain  In any place: after a fault's line comes what helps. DMLW_EXPLAIN=1 adds it
-  !       --rebuild  Of the launcher ./dmlw, as its only word: proves and builds the program anew
+  !       --explain  In any place: adds lines that help after a fault's line. DMLW_EXPLAIN=1 does the same
+  !       --rebuild  The only word, for the launcher ./dmlw: proves and builds the program again
   !   -h, --help     Print help
   !   -V, --version  Print version
   ! 
@@ -113,11 +113,11 @@ What says why a command is refused stands behind its line.
   $ quiet dmlw record script log
   $ dmlw --explain replay absent zeroes other flush
   ! dmlw: 32 File
-  !   absent can't be read, or has more than the 536870912 bytes of a log or an image
+  !   absent can't be read, or has more than 536870912 bytes, the limit for a log or an image
   [1]
   $ dmlw replay absent zeroes other flush --explain
   ! dmlw: 32 File
-  !   absent can't be read, or has more than the 536870912 bytes of a log or an image
+  !   absent can't be read, or has more than 536870912 bytes, the limit for a log or an image
   [1]
   $ dmlw judge script 9 zeroes --explain
   ! dmlw: 34 BadMoment
@@ -125,7 +125,7 @@ What says why a command is refused stands behind its line.
   [1]
   $ dmlw judge script --explain 0 absent
   ! dmlw: 32 File
-  !   absent can't be read, or has more than the 536870912 bytes of a log or an image
+  !   absent can't be read, or has more than 536870912 bytes, the limit for a log or an image
   [1]
   $ dmlw judge --explain script 0 zeroes
   yes
@@ -136,7 +136,7 @@ What says why a command is refused stands behind its line.
   [1]
   $ dmlw list absent --explain
   ! dmlw: 32 File
-  !   absent can't be read, or has more than the 536870912 bytes of a log or an image
+  !   absent can't be read, or has more than 536870912 bytes, the limit for a log or an image
   [1]
   $ dmlw status --explain zeroes
   ! dmlw: 13 BadMagic
@@ -145,7 +145,7 @@ What says why a command is refused stands behind its line.
   [1]
   $ dmlw status absent --explain
   ! dmlw: 32 File
-  !   absent can't be read, or has more than the 536870912 bytes of a log or an image
+  !   absent can't be read, or has more than 536870912 bytes, the limit for a log or an image
   [1]
   $ image first 8192
   $ dmlw --explain replay log first out flush
@@ -169,11 +169,11 @@ What says why a command is refused stands behind its line.
   $ image first 8192
   $ dmlw --explain replay none first out flush
   ! dmlw: 32 File
-  !   none can't be read, or has more than the 536870912 bytes of a log or an image
+  !   none can't be read, or has more than 536870912 bytes, the limit for a log or an image
   [1]
   $ dmlw --explain replay log absent out flush
   ! dmlw: 32 File
-  !   absent can't be read, or has more than the 536870912 bytes of a log or an image
+  !   absent can't be read, or has more than 536870912 bytes, the limit for a log or an image
   [1]
 
 Words are judged before any file is read.
@@ -206,7 +206,7 @@ What editors do to a script.
   $ dmlw --explain record script log
   ! dmlw: line 1: 30 BadLine
   !   line 1 of script: data 16\r
-  !   it ends with a carriage return: lines end with a line feed alone
+  !   it ends with a carriage return: lines must end with only a line feed
   !   the form of the line: data <sectors>
   [1]
   $ escaped script
@@ -215,7 +215,7 @@ What editors do to a script.
   $ dmlw --explain record script log
   ! dmlw: line 1: 30 BadLine
   !   line 1 of script: data\t16
-  !   it has a tab: one space stands between words
+  !   it has a tab: words are separated by one space
   [1]
   $ write script
   > data 16
@@ -257,7 +257,7 @@ A script without a close leaves an empty log, and that is no fault. Where all is
   $ dmlw --explain record script log
   a ok
   0 0
-  !   script has no line `close`: what waits isn't written to the log
+  !   script has no line `close`: requests and marks that still wait aren't written to the log
   $ write script
   > data 16
   > log 32
@@ -276,7 +276,7 @@ A script without a close leaves an empty log, and that is no fault. Where all is
   > close
   $ dmlw --explain record script log
   0 0 logging_disabled
-  !   script: the entries don't fit the log: give it more sectors, in the script's line `log <sectors>`
+  !   script: the entries don't fit in the log: ask for more sectors in the script's line `log <sectors>`
   [3]
   $ write script
   > data 2
@@ -286,7 +286,7 @@ A script without a close leaves an empty log, and that is no fault. Where all is
   $ dmlw --explain judge script 0 image
   ! dmlw: line 3: 3 PastEnd
   !   line 3 of script: w a 2 1 41
-  !   the request 2+1 reaches past the data disk, which has 2 sectors, from 0 on
+  !   the request 2+1 reaches past the data disk, which has 2 sectors, counted from 0
   [1]
   $ write script
   > data 2
@@ -298,13 +298,13 @@ A script without a close leaves an empty log, and that is no fault. Where all is
   $ image image 100
   $ dmlw --explain judge script 0 image
   ! dmlw: 32 File
-  !   image has 100 bytes, which is 100 more than whole sectors of 512
+  !   image has 100 bytes, 100 more than a multiple of 512
   [1]
   $ escaped image
   > a text\
   $ dmlw --explain list image
   ! dmlw: 32 File
-  !   image has 6 bytes, which is 6 more than whole sectors of 512
+  !   image has 6 bytes, 6 more than a multiple of 512
   [1]
   $ write script
   > data 16
@@ -321,6 +321,6 @@ A script without a close leaves an empty log, and that is no fault. Where all is
   0 @1 write 5+1
   1 @3 flush
   ! dmlw: 21 CutShort
-  !   log: it counts 3 entries: the log is shorter than it says: it was cut, or wasn't written to its end; what stands before the fault is whole
+  !   log: it counts 3 entries: the log is shorter than its super block says: it was cut, or wasn't written to its end; the entries before the fault are whole
   !   log: the first entry that can't be read is entry 2, counted from 0, at log sector 4, of 512 bytes; `entries:2` replays all before it
   [1]

@@ -13,13 +13,13 @@ Command lines and their texts.
     replay        Replays a prefix of a log on an image
     copy          Copies a log to one with sectors of 4096 bytes
     judge         Judges whether an image could have been on the device
-    path          Tells how an image could have come to the device
-    help          Prints this page; behind it a command: the words of that command
+    path          Prints how an image could have come to be on the device
+    help          Prints this page, or with a command's name that command's words
     help formats  Prints the grammar of scripts, the faults and the limits
   
   Options:
-        --explain  In any place: after a fault's line comes what helps. DMLW_EXPLAIN=1 adds it
-        --rebuild  Of the launcher ./dmlw, as its only word: proves and builds the program anew
+        --explain  In any place: adds lines that help after a fault's line. DMLW_EXPLAIN=1 does the same
+        --rebuild  The only word, for the launcher ./dmlw: proves and builds the program again
     -h, --help     Print help
     -V, --version  Print version
   
@@ -38,13 +38,13 @@ Command lines and their texts.
     replay        Replays a prefix of a log on an image
     copy          Copies a log to one with sectors of 4096 bytes
     judge         Judges whether an image could have been on the device
-    path          Tells how an image could have come to the device
-    help          Prints this page; behind it a command: the words of that command
+    path          Prints how an image could have come to be on the device
+    help          Prints this page, or with a command's name that command's words
     help formats  Prints the grammar of scripts, the faults and the limits
   
   Options:
-        --explain  In any place: after a fault's line comes what helps. DMLW_EXPLAIN=1 adds it
-        --rebuild  Of the launcher ./dmlw, as its only word: proves and builds the program anew
+        --explain  In any place: adds lines that help after a fault's line. DMLW_EXPLAIN=1 does the same
+        --rebuild  The only word, for the launcher ./dmlw: proves and builds the program again
     -h, --help     Print help
     -V, --version  Print version
   
@@ -74,13 +74,13 @@ Command lines and their texts.
     replay        Replays a prefix of a log on an image
     copy          Copies a log to one with sectors of 4096 bytes
     judge         Judges whether an image could have been on the device
-    path          Tells how an image could have come to the device
-    help          Prints this page; behind it a command: the words of that command
+    path          Prints how an image could have come to be on the device
+    help          Prints this page, or with a command's name that command's words
     help formats  Prints the grammar of scripts, the faults and the limits
   
   Options:
-        --explain  In any place: after a fault's line comes what helps. DMLW_EXPLAIN=1 adds it
-        --rebuild  Of the launcher ./dmlw, as its only word: proves and builds the program anew
+        --explain  In any place: adds lines that help after a fault's line. DMLW_EXPLAIN=1 does the same
+        --rebuild  The only word, for the launcher ./dmlw: proves and builds the program again
     -h, --help     Print help
     -V, --version  Print version
   
@@ -99,13 +99,13 @@ Command lines and their texts.
     replay        Replays a prefix of a log on an image
     copy          Copies a log to one with sectors of 4096 bytes
     judge         Judges whether an image could have been on the device
-    path          Tells how an image could have come to the device
-    help          Prints this page; behind it a command: the words of that command
+    path          Prints how an image could have come to be on the device
+    help          Prints this page, or with a command's name that command's words
     help formats  Prints the grammar of scripts, the faults and the limits
   
   Options:
-        --explain  In any place: after a fault's line comes what helps. DMLW_EXPLAIN=1 adds it
-        --rebuild  Of the launcher ./dmlw, as its only word: proves and builds the program anew
+        --explain  In any place: adds lines that help after a fault's line. DMLW_EXPLAIN=1 does the same
+        --rebuild  The only word, for the launcher ./dmlw: proves and builds the program again
     -h, --help     Print help
     -V, --version  Print version
   
@@ -146,13 +146,13 @@ Command lines and their texts.
     replay        Replays a prefix of a log on an image
     copy          Copies a log to one with sectors of 4096 bytes
     judge         Judges whether an image could have been on the device
-    path          Tells how an image could have come to the device
-    help          Prints this page; behind it a command: the words of that command
+    path          Prints how an image could have come to be on the device
+    help          Prints this page, or with a command's name that command's words
     help formats  Prints the grammar of scripts, the faults and the limits
   
   Options:
-        --explain  In any place: after a fault's line comes what helps. DMLW_EXPLAIN=1 adds it
-        --rebuild  Of the launcher ./dmlw, as its only word: proves and builds the program anew
+        --explain  In any place: adds lines that help after a fault's line. DMLW_EXPLAIN=1 does the same
+        --rebuild  The only word, for the launcher ./dmlw: proves and builds the program again
     -h, --help     Print help
     -V, --version  Print version
   
@@ -171,13 +171,13 @@ Command lines and their texts.
     replay        Replays a prefix of a log on an image
     copy          Copies a log to one with sectors of 4096 bytes
     judge         Judges whether an image could have been on the device
-    path          Tells how an image could have come to the device
-    help          Prints this page; behind it a command: the words of that command
+    path          Prints how an image could have come to be on the device
+    help          Prints this page, or with a command's name that command's words
     help formats  Prints the grammar of scripts, the faults and the limits
   
   Options:
-        --explain  In any place: after a fault's line comes what helps. DMLW_EXPLAIN=1 adds it
-        --rebuild  Of the launcher ./dmlw, as its only word: proves and builds the program anew
+        --explain  In any place: adds lines that help after a fault's line. DMLW_EXPLAIN=1 does the same
+        --rebuild  The only word, for the launcher ./dmlw: proves and builds the program again
     -h, --help     Print help
     -V, --version  Print version
   
@@ -196,13 +196,13 @@ Command lines and their texts.
     replay        Replays a prefix of a log on an image
     copy          Copies a log to one with sectors of 4096 bytes
     judge         Judges whether an image could have been on the device
-    path          Tells how an image could have come to the device
-    help          Prints this page; behind it a command: the words of that command
+    path          Prints how an image could have come to be on the device
+    help          Prints this page, or with a command's name that command's words
     help formats  Prints the grammar of scripts, the faults and the limits
   
   Options:
-        --explain  In any place: after a fault's line comes what helps. DMLW_EXPLAIN=1 adds it
-        --rebuild  Of the launcher ./dmlw, as its only word: proves and builds the program anew
+        --explain  In any place: adds lines that help after a fault's line. DMLW_EXPLAIN=1 does the same
+        --rebuild  The only word, for the launcher ./dmlw: proves and builds the program again
     -h, --help     Print help
     -V, --version  Print version
   
@@ -221,13 +221,13 @@ Command lines and their texts.
     replay        Replays a prefix of a log on an image
     copy          Copies a log to one with sectors of 4096 bytes
     judge         Judges whether an image could have been on the device
-    path          Tells how an image could have come to the device
-    help          Prints this page; behind it a command: the words of that command
+    path          Prints how an image could have come to be on the device
+    help          Prints this page, or with a command's name that command's words
     help formats  Prints the grammar of scripts, the faults and the limits
   
   Options:
-        --explain  In any place: after a fault's line comes what helps. DMLW_EXPLAIN=1 adds it
-        --rebuild  Of the launcher ./dmlw, as its only word: proves and builds the program anew
+        --explain  In any place: adds lines that help after a fault's line. DMLW_EXPLAIN=1 does the same
+        --rebuild  The only word, for the launcher ./dmlw: proves and builds the program again
     -h, --help     Print help
     -V, --version  Print version
   
@@ -246,13 +246,13 @@ Command lines and their texts.
     replay        Replays a prefix of a log on an image
     copy          Copies a log to one with sectors of 4096 bytes
     judge         Judges whether an image could have been on the device
-    path          Tells how an image could have come to the device
-    help          Prints this page; behind it a command: the words of that command
+    path          Prints how an image could have come to be on the device
+    help          Prints this page, or with a command's name that command's words
     help formats  Prints the grammar of scripts, the faults and the limits
   
   Options:
-        --explain  In any place: after a fault's line comes what helps. DMLW_EXPLAIN=1 adds it
-        --rebuild  Of the launcher ./dmlw, as its only word: proves and builds the program anew
+        --explain  In any place: adds lines that help after a fault's line. DMLW_EXPLAIN=1 does the same
+        --rebuild  The only word, for the launcher ./dmlw: proves and builds the program again
     -h, --help     Print help
     -V, --version  Print version
   
@@ -343,7 +343,7 @@ Command lines and their texts.
     -h, --help  Print help
   
   An event is a line of the script that submits a request (w, f, d) or ends one (c), a mark, or the
-  close; so is the end of logging, where that comes first. Events count from 0. Other lines are none.
+  close; so is the end of logging, if that comes first. Events count from 0. Other lines aren't events.
   
     data 16
     log 32
@@ -354,7 +354,7 @@ Command lines and their texts.
     close         event 4
   
   M is 0 to 5 here. At 3 the flush hasn't ended: sector 5 may hold zeroes, or the bytes of a. At 4 it
-  has, and made a sure: event 0 rules zeroes out. With --explain its line of the script is printed.
+  has, and made a durable: event 0 rules zeroes out. With --explain its line of the script is printed.
   $ dmlw help judge
   Judges whether an image could have been on the device
   
@@ -369,7 +369,7 @@ Command lines and their texts.
     -h, --help  Print help
   
   An event is a line of the script that submits a request (w, f, d) or ends one (c), a mark, or the
-  close; so is the end of logging, where that comes first. Events count from 0. Other lines are none.
+  close; so is the end of logging, if that comes first. Events count from 0. Other lines aren't events.
   
     data 16
     log 32
@@ -380,7 +380,7 @@ Command lines and their texts.
     close         event 4
   
   M is 0 to 5 here. At 3 the flush hasn't ended: sector 5 may hold zeroes, or the bytes of a. At 4 it
-  has, and made a sure: event 0 rules zeroes out. With --explain its line of the script is printed.
+  has, and made a durable: event 0 rules zeroes out. With --explain its line of the script is printed.
   $ dmlw frob
   ! error: unrecognized subcommand 'frob'
   ! 
@@ -469,13 +469,13 @@ Command lines and their texts.
     replay        Replays a prefix of a log on an image
     copy          Copies a log to one with sectors of 4096 bytes
     judge         Judges whether an image could have been on the device
-    path          Tells how an image could have come to the device
-    help          Prints this page; behind it a command: the words of that command
+    path          Prints how an image could have come to be on the device
+    help          Prints this page, or with a command's name that command's words
     help formats  Prints the grammar of scripts, the faults and the limits
   
   Options:
-        --explain  In any place: after a fault's line comes what helps. DMLW_EXPLAIN=1 adds it
-        --rebuild  Of the launcher ./dmlw, as its only word: proves and builds the program anew
+        --explain  In any place: adds lines that help after a fault's line. DMLW_EXPLAIN=1 does the same
+        --rebuild  The only word, for the launcher ./dmlw: proves and builds the program again
     -h, --help     Print help
     -V, --version  Print version
   
@@ -494,13 +494,13 @@ Command lines and their texts.
     replay        Replays a prefix of a log on an image
     copy          Copies a log to one with sectors of 4096 bytes
     judge         Judges whether an image could have been on the device
-    path          Tells how an image could have come to the device
-    help          Prints this page; behind it a command: the words of that command
+    path          Prints how an image could have come to be on the device
+    help          Prints this page, or with a command's name that command's words
     help formats  Prints the grammar of scripts, the faults and the limits
   
   Options:
-        --explain  In any place: after a fault's line comes what helps. DMLW_EXPLAIN=1 adds it
-        --rebuild  Of the launcher ./dmlw, as its only word: proves and builds the program anew
+        --explain  In any place: adds lines that help after a fault's line. DMLW_EXPLAIN=1 does the same
+        --rebuild  The only word, for the launcher ./dmlw: proves and builds the program again
     -h, --help     Print help
     -V, --version  Print version
   
@@ -546,7 +546,7 @@ Command lines and their texts.
     -h, --help  Print help
   
   An event is a line of the script that submits a request (w, f, d) or ends one (c), a mark, or the
-  close; so is the end of logging, where that comes first. Events count from 0. Other lines are none.
+  close; so is the end of logging, if that comes first. Events count from 0. Other lines aren't events.
   
     data 16
     log 32
@@ -557,7 +557,7 @@ Command lines and their texts.
     close         event 4
   
   M is 0 to 5 here. At 3 the flush hasn't ended: sector 5 may hold zeroes, or the bytes of a. At 4 it
-  has, and made a sure: event 0 rules zeroes out. With --explain its line of the script is printed.
+  has, and made a durable: event 0 rules zeroes out. With --explain its line of the script is printed.
   $ dmlw help judge
   Judges whether an image could have been on the device
   
@@ -572,7 +572,7 @@ Command lines and their texts.
     -h, --help  Print help
   
   An event is a line of the script that submits a request (w, f, d) or ends one (c), a mark, or the
-  close; so is the end of logging, where that comes first. Events count from 0. Other lines are none.
+  close; so is the end of logging, if that comes first. Events count from 0. Other lines aren't events.
   
     data 16
     log 32
@@ -583,7 +583,7 @@ Command lines and their texts.
     close         event 4
   
   M is 0 to 5 here. At 3 the flush hasn't ended: sector 5 may hold zeroes, or the bytes of a. At 4 it
-  has, and made a sure: event 0 rules zeroes out. With --explain its line of the script is printed.
+  has, and made a durable: event 0 rules zeroes out. With --explain its line of the script is printed.
   $ dmlw replay
   ! error: the following required arguments were not provided:
   !   <LOG>

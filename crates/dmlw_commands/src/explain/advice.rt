@@ -37,14 +37,13 @@ fn write_bytes<W: Write>(number: u64, to: &mut W) -> fmt::Result {
 /// everything.
 pub(crate) fn advice(refusal: Refusal) -> &'static str {
     match refusal {
-        Refusal::Memory | Refusal::EndMemory =>
-            "there was no memory for it: try a smaller script or image",
+        Refusal::Memory | Refusal::EndMemory => "memory ran out: try a smaller script or image",
         Refusal::PastEnd =>
-            "the request ends past the data disk: its first sector and its count come to more than `data` says",
+            "the request ends past the data disk: its first sector plus its count is more than the number in the `data` line",
         Refusal::TooLong => "a request has at most 2048 sectors",
         Refusal::NotWhole => "a request has at least one sector",
         Refusal::OutOfRange =>
-            "a number of the layer's line is out of range, or the layer ends past what stands beneath it",
+            "a number in the layer's line is out of range, or the layer ends past the device below it",
         Refusal::BadFeature =>
             "a flakey layer's feature is `0`, or `1` and one of error_reads, error_writes and drop_writes",
         Refusal::BadMagic => "it isn't a log",
@@ -52,31 +51,32 @@ pub(crate) fn advice(refusal: Refusal) -> &'static str {
         Refusal::BadSectorSize =>
             "the log's sectors aren't of 512, 1024, 2048 or 4096 bytes: its first sector is damaged",
         Refusal::BadMark =>
-            "a mark has sectors, or a text that its sector has no room for: the entry is damaged",
-        Refusal::TooLarge => "an entry reaches past what a device can have: the entry is damaged",
+            "a mark has sectors, or its text doesn't fit in its log sector: the entry is damaged",
+        Refusal::TooLarge =>
+            "an entry reaches past the end of the largest device: the entry is damaged",
         Refusal::Full =>
-            "the entries don't fit the log: give it more sectors, in the script's line `log <sectors>`",
+            "the entries don't fit in the log: ask for more sectors in the script's line `log <sectors>`",
         Refusal::Device => "the log's device failed",
         Refusal::CutShort =>
-            "the log is shorter than it says: it was cut, or wasn't written to its end; what stands before the fault is whole",
+            "the log is shorter than its super block says: it was cut, or wasn't written to its end; the entries before the fault are whole",
         Refusal::NoSuchMark => "no mark of the log has this text: `dmlw list` prints its marks",
         Refusal::NoFlush =>
-            "the log has no entry with FLUSH that is no mark: `dmlw list` prints its entries",
+            "the log has no flush, and no write with FLUSH: `dmlw list` prints its entries",
         Refusal::PastTarget =>
-            "the next entry reaches past the end of the image: give it the sectors of the device that was recorded",
+            "the next entry reaches past the end of the image, which must be as large as the recorded device",
         Refusal::PastEntries =>
             "the log has fewer entries: `dmlw status` prints how many it counts",
         Refusal::Busy =>
             "a request is still open here: end each by a line `c <id>` before the `close`",
         Refusal::BadId =>
-            "an id is submitted once in a script, and `c <id>` ends one that was submitted and hasn't ended",
+            "an id is submitted only once in a script, and `c <id>` ends a request that is open",
         Refusal::BadMoment =>
-            "a moment is a number of the run's events, and the image has the sectors of the data disk under its layers",
+            "M is a number of events, from 0 to all of the run's; the image must be as large as the data disk, seen from the top of its layers",
         Refusal::Unaligned =>
-            "with log sectors of 4096 bytes the place and the length of each request and entry are multiples of 4096 bytes, which are 8 sectors of 512 bytes",
-        Refusal::NoThread => "the system started no thread to write the log: nothing was run",
+            "with log sectors of 4096 bytes, each request and entry must begin and end at a multiple of 4096 bytes (8 sectors of 512 bytes)",
+        Refusal::NoThread => "the thread that writes the log couldn't be started: nothing was run",
         Refusal::Foreign =>
-            "what the seats or the log hold isn't what the run's history has of them: that is a fault of dmlw's",
+            "the seats or the log don't match the run's history: this is a bug in dmlw",
         _ => "",
     }
 }

@@ -171,7 +171,7 @@ fn write_replaying<F: Files, W: Write>(
         Refusal::File => write_file_of_writing(alloc, log, first, out, files, to),
         Refusal::PastTarget => {
             let sentence =
-                "it reaches past the end of the image: give it the sectors of the device that was recorded";
+                "it reaches past the end of the image, which must be as large as the recorded device";
             write_next(alloc, log, error.applied(), sentence, files, to)?;
             write_size(alloc, first, files, to)
         }
@@ -233,7 +233,7 @@ fn write_copying<F: Files, W: Write>(
         }
         Refusal::Unaligned => {
             let sentence =
-                "its place and its length aren't both multiples of 4096 bytes, as each of a log with such sectors is";
+                "its place or its length isn't a multiple of 4096 bytes, which a log with such sectors needs";
             write_next(alloc, log, error.applied(), sentence, files, to)
         }
         refusal => write_log(alloc, log, refusal, files, to),
@@ -365,6 +365,6 @@ fn write_unclosed<F: Files, W: Write>(
     }
     writeln!(
         to,
-        "  {script} has no line `close`: what waits isn't written to the log"
+        "  {script} has no line `close`: requests and marks that still wait aren't written to the log"
     )
 }

@@ -99,14 +99,14 @@ pub(crate) fn write_file_of_writing<F: Files, W: Write>(
 fn write_unwritten<W: Write>(name: &str, error: &io::Error, to: &mut W) -> fmt::Result {
     writeln!(to, "  {name} can't be written: {error}")?;
     match error.kind() {
-        io::ErrorKind::NotFound => writeln!(to, "  its folder has to be there"),
+        io::ErrorKind::NotFound => writeln!(to, "  its folder must exist"),
         io::ErrorKind::PermissionDenied | io::ErrorKind::ReadOnlyFilesystem => writeln!(
             to,
-            "  a regular file is written beside {name} first, and renamed then: its folder has to be writable, whatever the file is"
+            "  a regular file is first written next to {name}, and then renamed: the folder must be writable"
         ),
         io::ErrorKind::StorageFull | io::ErrorKind::QuotaExceeded => writeln!(
             to,
-            "  a regular file is written beside {name} first: the file system needs room for the whole of it"
+            "  a regular file is first written next to {name}: the file system needs room for all of it"
         ),
         _ => Ok(()),
     }
@@ -159,7 +159,7 @@ fn write_image_file<F: Files, W: Write>(
 fn write_cut<W: Write>(image: &str, to: &mut W) -> fmt::Result {
     writeln!(
         to,
-        "  a log can be cut, and the entries within these bytes are read: head -c {MAX_IMAGE_BYTES} {image} >cut.log"
+        "  the entries within the first {MAX_IMAGE_BYTES} bytes of a log can be read: head -c {MAX_IMAGE_BYTES} {image} >cut.log"
     )
 }
 
@@ -174,7 +174,7 @@ fn write_length<W: Write>(image: &str, length: u64, to: &mut W) -> Result<bool, 
     } else if over != 0 {
         writeln!(
             to,
-            "  {image} has {length} bytes, which is {over} more than whole sectors of {SECTOR_BYTES}"
+            "  {image} has {length} bytes, {over} more than a multiple of {SECTOR_BYTES}"
         )?;
     }
     Ok(length == 0 || over != 0)
@@ -202,14 +202,17 @@ fn write_unread<F: Files, W: Write>(
         }
         Some(FileFailure::TooLong(length)) if *length > limit => writeln!(
             to,
-            "  {name} has {length} bytes, and {kind} at most {limit}"
+            "  {name} has {length} bytes; {kind} has at most {limit}"
         ),
         Some(FileFailure::TooLong(_)) => {
-            writeln!(to, "  {name} has more than the {limit} bytes of {kind}")
+            writeln!(
+                to,
+                "  {name} has more than {limit} bytes, the limit for {kind}"
+            )
         }
         None => writeln!(
             to,
-            "  {name} can't be read, or has more than the {limit} bytes of {kind}"
+            "  {name} can't be read, or has more than {limit} bytes, the limit for {kind}"
         ),
     }
 }

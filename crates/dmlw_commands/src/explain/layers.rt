@@ -80,7 +80,7 @@ pub(crate) fn write_unknown_target<W: Write>(line: &[u8], to: &mut W) -> fmt::Re
     let word = Shown(word_at(line, 3).unwrap_or_default());
     writeln!(
         to,
-        "  the word `{word}` is no target: a layer is one of linear, error, flakey, dust, delay and fuse"
+        "  the word `{word}` isn't a target: the targets are linear, error, flakey, dust, delay and fuse"
     )
 }
 
@@ -94,11 +94,11 @@ pub(crate) fn write_wrong_count<W: Write>(line: &[u8], to: &mut W) -> fmt::Resul
     match form_of(line) {
         Some(LayerForm { form, counts, .. }) => writeln!(
             to,
-            "  the layer's line has {count} words behind its first, and a line of this target has {counts}: {form}"
+            "  the layer's line has {count} words after its first, but this target takes {counts}: {form}"
         ),
         None => writeln!(
             to,
-            "  the layer's line has {count} words behind its first, and it is to have at least 3: 0 <length> <target> .."
+            "  the layer's line has {count} words after its first, but needs at least 3: 0 <length> <target> .."
         ),
     }
 }
@@ -127,7 +127,7 @@ pub(crate) fn write_range<W: Write>(line: &[u8], to: &mut W) -> fmt::Result {
     let start = number_at(line, 1).unwrap_or_default();
     let length = number_at(line, 2).unwrap_or_default();
     if start != 0 {
-        return writeln!(to, "  the start {start} isn't 0, and a layer's is");
+        return writeln!(to, "  the start is {start}, but must be 0");
     }
     if length == 0 || length > MAX_SECTORS {
         return writeln!(
@@ -149,11 +149,11 @@ pub(crate) fn write_range<W: Write>(line: &[u8], to: &mut W) -> fmt::Result {
         }
         Some(b"delay") => writeln!(
             to,
-            "  a delay is at most {MAX_DELAY} milliseconds, and each names the same device and offset"
+            "  a delay is at most {MAX_DELAY} milliseconds, and all delays of a layer name the same device and offset"
         ),
         _ => writeln!(
             to,
-            "  a number of the layer's line is out of range: `dmlw help formats` has the ranges"
+            "  a number in the layer's line is out of range: `dmlw help formats` has the ranges"
         ),
     }
 }

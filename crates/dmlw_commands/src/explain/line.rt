@@ -83,7 +83,7 @@ fn write_unknown<W: Write>(grammar: Grammar, line: &[u8], to: &mut W) -> fmt::Re
         };
         writeln!(
             to,
-            "  such a line is one of a script of `dmlw {other}`, and `dmlw {own}` has no such line"
+            "  this line belongs to a script of `dmlw {other}`, not of `dmlw {own}`"
         )?;
     }
     match grammar {
@@ -93,7 +93,7 @@ fn write_unknown<W: Write>(grammar: Grammar, line: &[u8], to: &mut W) -> fmt::Re
         )?,
         Grammar::Seats => writeln!(
             to,
-            "  no line begins so; a script of seats has these lines, and its first seat is s0:"
+            "  no line begins like this; a script of seats has these lines, and its first seat is s0:"
         )?,
     }
     write_forms(grammar, to)
@@ -148,16 +148,18 @@ fn cause_of(line: &[u8]) -> Option<&'static str> {
         return None;
     }
     if line.ends_with(b"\r".as_slice()) {
-        return Some("it ends with a carriage return: lines end with a line feed alone");
+        return Some("it ends with a carriage return: lines must end with only a line feed");
     }
     if line.contains(&b'\t') {
-        return Some("it has a tab: one space stands between words");
+        return Some("it has a tab: words are separated by one space");
     }
     if !is_text(line) {
         return Some("it has a byte that isn't ASCII text");
     }
     if line.split(is_space).any(|word| word.is_empty()) {
-        return Some("it has a space too many: one stands between words, none at an end");
+        return Some(
+            "it has an extra space: words are separated by one space, and a line has none at its ends",
+        );
     }
     if line.iter().any(|byte| byte.is_ascii_uppercase()) {
         return Some("it has an upper case letter: words are in lower case");
@@ -219,11 +221,11 @@ fn write_flaw<W: Write>(
         Flaw::TooMany(word) => {
             let word = Shown(word);
             let order = if form.ends_with("]") {
-                ", or isn't in its order"
+                ", or is out of order"
             } else {
                 ""
             };
-            writeln!(to, "  the word `{word}` is one too many{order}")
+            writeln!(to, "  the word `{word}` is extra{order}")
         }
     }
 }

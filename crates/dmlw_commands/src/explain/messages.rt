@@ -48,7 +48,7 @@ fn write_bad_message<W: Write>(text: &[u8], line: Numbered, to: &mut W) -> fmt::
         let target = Shown(target);
         return writeln!(
             to,
-            "  layer {wanted} of the {disk} is of the target {target}: a dust layer alone takes messages"
+            "  layer {wanted} of the {disk} has the target {target}: only dust layers take messages"
         );
     }
     write_words(layer, line, to)
@@ -60,7 +60,7 @@ fn write_words<W: Write>(layer: &[u8], line: Numbered, to: &mut W) -> fmt::Resul
         if block >= blocks {
             return writeln!(
                 to,
-                "  the layer has no block {block}: it has {blocks}, from 0 on"
+                "  the layer has no block {block}: it has {blocks}, counted from 0"
             );
         }
     }

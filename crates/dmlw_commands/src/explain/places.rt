@@ -17,16 +17,13 @@ pub(crate) fn write_place<W: Write>(
     to: &mut W,
 ) -> fmt::Result {
     if let Some(Numbered { number, .. }) = line_of(text, line.number, b"crash") {
-        return writeln!(
-            to,
-            "  nothing may stand behind the `crash` of line {number}"
-        );
+        return writeln!(to, "  no line may follow the `crash` in line {number}");
     }
     match next_of_head(grammar, text, line.number) {
         Some(word) if begins_with(line.text, word.as_bytes()) => write_range(line, to),
         Some(word) => writeln!(
             to,
-            "  the line `{word}` has to stand before this one: a script begins with {}",
+            "  a line `{word}` must come before this one: a script begins with {}",
             head_of(grammar)
         ),
         None => write_behind_head(text, line, to),
@@ -88,7 +85,7 @@ fn write_twice<W: Write>(text: &[u8], line: Numbered, word: &[u8], to: &mut W) -
     let word = Shown(word);
     writeln!(
         to,
-        "  line {number} is `{word}` already: it stands once in a script"
+        "  line {number} is already a `{word}` line: a script has only one"
     )
 }
 
@@ -97,21 +94,21 @@ fn write_layer<W: Write>(text: &[u8], line: Numbered, word: &[u8], to: &mut W) -
     if let Some(Numbered { number, .. }) = first_of_body(text, line.number) {
         return writeln!(
             to,
-            "  the layers stand before the requests, and line {number} is no layer"
+            "  layers must come before the requests, and line {number} isn't a layer"
         );
     }
     if word == b"data-layer".as_slice() {
         if let Some(Numbered { number, .. }) = line_of(text, line.number, b"log-layer") {
             return writeln!(
                 to,
-                "  the layers of the data disk stand before those of the log, and line {number} is a `log-layer`"
+                "  the data disk's layers must come before the log's, and line {number} is a `log-layer`"
             );
         }
     }
     if count_of(text, line.number, word) >= MAX_LAYERS {
         return writeln!(
             to,
-            "  {MAX_LAYERS} layers stand over this disk already, which is the most"
+            "  this disk already has {MAX_LAYERS} layers, which is the maximum"
         );
     }
     writeln!(
@@ -135,7 +132,7 @@ fn write_moment<W: Write>(text: &[u8], line: Numbered, to: &mut W) -> fmt::Resul
     let earlier = Shown(word_at(before, 1).unwrap_or_default());
     writeln!(
         to,
-        "  the moment {moment} is before {earlier}, which line {number} sets: moments don't go back"
+        "  the time {moment} is before {earlier}, which line {number} sets: times don't go back"
     )
 }
 

@@ -101,10 +101,7 @@ fn write_id<W: Write>(text: &[u8], line: Numbered, to: &mut W) -> fmt::Result {
     ) {
         (None, _) => writeln!(to, "  no line before this one submits `{shown}`"),
         (Some(_), Some(Numbered { number, .. })) => {
-            writeln!(
-                to,
-                "  `{shown}` isn't open: line {number} has ended it already"
-            )
+            writeln!(to, "  `{shown}` isn't open: line {number} already ended it")
         }
         _ => write_sentence(Refusal::BadId, to),
     }
@@ -148,7 +145,7 @@ fn write_past_end<W: Write>(
             };
             writeln!(
                 to,
-                "  the request {first}+{count} reaches past the data disk, which has {size}, from 0 on{layers}"
+                "  the request {first}+{count} reaches past the data disk, which has {size}, counted from 0{layers}"
             )
         }
         _ => write_sentence(Refusal::PastEnd, to),
@@ -158,10 +155,7 @@ fn write_past_end<W: Write>(
 // Writes how many sectors a request has, and how many it may have.
 fn write_too_long<W: Write>(grammar: Grammar, line: Numbered, to: &mut W) -> fmt::Result {
     match range_of(grammar, line.text) {
-        Some((_, count)) => writeln!(
-            to,
-            "  the request has {count} sectors, and one has at most 2048"
-        ),
+        Some((_, count)) => writeln!(to, "  the request has {count} sectors; the maximum is 2048"),
         None => write_sentence(Refusal::TooLong, to),
     }
 }
@@ -191,7 +185,7 @@ fn write_out_of_range<W: Write>(text: &[u8], line: Numbered, to: &mut W) -> fmt:
             let size = counted_sectors(size);
             writeln!(
                 to,
-                "  the layer {offset}+{length} ends past what stands beneath it, which has {size}, from 0 on"
+                "  the layer {offset}+{length} ends past the device below it, which has {size}, counted from 0"
             )
         }
         _ => write_range(line.text, to),

@@ -2,12 +2,12 @@
 -- nothing else, and is refused by it.
 use Rattle.std.proofs.Common.{◌≡◌, ℕ, zero, suc, true, false, List, [], ◌∷◌, Some, None, Ok, Err}
 use Rattle.std.proofs.Common.{replicate, refl, ap, ◌∙◌, inl, inr, arith}
-use Rattle.std.specs.Prelude.{Result, ◌^◌, slice_index_or}
+use Rattle.std.specs.Prelude.{Result, slice_index_or}
 use Rattle.bio.specs.declared.outcome.DevError.{DevError}
 use Rattle.bio.specs.declared.outcome.DevError.TheVariants.{Io}
-use Rattle.bio.specs.Content.{Content, Patch, put}
-use Rattle.blockdev.specs.View.{IsLawful, Place, View, last_count}
-use Rattle.blockdev.specs.Calls.{Call, Flushes, IsByteRange, IsRange, Writes}
+use Rattle.bio.specs.Content.{Content, Patch}
+use Rattle.blockdev.specs.View.{IsLawful, Place, View}
+use Rattle.blockdev.specs.Calls.{Call, IsByteRange, IsRange}
 use Rattle.blockdev.specs.InTurn.{DoesInTurn}
 use Rattle.blockdev.specs.Messages.{Unchanged}
 use Rattle.blockdev.specs.Law.{DeviceFrame, HasCause, WriteDone, NoLie, CrashSetKept, FlushDone}
@@ -76,22 +76,6 @@ moment : DeviceFrame one (record still { moment = 1 }) still → ⊥
 unfolding still
 moment goes = let h = goes.moment in omega arith
 
--- a value that isn't the call's, left by a crash during the call
-gains : DeviceFrame one still (record still { since = λ moment. Only (all 2) }) → ⊥
-unfolding still one all Only
-gains goes = elim (goes.gains 0 (all 2) (omega arith) (λ sector. refl)) [
-  | inl before ↦ let two = one_value 2 0 (before 0) in omega arith
-  | inr old ↦ elim (old.2 0) [
-    | inl same ↦ let two = one_value 2 0 (same ∙ old.1 0) in omega arith
-    | inr new ↦ let two = one_value 2 1 new in omega arith
-  ]
-]
-
--- what was left is no longer so
-keeps : DeviceFrame one still (record still { since = λ moment left. ⊥ }) → ⊥
-unfolding still one all Only
-keeps goes = goes.keeps 0 (all 0) (omega arith) (λ sector. refl)
-
 -- counts that fall
 faults : DeviceFrame one (record still { faults = 1 }) still → ⊥
 unfolding still
@@ -116,14 +100,6 @@ landed : WriteDone one false still still → ⊥
 unfolding still one all
 landed lands = let same = one_value 0 1 (lands.content 0) in omega arith
 
--- a FUA write that a crash takes back
-durable : WriteDone one true still (record still { content = put one (all 0) }) → ⊥
-unfolding still one all Only
-durable lands =
-    let old = lands.durable refl (all 0) (λ sector. refl) in
-    let same = one_value 0 1 (old.2 0) in
-    omega arith
-
 -- a flush after which a crash leaves something else
 synced : FlushDone (record still { content = all 1 }) → ⊥
 unfolding still all Only
@@ -139,25 +115,11 @@ lied : NoLie still (record still { lies = 1 }) → ⊥
 unfolding still
 lied told = let same = told.same in omega arith
 
-full : NoLie (record still { lies = last_count }) (record still { lies = last_count }) → ⊥
-unfolding still
-full told = let h = told.counted in omega arith
-
 -- a call that tells none, of a device that told some before it, up to one below the end
 told_before : NoLie (record still { lies = 3; can_lie = true })
     (record still { lies = 3; can_lie = true })
 unfolding still
 told_before = record { same = refl; counted = omega arith }
-
-told_most : NoLie (record still { lies = 18446744073709551614 })
-    (record still { lies = 18446744073709551614 })
-unfolding still
-told_most = record { same = refl; counted = omega arith }
-
--- a failure without a fault, and an end before the call
-failed : HasCause 0 still still (Err Io) → ⊥
-unfolding still
-failed cause = elim (cause.failed refl) [ inl grew ↦ omega arith | inr end ↦ omega arith ]
 
 ends : HasCause 5 still still (Ok 4) → ⊥
 unfolding still
@@ -172,16 +134,6 @@ many : IsLawful (record still { size = 1048577 }) → ⊥
 unfolding still
 many lawful = let h = lawful.few_sectors in omega arith
 
--- a crash that can't leave the content
-current : IsLawful (record still { content = all 1 }) → ⊥
-unfolding still all Only
-current lawful = let same = one_value 1 0 (lawful.current 0) in omega arith
-
--- one that may leave what none since now did
-nested : IsLawful (record still { since = λ moment left. ⊥ }) → ⊥
-unfolding still all Only
-nested lawful = lawful.nested 0 (all 0) (omega arith) (λ sector. refl)
-
 -- since now, another one
 now : IsLawful (record still { since = λ moment left. Unit {0} }) → ⊥
 unfolding still all Only
@@ -193,33 +145,15 @@ unfolding still
 whole lawful =
     let size = lawful.whole 0 (λ sector. []) (omega arith) tt 0 (omega arith) in omega arith
 
--- counts past the last one
-past_faults : IsLawful (record still { faults = 2 ^ 64 }) → ⊥
-unfolding still
-past_faults lawful = let h = lawful.faults in omega arith
-
-past_lies : IsLawful (record still { lies = 2 ^ 64 }) → ⊥
-unfolding still
-past_lies lawful = let h = lawful.lies in omega arith
-
 -- of 8 sectors the last one is a range, one more isn't, nor is none
 last : IsRange 8 7 1
 last = record { some = omega arith; within = omega arith }
-
-past_last : IsRange 8 7 2 → ⊥
-past_last range = let h = range.within in omega arith
 
 empty : IsRange 8 7 0 → ⊥
 empty range = let h = range.some in omega arith
 
 last_bytes : IsByteRange 8 7 512
 last_bytes = record { whole = refl; some = omega arith; within = omega arith }
-
-past_bytes : IsByteRange 8 7 1024 → ⊥
-past_bytes range = let h = range.within in omega arith
-
-half_bytes : IsByteRange 8 0 768 → ⊥
-half_bytes range = let h = range.whole in omega arith
 
 no_bytes : IsByteRange 8 7 0 → ⊥
 no_bytes range = let h = range.some in omega arith
@@ -228,49 +162,6 @@ no_bytes range = let h = range.some in omega arith
 message_size : Unchanged still (record still { size = 2 }) → ⊥
 unfolding still
 message_size same = let is = same.size in omega arith
-
-message_place : Unchanged still (record still { place = record { origin = 1; disk = 1 } }) → ⊥
-unfolding still
-message_place same = let is = ap (λ (p : Place). p.origin) same.place in omega arith
-
-message_content : Unchanged still (record still { content = all 2 }) → ⊥
-unfolding still all
-message_content same =
-    let is = one_value 2 0 (ap (λ (c : Content). c 0) same.content) in omega arith
-
--- one after which a crash leaves less, and one after which it leaves more
-message_crash : Unchanged still (record still { crash = λ left. ⊥ }) → ⊥
-unfolding still Only
-message_crash same = same.crash (all 0) (λ sector. refl)
-
-message_crash_more : Unchanged still (record still { crash = λ left. Unit {0} }) → ⊥
-unfolding still all Only
-message_crash_more same = let is = one_value 2 0 (same.crash_before (all 2) tt 0) in omega arith
-
-message_since : Unchanged still (record still { since = λ moment left. ⊥ }) → ⊥
-unfolding still Only
-message_since same = same.since 0 (all 0) (λ sector. refl)
-
-message_since_more : Unchanged still (record still { since = λ moment left. Unit {0} }) → ⊥
-unfolding still all Only
-message_since_more same = let is = one_value 2 0 (same.since_before 0 (all 2) tt 0) in omega arith
-
--- one that lets time pass, fails, lies, or teaches to lie
-message_moment : Unchanged still (record still { moment = 1 }) → ⊥
-unfolding still
-message_moment same = let is = same.moment in omega arith
-
-message_faults : Unchanged still (record still { faults = 1 }) → ⊥
-unfolding still
-message_faults same = let is = same.faults in omega arith
-
-message_lies : Unchanged still (record still { lies = 1 }) → ⊥
-unfolding still
-message_lies same = let is = same.lies in omega arith
-
-message_can_lie : Unchanged still (record still { can_lie = true }) → ⊥
-unfolding still
-message_can_lie same = let is = same.can_lie in cc
 
 -- a device whose calls begin at the moment 5, and that notes
 -- each: the first one ends well, and each later one fails
@@ -281,59 +172,9 @@ answer (call ∷ calls) = Err Io
 notes : List Call → Call → ℕ → Result ℕ DevError → List Call → Type 0
 notes old call now result new = (now ≡ 5) × (new ≡ call ∷ old) × (result ≡ answer old)
 
--- one that writes with FUA what no flush comes before
-put_one : Call
-put_one = Writes 0 [] true
-
 -- no call, one, and two of three, of which the second one failed
 turn_none : DoesInTurn notes 5 [] [] (Ok tt) []
 turn_none = refl
 
-turn_one : DoesInTurn notes 5 (Flushes ∷ []) [] (Ok tt) (Flushes ∷ [])
-unfolding notes answer
-turn_one = (Flushes ∷ [], (5, (refl, refl, refl)), refl)
-
-turn_two : DoesInTurn notes 5 (Flushes ∷ put_one ∷ Flushes ∷ []) [] (Err Io)
-    (put_one ∷ Flushes ∷ [])
-unfolding notes answer
-turn_two = inr (Flushes ∷ [], (5, (refl, refl, refl)), inl (refl, refl, refl))
-
--- not one where none is asked for, nor none where one is, nor another one
-turn_idle : DoesInTurn notes 5 [] [] (Ok tt) (Flushes ∷ []) → ⊥
-turn_idle same = cc
-
-turn_missed : DoesInTurn notes 5 (Flushes ∷ []) [] (Ok tt) [] → ⊥
-unfolding notes
-turn_missed (mid, (end, (at, noted, told)), same) = cc
-
-turn_other : DoesInTurn notes 5 (put_one ∷ []) [] (Ok tt) (Flushes ∷ []) → ⊥
-unfolding notes put_one
-turn_other (mid, (end, (at, noted, told)), same) = cc
-
--- not at another moment, nor an error of no call
-turn_later : DoesInTurn notes 4 (Flushes ∷ []) [] (Ok tt) (Flushes ∷ []) → ⊥
-unfolding notes
-turn_later (mid, (end, (at, noted, told)), same) = omega arith
-
 turn_unasked : DoesInTurn notes 5 [] [] (Err Io) [] → ⊥
 turn_unasked none = none
-
--- nothing after the call that failed: not the next one, nor the same again
-turn_on : DoesInTurn notes 5 (Flushes ∷ put_one ∷ []) (Flushes ∷ []) (Err Io)
-    (put_one ∷ Flushes ∷ Flushes ∷ []) → ⊥
-unfolding notes answer
-turn_on (inl (at, noted, told)) = cc
-turn_on (inr (mid, (end, (at, noted, told)), rest)) = cc
-
-turn_again : DoesInTurn notes 5 (Flushes ∷ []) (Flushes ∷ []) (Err Io)
-    (Flushes ∷ Flushes ∷ Flushes ∷ []) → ⊥
-unfolding notes answer
-turn_again (inl (at, noted, told)) = cc
-turn_again (inr (mid, (end, (at, noted, told)), rest)) = rest
-
--- and not in another order
-turn_order : DoesInTurn notes 5 (Flushes ∷ put_one ∷ []) [] (Err Io) (Flushes ∷ put_one ∷ []) → ⊥
-unfolding notes answer put_one
-turn_order (inl (at, noted, told)) = cc
-turn_order (inr (mid, (end, (at, noted, told)), inl (later, noted_too, told_it))) = cc
-turn_order (inr (mid, (end, (at, noted, told)), inr (next, well, rest))) = rest

@@ -1,6 +1,6 @@
 -- Statuses that may follow one another, and some that may not; and what they are as numbers.
 use Rattle.std.proofs.Common.{◌≡◌, Bool, true, false, true≢false, List, [], ◌∷◌, Some, None, refl}
-use Rattle.std.proofs.Common.{ap, arith, ◌==◌}
+use Rattle.std.proofs.Common.{ap, arith}
 use Rattle.refusals.specs.declared.end.End.TheVariants.{Full, Device, Memory}
 use Rattle.bio.specs.declared.outcome.Status.{Status}
 use Rattle.board.specs.Posts.{opening, last_of, IsFit, MayFollow, MayPost, IsRising, Begins, word_of}
@@ -30,9 +30,6 @@ one_back follows = let entries = follows.entries in absurd (omega arith)
 end_gone : MayFollow full two → ⊥
 end_gone follows = let end = follows.end Full refl in absurd (cc end)
 
-end_changed : MayFollow full (record full { end = Some Device }) → ⊥
-end_changed follows = let end = follows.end Full refl in absurd (cc end)
-
 -- the board has room for a log of the most sectors
 abbrev most : Status
 most = record { entries = 1048576; sector = 1048576; end = None }
@@ -44,9 +41,6 @@ most_fit = record { entries = omega arith; sector = omega arith }
 more_entries : IsFit (record most { entries = 1048577 }) → ⊥
 more_entries fit = let entries = fit.entries in absurd (omega arith)
 
-more_sectors : IsFit (record most { sector = 1048577 }) → ⊥
-more_sectors fit = let sector = fit.sector in absurd (omega arith)
-
 -- what may be posted follows the last status, and not the first alone
 two_posted : MayPost (opening ∷ one ∷ []) two
 two_posted = record {
@@ -56,9 +50,6 @@ two_posted = record {
 
 one_posted : MayPost (opening ∷ two ∷ []) one → ⊥
 one_posted may = one_back may.follows
-
-more_posted : MayPost (opening ∷ []) (record most { sector = 1048577 }) → ⊥
-more_posted may = more_sectors may.fit
 
 last_posted : last_of (opening ∷ two ∷ full ∷ []) ≡ full
 last_posted = refl
@@ -72,17 +63,8 @@ three_rise =
     (record { entries = omega arith; end = λ cause is. absurd (cc is) }))
     (record { entries = omega arith; sector = omega arith }) two_follows
 
--- and some of which one does, though the last goes back behind none
-back_between : IsRising (two ∷ one ∷ two ∷ []) → ⊥
-back_between rising = one_back (rising.rises 0 1 two one (omega arith) refl refl)
-
 unfit : IsRising (record most { entries = 1048577 } ∷ []) → ⊥
 unfit rising = more_entries (rising.fit 0 _ refl)
-
--- the first of a list, and whether it has two
-abbrev first_of : List Status → Status
-first_of [] = opening
-first_of (status ∷ others) = status
 
 abbrev has_two : List Status → Bool
 has_two (status ∷ next ∷ others) = true
@@ -91,9 +73,6 @@ has_two others = false
 -- a list begins with its first statuses, and not with another, nor with more than it has
 one_begins : Begins (one ∷ []) (one ∷ two ∷ [])
 one_begins = record { rest = two ∷ []; is = refl }
-
-two_begins : Begins (two ∷ []) (one ∷ two ∷ []) → ⊥
-two_begins begins = true≢false (ap (λ (xs : List Status). (first_of xs).entries == 2) begins.is)
 
 longer_begins : Begins (one ∷ two ∷ []) (one ∷ []) → ⊥
 longer_begins begins = true≢false (ap has_two begins.is)

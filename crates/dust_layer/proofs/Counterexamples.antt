@@ -4,21 +4,13 @@ use Rattle.std.specs.Prelude.{Result}
 use Rattle.bio.specs.declared.outcome.DevError.{DevError}
 use Rattle.blockdev.specs.Calls.{Call}
 use Rattle.dust_layer.specs.BadBlocks.{Bad}
-use Rattle.dust_layer.specs.Walk.{FailsBelow, IsStopped, begin_of, blocks_of, stops}
+use Rattle.dust_layer.specs.Walk.{IsStopped, begin_of, blocks_of, stops}
 
 -- a call isn't stopped behind its last block
 never_stopped_behind : {D : Type 0} (does : D → Call → ℕ → Result ℕ DevError → D → Type 0)
     (block : ℕ) (call : Call) (bad after : Bad) (old : D) (now : ℕ) (new : D)
     → (is : IsStopped does block call bad after old now new) → is.count ≡ blocks_of block call → ⊥
 never_stopped_behind does block call bad after old now new is behind =
-    let within = is.within in omega (arith, within, behind)
-
--- nor does a part behind its last block fail
-never_fails_behind : {D : Type 0} (does : D → Call → ℕ → Result ℕ DevError → D → Type 0) (block : ℕ)
-    (call : Call) (bad after : Bad) (old : D) (now : ℕ) (new : D)
-    (error : DevError) → (is : FailsBelow does block call bad after old now new error)
-    → is.count ≡ blocks_of block call → ⊥
-never_fails_behind does block call bad after old now new error is behind =
     let within = is.within in omega (arith, within, behind)
 
 -- a block that doesn't stop a call stops none
@@ -28,11 +20,3 @@ never_stopped_freely : {D : Type 0} (does : D → Call → ℕ → Result ℕ De
     → stops call bad (begin_of block call + is.count) ≡ false → ⊥
 never_stopped_freely does block call bad after old now new is free =
     let never : false ≡ true = sym free ∙ is.stopped in cc
-
--- nor does a part fail below of a block that stops the call
-never_fails_at_a_stop : {D : Type 0} (does : D → Call → ℕ → Result ℕ DevError → D → Type 0)
-    (block : ℕ) (call : Call) (bad after : Bad) (old : D) (now : ℕ) (new : D)
-    (error : DevError) → (is : FailsBelow does block call bad after old now new error)
-    → stops call bad (begin_of block call + is.count) ≡ true → ⊥
-never_fails_at_a_stop does block call bad after old now new error is stopped =
-    let never : false ≡ true = sym is.free ∙ stopped in cc

@@ -97,11 +97,6 @@ down-writes-read : flakey_verdict (record never { feature = features.ErrorWrites
 unfolding never
 down-writes-read = refl
 
-down-writes-discard : flakey_verdict (record never { feature = features.ErrorWrites }) Discard 7
-    ≡ Fail
-unfolding never
-down-writes-discard = refl
-
 down-drops-read : flakey_verdict (record never { feature = features.DropWrites }) Read 7 ≡ Pass
 unfolding never
 down-drops-read = refl

@@ -59,34 +59,14 @@ by-fourth = refl
 belongs-none : BelongsTo (dm_log_writes 512) flushed 3 0
 belongs-none = let before = by-third in record { from = omega arith; to = omega arith }
 
-belongs-one : BelongsTo (dm_log_writes 512) flushed 3 1
-belongs-one =
-    let before = by-third in
-    let after = by-fourth in record { from = omega arith; to = omega arith }
-
-belongs-both : BelongsTo (dm_log_writes 512) flushed 3 2
-belongs-both =
-    let before = by-third in
-    let after = by-fourth in record { from = omega arith; to = omega arith }
-
 -- and not three, nor one to the moment after it or to one long before it
 belongs-three : BelongsTo (dm_log_writes 512) flushed 3 3 → ⊥
 belongs-three told = let most = told.to in let after = by-fourth in omega arith
-
-belongs-after : BelongsTo (dm_log_writes 512) flushed 4 1 → ⊥
-belongs-after told = let least = told.from in let after = by-fourth in omega arith
-
-belongs-before : BelongsTo (dm_log_writes 512) flushed 2 1 → ⊥
-belongs-before told = let most = told.to in let before = by-third in omega arith
 
 -- events that are equal but for the results of their ends
 alike : map as_success (Submit Flush ∷ Complete 0 false ∷ Mark (65 ∷ []) ∷ Stop Full ∷ Close ∷ [])
     ≡ map as_success (Submit Flush ∷ Complete 0 true ∷ Mark (65 ∷ []) ∷ Stop Full ∷ Close ∷ [])
 alike = refl
-
--- ends of two requests aren't, nor a Stop and a Close
-other-end : as_success (Complete 0 true) ≡ as_success (Complete 1 true) → ⊥
-other-end same = cc
 
 other-event : as_success (Stop Full) ≡ as_success Close → ⊥
 other-event same = cc
@@ -104,17 +84,7 @@ links_kept : LinksBound (record { state = new_state; links = 3 })
     (record { state = marked; links = 19 })
 links_kept = let one = one_queued in record { few = omega arith; rises = omega arith }
 
--- and no more
-links_missed : LinksBound (record { state = new_state; links = 3 })
-    (record { state = marked; links = 20 }) → ⊥
-links_missed bound = let one = one_queued in let few = bound.few in absurd (omega arith)
-
 -- with none queued 8 may be
 links_idle : LinksBound (record { state = marked; links = 3 })
     (record { state = marked; links = 12 }) → ⊥
 links_idle bound = let few = bound.few in absurd (omega arith)
-
--- the count never falls
-links_lost : LinksBound (record { state = marked; links = 3 })
-    (record { state = marked; links = 2 }) → ⊥
-links_lost bound = let rises = bound.rises in absurd (omega arith)

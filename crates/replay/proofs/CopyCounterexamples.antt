@@ -1,9 +1,8 @@
 -- For each clause of what a copy comes to, stores that
 -- break it and nothing else, and are refused by it.
 use Rattle.std.proofs.Common.{◌≡◌, ℕ, ◌+◌, true, false, List, [], ◌∷◌, ◌++◌, drop, length, None}
-use Rattle.std.proofs.Common.{Some, replicate, slice_index_or, take, refl, sym, ap, ◌∙◌, inl, inr}
+use Rattle.std.proofs.Common.{replicate, slice_index_or, take, refl, sym, ap, ◌∙◌, inl, inr}
 use Rattle.std.proofs.Common.{arith}
-use Rattle.std.specs.List.{slice_get}
 use Rattle.std.specs.Prelude.{Result}
 use Rattle.bio.specs.declared.outcome.DevError.{DevError}
 use Rattle.refusals.specs.declared.end.End.TheVariants as ends
@@ -13,7 +12,7 @@ use Rattle.bio.specs.Content.{Content}
 use Rattle.blockdev.specs.Calls.{Call}
 use Rattle.blockdev.specs.View.{View}
 use Rattle.log_format.specs.declared.entry.Entry.{Entry}
-use Rattle.log_format.specs.Entries.{end_mark, entry_of, no_flags, sectors_of}
+use Rattle.log_format.specs.Entries.{end_mark, entry_of, no_flags}
 use Rattle.log_format.specs.Replay.{replay}
 use Rattle.log_reader.specs.declared.fault.LogFault.TheVariants.{CutShort}
 use Rattle.log_reader.specs.declared.fault.ReadDeviceError.TheVariants as reads
@@ -21,7 +20,7 @@ use Rattle.log_reader.specs.Reader.{Reader}
 use Rattle.log_store.specs.Calls.{append_calls, settle_calls}
 use Rattle.log_store.specs.Store.{Store, entries_of}
 use Rattle.replay.specs.declared.copy_fault.CopyError.TheVariants as copies
-use Rattle.replay.specs.Copies.{AreSettled, EndsSince, IsCopied, IsUnaligned, LacksLast}
+use Rattle.replay.specs.Copies.{AreSettled, EndsSince, IsCopied, IsUnaligned}
 use Rattle.replay.specs.Copies.{RefusesNoMore, Replays, SettledBy, SettlesOnly, StopsBy}
 use Rattle.replay.specs.CopyCalls.{StopsCalls, copy_calls}
 use Rattle.replay.specs.Resize.{is_aligned_to, resized}
@@ -95,20 +94,6 @@ some : IsCopied 512 [] 0 1 none one → ⊥
 unfolding none one still
 some copied = let few = copied.some (omega arith) in omega arith
 
--- an entry that isn't aligned
-aligned : IsCopied 512 (odd ∷ []) 0 1 none one → ⊥
-unfolding odd eight none one still
-aligned copied = let all = copied.aligned in cc
-
--- one that is left out, and one that is placed twice
-dropped : IsCopied 512 (end_mark ∷ []) 0 1 none none → ⊥
-unfolding none still
-dropped copied = let placed = copied.placed in omega arith
-
-twice : IsCopied 512 (end_mark ∷ []) 0 1 none (record one { placed = 2 }) → ⊥
-unfolding none one still
-twice copied = let placed = copied.placed in omega arith
-
 -- two that are swapped
 swapped : (new : Store) → new.device.lies ≡ 0 → entries_of none ≡ []
     → IsCopied 512 (end_mark ∷ eight ∷ []) 0 2 none new
@@ -133,22 +118,8 @@ unsettled : AreSettled (end_mark ∷ []) 0 1 none one → ⊥
 unfolding none one still
 unsettled settled = let after = settled 0 end_mark (omega arith) refl refl in omega arith
 
-unsettled_before : LacksLast (end_mark ∷ end_mark ∷ []) 0 2 none (record one { placed = 2 }) → ⊥
-unfolding none one still
-unsettled_before lacks =
-    let last = lacks.is_last in
-    let after = lacks.settled 0 end_mark (omega arith) refl refl in
-    omega arith
-
 unsettled_unaligned : SettledBy (end_mark ∷ []) 0 1 none one copies.Unaligned → ⊥
 unsettled_unaligned settled = unsettled settled
-
-unsettled_store : SettledBy (end_mark ∷ end_mark ∷ []) 0 2 none (record one { placed = 2 })
-    (copies.Store ends.Device) → ⊥
-unfolding none one still
-unsettled_store (inl settled) =
-    let after = settled 0 end_mark (omega arith) refl refl in omega arith
-unsettled_store (inr lacks) = unsettled_before lacks
 
 -- a settle behind the entries that are told of
 settled_beyond : SettlesOnly (end_mark ∷ end_mark ∷ []) 0 1 none (record one { settled = 2 }) → ⊥
@@ -156,34 +127,10 @@ unfolding none one still
 settled_beyond (inl same) = omega arith
 settled_beyond (inr (n, e, less, there, due, settled)) = omega arith
 
--- a settle after an entry that asks for none
-settled_more : SettlesOnly (record eight { flags = no_flags } ∷ []) 0 1 none
-    (record one { settled = 1 }) → ⊥
-unfolding none one still eight
-settled_more (inl same) = omega arith
-settled_more (inr (zero_or_more, e, less, there, due, settled)) =
-    let is : zero_or_more ≡ 0 = omega arith in
-    let first : Some (record eight { flags = no_flags }) ≡ Some e =
-    ap (λ (n : ℕ). slice_get (record eight { flags = no_flags } ∷ []) (0 + n)) (sym is)
-    ∙ there in
-    cc
-
 -- an entry that is aligned is told as none
 told_unaligned : IsUnaligned 512 4096 (eight ∷ []) 0 → ⊥
 unfolding eight
 told_unaligned fails = let first = fails.there in let unaligned = fails.unaligned in cc
-
--- a log that is told as full, though the entry fits
-told_full : EndsSince 512 (end_mark ∷ []) 0 none one ends.Full → ⊥
-unfolding none one still
-told_full (inl had) = cc
-told_full (inr room) =
-    let first = room.there in
-    let same : room.next ≡ end_mark = cc in
-    let taken : sectors_of (resized 512 4096 room.next) ≡ 1 =
-    ap (λ (e : Entry). sectors_of (resized 512 4096 e)) same in
-    let full = room.full in
-    omega arith
 
 -- the new log's device, or that of the log, that is told as failed, though it counts no fault
 told_device : EndsSince 512 [] 0 none one ends.Device → ⊥
@@ -203,28 +150,10 @@ reader =
       failed = false;
     }
 
-told_reader : StopsBy [] None 0 reader reader none none (copies.Log reads.Device) → ⊥
-unfolding reader still
-told_reader (inl grew) = omega arith
-told_reader (inr last) = omega arith
-
 -- a fault that the log hasn't, want of memory of a reader
 -- that didn't refuse, and a refusal before that wasn't there
 told_fault : StopsBy [] None 0 reader reader none none (copies.Log (reads.Log CutShort)) → ⊥
 told_fault told = let fault = told.0 in cc
-
-told_memory : StopsBy [] None 0 reader reader none none (copies.Log reads.Memory) → ⊥
-unfolding reader
-told_memory told = let refused : false ≡ true = told in cc
-
-told_failed : StopsBy [] None 0 reader reader none none (copies.Log reads.Failed) → ⊥
-unfolding reader
-told_failed told = let refused : false ≡ true = told in cc
-
--- an end that the new log hasn't
-told_end : StopsBy [] None 0 reader reader none none (copies.Store ends.Memory) → ⊥
-unfolding none
-told_end told = let end = told.0 in cc
 
 -- a reader that refused first in the copy
 refuses_more : RefusesNoMore reader (record reader { failed = true }) → ⊥

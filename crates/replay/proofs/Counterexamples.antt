@@ -1,21 +1,18 @@
 -- For each clause of what a replay leaves and calls, and of the
 -- cause of a refusal, what breaks it, and is refused by it.
 use Rattle.std.proofs.Common.{◌≡◌, ℕ, zero, suc, ◌<◌, ◌≤◌, true, false, Option, Some, None, Result}
-use Rattle.std.proofs.Common.{Ok, Err, List, [], ◌∷◌, replicate, slice_index_or, refl, ap, subst}
+use Rattle.std.proofs.Common.{Ok, Err, List, [], ◌∷◌, replicate, slice_index_or, refl, ap}
 use Rattle.std.proofs.Common.{sym, ◌∙◌, inl, inr, arith}
 use Rattle.std.specs.Prelude.{slice_get, unwrap_or}
 use Rattle.bio.specs.declared.outcome.DevError.{DevError}
 use Rattle.bio.specs.declared.outcome.DevError.TheVariants.{Io}
 use Rattle.bio.specs.Content as contents
 use Rattle.bio.specs.Content.{Content}
-use Rattle.blockdev.specs.Calls.{Call, Discards, Flushes, Writes}
-use Rattle.blockdev.specs.InTurn.{DoesInTurn}
+use Rattle.blockdev.specs.Calls.{Call, Discards, Writes}
 use Rattle.blockdev.specs.View.{View}
 use Rattle.log_format.specs.declared.entry.Entry.{Entry}
 use Rattle.log_format.specs.Entries.{kind_of, no_flags}
 use Rattle.log_format.specs.Replay.{kind_values, replay}
-use Rattle.log_reader.specs.declared.fault.LogFault.TheVariants.{CutShort}
-use Rattle.log_reader.specs.declared.fault.ReadDeviceError.TheVariants as reads
 use Rattle.log_reader.specs.Search.{IsFlush}
 use Rattle.log_reader.specs.Reader.{Reader}
 use Rattle.replay.specs.declared.fault.ReplayError.TheVariants as replays
@@ -70,10 +67,6 @@ applied : IsApplied 512 (write ∷ []) 0 1 (all 0) (replay 512 (write ∷ []) (a
 unfolding write
 applied = record { some = λ more. omega arith; content = refl }
 
-applied_not : IsApplied 512 (write ∷ []) 0 1 (all 0) (all 0) → ⊥
-unfolding write all contents.over
-applied_not told = let same = one_value 0 1 (ap (λ (c : Content). c 5) told.content) in omega arith
-
 -- no more entries are applied than there are
 applied_past : IsApplied 512 [] 0 1 (all 0) (all 0) → ⊥
 applied_past told = let there = told.some (omega arith) in omega arith
@@ -126,28 +119,9 @@ upto_flush = (
         cc
     none (suc k) x low high there is = omega arith
 
-upto_second : IsUpto Flush (write ∷ flush ∷ flush ∷ []) 0 3 → ⊥
-unfolding flush
-upto_second (last, sum, first) =
-    first.least 1 flush (omega arith) (omega arith) refl (record { flush = refl; no_mark = refl })
-
--- nor up to the second mark of a text
-upto_mark : (upto : Upto) → asks_mark upto [] → IsUpto upto (write ∷ mark ∷ mark ∷ []) 0 3 → ⊥
-unfolding mark
-upto_mark (Count n) asks told = absurd asks
-upto_mark (Mark text) asks (last, sum, first) =
-    first.least 1 mark (omega arith) (omega arith) refl (record { mark = refl; body = sym asks })
-upto_mark Flush asks told = absurd asks
-
 -- more entries are asked for than there are; just as many aren't
 asks_more : AsksTooMany (Count 3) 2 0
 asks_more = omega arith
-
-asks_later : AsksTooMany (Count 2) 2 1
-asks_later = omega arith
-
-asks_all : AsksTooMany (Count 2) 2 0 → ⊥
-asks_all told = omega arith
 
 asks_flush : AsksTooMany Flush 2 0 → ⊥
 asks_flush told = told
@@ -185,74 +159,9 @@ keeps_size : KeepsTarget still (record still { size = 9 }) → ⊥
 unfolding still
 keeps_size kept = let same = kept.size in omega arith
 
-keeps_faults : KeepsTarget still (record still { faults = 0 }) → ⊥
-unfolding still
-keeps_faults kept = let grows = kept.faults in omega arith
-
-keeps_lies : KeepsTarget still (record still { lies = 0 }) → ⊥
-unfolding still
-keeps_lies kept = let grows = kept.lies in omega arith
-
--- causes that aren't: too few entries, no flush or no mark after one that was applied, or too few
--- in a search; a flush that is lacking where the log has a fault; a fault that it hasn't; a reader
--- that refuses for the first time by an earlier refusal; a target that didn't fail
-cause_applied : (old new : Reader)
-    → HasReplayCause [] None (Count 1) old new still still 1 replays.PastEntries → ⊥
-cause_applied old new cause = let none = cause.0 in omega arith
-
-cause_flush_later : (old new : Reader)
-    → HasReplayCause [] None Flush old new still still 1 replays.NoFlush → ⊥
-cause_flush_later old new cause = let none = cause.0 in omega arith
-
-cause_mark_later : (old new : Reader) (upto : Upto)
-    → HasReplayCause [] None upto old new still still 1 replays.NoSuchMark → ⊥
-cause_mark_later old new upto cause = let none = cause.0 in omega arith
-
 cause_search : (old new : Reader)
     → HasReplayCause [] None Flush old new still still 0 replays.PastEntries → ⊥
 cause_search old new cause = cause.1
-
-cause_flush : (old new : Reader)
-    → HasReplayCause [] (Some CutShort) Flush old new still still 0 replays.NoFlush → ⊥
-cause_flush old new cause = let none = cause.2 in cc
-
-cause_fault : (old new : Reader) (upto : Upto)
-    → HasReplayCause [] None upto old new still still 0 (replays.Log (reads.Log CutShort)) → ⊥
-cause_fault old new upto cause = let some = cause.0 in cc
-
--- nor a fault behind what is asked for, told before it or after
--- it; nor one after entries that were applied in a search
-cause_fault_early : (old new : Reader) → old.next ≡ 0
-    → HasReplayCause (write ∷ []) (Some CutShort) (Count 2) old new still still 0
-    (replays.Log (reads.Log CutShort)) → ⊥
-cause_fault_early old new first cause = let all = cause.1.0 in omega arith
-
-cause_fault_behind : (old new : Reader)
-    → HasReplayCause (write ∷ []) (Some CutShort) (Count 1) old new still still 1
-    (replays.Log (reads.Log CutShort)) → ⊥
-cause_fault_behind old new cause = let fewer = cause.1.1 in omega arith
-
-cause_fault_found : (old new : Reader) → old.next ≡ 0
-    → HasReplayCause (flush ∷ []) (Some CutShort) Flush old new still still 0
-    (replays.Log (reads.Log CutShort)) → ⊥
-unfolding flush
-cause_fault_found old new first cause =
-    cause.1.1 0 flush (omega arith) refl (record { flush = refl; no_mark = refl })
-
-cause_fault_later : (old new : Reader)
-    → HasReplayCause [] (Some CutShort) Flush old new still still 1
-    (replays.Log (reads.Log CutShort)) → ⊥
-cause_fault_later old new cause = let none = cause.1.0 in omega arith
-
-cause_failed : (old new : Reader) (upto : Upto) → old.failed ≡ false
-    → HasReplayCause [] None upto old new still still 0 (replays.Log reads.Failed) → ⊥
-cause_failed old new upto fresh cause = let same : false ≡ true = sym fresh ∙ cause in cc
-
-cause_target : (old new : Reader) (upto : Upto)
-    → HasReplayCause [] None upto old new still still 0 (replays.Target Io) → ⊥
-unfolding still
-cause_target old new upto cause =
-    elim (cause refl) [ inl grew ↦ omega arith | inr end ↦ omega arith ]
 
 -- a reader that refuses, and did before; and one that didn't
 refuses_before : (old : Reader) → old.failed ≡ true → RefusesNoMore old old
@@ -301,15 +210,6 @@ called : IsCalled notes 512 (mark ∷ small ∷ flush ∷ []) 0 3 [] (put_small 
 unfolding mark small flush notes answer put_small
 called = (put_small ∷ [], (5, (refl, refl, refl)), refl)
 
--- not twice, nor to flush at the end, nor not at all
-called_twice : IsCalled notes 512 (small ∷ []) 0 1 [] (put_small ∷ put_small ∷ []) → ⊥
-unfolding small notes answer put_small
-called_twice (mid, (end, (at, noted, told)), same) = cc
-
-called_flush : IsCalled notes 512 (small ∷ []) 0 1 [] (Flushes ∷ put_small ∷ []) → ⊥
-unfolding small notes answer put_small
-called_flush (mid, (end, (at, noted, told)), same) = cc
-
 called_not : IsCalled notes 512 (small ∷ []) 0 1 [] [] → ⊥
 unfolding small notes answer
 called_not (mid, (end, (at, noted, told)), same) = cc
@@ -324,26 +224,6 @@ called_to = record {
   there = refl;
   refused = inl (refl, refl, refl);
 }
-
--- not where it is tried once more, nor where there is none
-called_again : (told : IsCalledTo notes 512 (small ∷ cut ∷ []) 0 1 Io []
-    (Discards 6 2 ∷ Discards 6 2 ∷ put_small ∷ [])) → told.next ≡ cut → ⊥
-unfolding small cut notes answer put_small
-called_again told is =
-    let middle : told.mid ≡ put_small ∷ [] = first told.mid told.called in
-    again told.mid middle (subst
-    (λ (e : Entry). DoesInTurn notes 0 (entry_calls 512 e) told.mid (Err Io)
-    (Discards 6 2 ∷ Discards 6 2 ∷ put_small ∷ [])) is told.refused)
-  where
-    first : (mid : List Call) → IsCalled notes 512 (small ∷ cut ∷ []) 0 1 [] mid
-        → mid ≡ put_small ∷ []
-    first mid (next, (end, (at, noted, told_it)), same) = cc
-
-    again : (mid : List Call) → mid ≡ put_small ∷ []
-        → DoesInTurn notes 0 (Discards 6 2 ∷ []) mid (Err Io)
-        (Discards 6 2 ∷ Discards 6 2 ∷ put_small ∷ []) → ⊥
-    again mid is (inl (at, noted, told_it)) = cc
-    again mid is (inr (next, (end, (at, noted, told_it)), never)) = never
 
 called_past : IsCalledTo notes 512 [] 0 0 Io [] [] → ⊥
 called_past told = let there = told.there in cc

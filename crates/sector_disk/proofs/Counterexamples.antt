@@ -1,17 +1,17 @@
 -- For each clause of what a past begins with, and of what a
 -- call does to a disk, what breaks it, and is refused by it.
-use Rattle.std.proofs.Common.{◌≡◌, ℕ, suc, Bool, List, [], ◌∷◌, length, Ok, Err, replicate}
+use Rattle.std.proofs.Common.{◌≡◌, ℕ, suc, List, [], ◌∷◌, length, Ok, Err, replicate}
 use Rattle.std.proofs.Common.{slice_index_or, refl, sym, ap, ◌∙◌, arith}
 use Rattle.std.specs.Prelude.{Result}
 use Rattle.bio.specs.declared.outcome.DevError.{DevError}
-use Rattle.bio.specs.declared.outcome.DevError.TheVariants.{Io, Memory}
-use Rattle.blockdev.specs.Calls.{Discards, Flushes as flush, Reads, Writes}
+use Rattle.bio.specs.declared.outcome.DevError.TheVariants.{Memory}
+use Rattle.blockdev.specs.Calls.{Discards, Flushes as flush, Reads}
 use Rattle.blockdev.specs.View.{View}
 use Rattle.bio.specs.Content.{Content}
 use Rattle.sector_disk.specs.declared.disk.SectorDisk.{SectorDisk}
 use Rattle.sector_disk.specs.Candidates.{Flushes, Step, view_of}
 use Rattle.sector_disk.specs.CandidateLaws.{syncs_start}
-use Rattle.sector_disk.specs.DiskView.{Does, HasPast, flushed_after, start_of, steps_of}
+use Rattle.sector_disk.specs.DiskView.{Does, HasPast, start_of, steps_of}
 use Rattle.sector_disk.specs.Sizes.{Begins}
 
 -- content of one value in each sector
@@ -66,27 +66,6 @@ past : (old new : SectorDisk) → HasPast old new (Flushes ∷ steps_of old)
 past old new has same =
     let lengths = ap (λ (steps : List Step). length steps) (sym has.past ∙ same) in omega arith
 
--- a disk that fails, one that ends later than it began, and one that refuses a read or a flush
-fails : (old new : SectorDisk) (first now : ℕ) (bytes : List ℕ) (fua : Bool)
-    → Does old (Writes first bytes fua) now (Err Io) new → ⊥
-fails old new first now bytes fua done = done
-
-discard_fails : (old new : SectorDisk) (first count now : ℕ)
-    → Does old (Discards first count) now (Err Io) new → ⊥
-discard_fails old new first count now done = done
-
-late : (old new : SectorDisk) (first now : ℕ) (bytes : List ℕ) (fua : Bool)
-    → Does old (Writes first bytes fua) now (Ok (suc now)) new → ⊥
-late old new first now bytes fua done = let same = done.0 in omega arith
-
-discard_late : (old new : SectorDisk) (first count now : ℕ)
-    → Does old (Discards first count) now (Ok (suc now)) new → ⊥
-discard_late old new first count now done = let same = done.0 in omega arith
-
-refuses_read : (old new : SectorDisk) (first now : ℕ) (before after : List ℕ)
-    → Does old (Reads first before after) now (Err Memory) new → ⊥
-refuses_read old new first now before after done = let same = done.0 in cc
-
 refuses_flush : (old new : SectorDisk) (now : ℕ) → Does old flush now (Err Memory) new → ⊥
 refuses_flush old new now done = let same = done.0 in cc
 
@@ -97,40 +76,7 @@ reads_one : (old new : SectorDisk) (first now : ℕ) (before a b : List ℕ)
     → Does old (Reads first before b) now result new → a ≡ b
 reads_one old new first now before a b result one other = one.2 ∙ sym other.2
 
--- a call that is refused as out of memory and that something
--- came of, and one that ends well and that nothing came of
-refused_write : (old new : SectorDisk) (first now : ℕ) (bytes : List ℕ) (fua : Bool)
-    → Does old (Writes first bytes fua) now (Err Memory) new
-    → steps_of new ≡ Flushes ∷ steps_of old → ⊥
-refused_write old new first now bytes fua done more =
-    let lengths = ap (λ (steps : List Step). length steps) (sym more ∙ done.past) in omega arith
-
-refused_discard : (old new : SectorDisk) (first count now : ℕ)
-    → Does old (Discards first count) now (Err Memory) new
-    → steps_of new ≡ Flushes ∷ steps_of old → ⊥
-refused_discard old new first count now done more =
-    let lengths = ap (λ (steps : List Step). length steps) (sym more ∙ done.past) in omega arith
-
-lost_write : (old new : SectorDisk) (first now : ℕ) (bytes : List ℕ) (fua : Bool)
-    → Does old (Writes first bytes fua) now (Ok now) new
-    → steps_of new ≡ steps_of old → ⊥
-lost_write old new first now bytes fua done same =
-    let lengths = ap (λ (steps : List Step). length steps) (sym same ∙ done.1.past) in omega arith
-
 lost_discard : (old new : SectorDisk) (first count now : ℕ)
     → Does old (Discards first count) now (Ok now) new → steps_of new ≡ steps_of old → ⊥
 lost_discard old new first count now done same =
     let lengths = ap (λ (steps : List Step). length steps) (sym same ∙ done.1.past) in omega arith
-
--- a read that is a step, and a first flush that is none
-read_step : (old new : SectorDisk) (first now : ℕ) (before after : List ℕ)
-    → Does old (Reads first before after) now (Ok now) new
-    → steps_of new ≡ Flushes ∷ steps_of old → ⊥
-read_step old new first now before after done more =
-    let lengths = ap (λ (steps : List Step). length steps) (sym more ∙ done.1.past) in omega arith
-
-lost_flush : (old new : SectorDisk) (now : ℕ) → Does old flush now (Ok now) new → steps_of old ≡ []
-    → steps_of new ≡ [] → ⊥
-lost_flush old new now done none still =
-    let past : [] ≡ flushed_after [] = sym still ∙ done.1.past ∙ ap flushed_after none in
-    cc

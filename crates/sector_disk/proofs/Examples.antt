@@ -83,12 +83,6 @@ after_two = cache_after zeroes two
 may-old : MayLeave after_two (left_by after_two [])
 may-old = picks_leave_one after_two [] (is_current zeroes two)
 
-may-first : MayLeave after_two (left_by after_two (1 ∷ []))
-may-first = picks_leave_one after_two (1 ∷ []) (is_current zeroes two)
-
-may-second : MayLeave after_two (left_by after_two (2 ∷ []))
-may-second = picks_leave_one after_two (2 ∷ []) (is_current zeroes two)
-
 -- and nothing else there, nor in the sectors beside it
 may-these : (content : Content) → MayLeave after_two content
     → (content 3 ≡ replicate 512 0) ⊎ (content 3 ≡ replicate 512 1) ⊎ (content 3 ≡ replicate 512 2)

@@ -199,8 +199,8 @@ impl<'a, R: std::rt::Files> std::rt::Files for Watched<'a, R> {
 }
 
 // Writes the image of a disk, of three pieces, over an older file, and returns whether this
-// succeeded. The last two pieces are zeroes. An older file that isn't replaced stays, and nothing
-// else is left.
+// succeeded. The first and the last piece are zeroes. An older file that isn't replaced stays, and
+// nothing else is left.
 fn check_written<R: std::rt::Files + Abort>(
     rt: &R,
     alloc: Global,
@@ -209,7 +209,7 @@ fn check_written<R: std::rt::Files + Abort>(
 ) -> Result<bool, Fail> {
     fs::write(rt, name, b"older".as_slice())?;
     let watched = Watched { runtime: rt, noted };
-    let disk = disk_with(alloc, 300, 1, 7)?;
+    let disk = disk_with(alloc, 300, 150, 7)?;
     let image = disk.bytes()?;
     let written = HostFiles::new(&watched, alloc).write(alloc, name, disk);
     let beside = format!(in alloc; "{name}.dmlw-tmp-0")?;

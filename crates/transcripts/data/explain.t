@@ -291,6 +291,28 @@ What --explain adds behind a fault.
   !   line 3 of script: data-layer 0 16 zero
   !   the word `zero` isn't a target: the targets are linear, error, flakey, dust, delay and fuse
   [1]
+
+A line of 100 bytes is shown whole, a longer one is cut after 100:
+
+  $ write script
+  > data 16
+  > log 32
+  > data-layer 0 16 zzzzzzzzzzzzzzzzzzzzzzzzzzzzzzzzzzzzzzzzzzzzzzzzzzzzzzzzzzzzzzzzzzzzzzzzzzzzzzzzzzzz
+  $ dmlw --explain record script log
+  ! dmlw: line 3: 9 UnknownTarget
+  !   line 3 of script: data-layer 0 16 zzzzzzzzzzzzzzzzzzzzzzzzzzzzzzzzzzzzzzzzzzzzzzzzzzzzzzzzzzzzzzzzzzzzzzzzzzzzzzzzzzzz
+  !   the word `zzzzzzzzzzzzzzzzzzzzzzzzzzzzzzzzzzzzzzzzzzzzzzzzzzzzzzzzzzzzzzzzzzzzzzzzzzzzzzzzzzzz` isn't a target: the targets are linear, error, flakey, dust, delay and fuse
+  [1]
+  $ write script
+  > data 16
+  > log 32
+  > data-layer 0 16 zzzzzzzzzzzzzzzzzzzzzzzzzzzzzzzzzzzzzzzzzzzzzzzzzzzzzzzzzzzzzzzzzzzzzzzzzzzzzzzzzzzzz
+  $ dmlw --explain record script log
+  ! dmlw: line 3: 9 UnknownTarget
+  !   line 3 of script: data-layer 0 16 zzzzzzzzzzzzzzzzzzzzzzzzzzzzzzzzzzzzzzzzzzzzzzzzzzzzzzzzzzzzzzzzzzzzzzzzzzzzzzzzzzzz...
+  !   the word `zzzzzzzzzzzzzzzzzzzzzzzzzzzzzzzzzzzzzzzzzzzzzzzzzzzzzzzzzzzzzzzzzzzzzzzzzzzzzzzzzzzzz` isn't a target: the targets are linear, error, flakey, dust, delay and fuse
+  [1]
+
   $ write script
   > data 16
   > log 32

@@ -133,7 +133,12 @@ impl fmt::Display for Shown<'_> {
             return write!(f, "{all}");
         };
         let front = front.escape_ascii();
-        write!(f, "{front}...")
+        let rest = if self.0.len() > SHOWN_BYTES {
+            "..."
+        } else {
+            ""
+        };
+        write!(f, "{front}{rest}")
     }
 }
 

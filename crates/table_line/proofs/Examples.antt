@@ -128,7 +128,7 @@ odd_block = refl
 
 -- ---- the printed text
 
--- one space between two words, and no count of features where there is none
+-- one space between two words, and no count of features if there is none
 plain_text : line_text (record {
   length = 16;
   offset = 0;

@@ -12,9 +12,9 @@ use Rattle.bio.specs.Sizes.{bytes_of}
 use Rattle.refusals.specs.declared.refusal.Refusal.{Refusal}
 use Rattle.refusals.specs.declared.refusal.Refusal.TheVariants.{BadLine, OutOfRange}
 use Rattle.table_line.specs.LayerOrder.{top_sectors, CanStand}
-use Rattle.table_line.specs.LineLaws.{asks_in_range}
+use Rattle.table_line.specs.LineLaws.{asked_in_range}
 use Rattle.table_line.specs.Ranges.{IsLayerSpec}
-use Rattle.table_line.specs.Refusals.{table_refusal}
+use Rattle.table_line.specs.TableLines.{table_refusal}
 use Rattle.table_line.specs.declared.layer_spec.LayerSpec.{LayerSpec}
 use Rattle.table_line.specs.declared.table_error.TableError.{TableError}
 use Rattle.dmlw_script.specs.declared.disk_name.DiskName.{DiskName}
@@ -93,7 +93,7 @@ IsFineHead (head_lines.Layer over asked) = IfOk asked IsLayerSpec
 pub fine_head : (line : List ℕ) (said : HeadLine) → ParsesAs line (parsed_lines.Head said)
     → IsFineHead said
 fine_head line (head_lines.Layer over (Ok spec)) says =
-    asks_in_range (words_of says.text) spec says.asks
+    asked_in_range (words_of says.text) spec says.asks
 fine_head line said says = tt
 
 -- ---- lines that are taken

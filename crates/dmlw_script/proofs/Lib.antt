@@ -5,7 +5,6 @@ pub mod DiskLaws
 pub mod DraftLemmas
 pub mod PickLaws
 pub mod LineLemmas
-pub mod LayerLaws
 pub mod LineParserLaws
 pub mod BodyLaws
 pub mod FaultLaws

@@ -29,13 +29,13 @@ use Rattle.dmlw_script.specs.declared.command.Submission.{Submission}
 use Rattle.dmlw_script.specs.declared.command.Submission.TheVariants as submits
 use Rattle.dmlw_script.specs.declared.command.Step.TheVariants as steps
 use Rattle.dmlw_script.specs.declared.command.WriteOptions.{WriteOptions}
-use Rattle.dmlw_script.specs.Grammar.{layer_verb, message_verb, size_words, spaced, AsksFor, IsId}
+use Rattle.dmlw_script.specs.Grammar.{layer_verb, message_verb, size_words, spaced, IsId}
 use Rattle.dmlw_script.specs.Grammar.{ParsesAs, ParsesAsCrash, ParsesAsId, ParsesAsNumber}
 use Rattle.dmlw_script.specs.RunGrammar.{SaysWrite}
 use Rattle.refusals.specs.WordLaws.{number_again, number_read}
 use Rattle.dmlw_script.specs.Lines.{is_line_text, is_skipped}
 use Rattle.dmlw_script.specs.Ids.{is_id, is_name_byte, id_of_word}
-use Rattle.dmlw_script.specs.inside.LineParser.{◌>>=◌, asked_of, body_words, discard_of}
+use Rattle.dmlw_script.specs.inside.LineParser.{◌>>=◌, body_words, discard_of}
 use Rattle.dmlw_script.specs.inside.LineParser.{discard_words, disk_of_word, found_options}
 use Rattle.dmlw_script.specs.inside.LineParser.{head_words, layer_of, log_of, lone_word, mark_of}
 use Rattle.dmlw_script.specs.inside.LineParser.{message_of, message_to, numbers_of, options_of}
@@ -45,10 +45,10 @@ use Rattle.dmlw_script.specs.inside.LineParser.{size_of, split_words, step, subm
 use Rattle.dmlw_script.specs.inside.LineParser.{write_of, write_words}
 use Rattle.dmlw_script.specs.Options.{option_text, option_word, option_words, options_text}
 use Rattle.dmlw_script.specs.Words.{byte_from, byte_of, byte_text, half_of, hex_digit}
-use Rattle.dmlw_script.proofs.LayerLaws.{asked_is, one_asked}
 use Rattle.dmlw_script.proofs.PickLaws.{split_first}
 use Rattle.table_line.specs.declared.layer_spec.LayerSpec.{LayerSpec}
 use Rattle.table_line.specs.declared.table_error.TableError.{TableError}
+use Rattle.table_line.specs.TableLines.{line_answer}
 use Rattle.refusals.specs.Words.{after_byte, before_byte, is_number, number_of, words_of}
 use Rattle.refusals.specs.Words.{IsNumber}
 
@@ -561,7 +561,7 @@ layer_read : (over : DiskName) (words : List ℕ) (s : HeadLine) → Some (layer
 layer_read over words s e =
     subst (λ (x : HeadLine). SaysHead (first_word (layer_verb over) words) x)
     (same_some (layer_of over words) s e)
-    (record { text = words; asks = asked_is words; spelled = refl })
+    (record { text = words; asks = refl; spelled = refl })
 
 -- the size that is read is spelled behind the word before it
 size_read : (word : List ℕ) (rest : Option (List ℕ)) (size : SectorSize) → size_of rest ≡ Some size
@@ -907,11 +907,9 @@ log_again word n sizes.B4096 is =
 
 -- a layer is heard as it is
 pub layer_again : (over : DiskName) (text : List ℕ) (asked : Result LayerSpec TableError)
-    → AsksFor (words_of text) asked
+    → line_answer (words_of text) ≡ asked
     → layer_of over text ≡ head_lines.Layer over asked
-layer_again over text asked asks =
-    ap (head_lines.Layer over)
-    (one_asked (words_of text) (asked_of text) asked (asked_is text) asks)
+layer_again over text asked asks = ap (head_lines.Layer over) asks
 
 -- what is heard as a line of the head
 abbrev heard_head : Option HeadLine → Option LineMeaning

@@ -22,7 +22,7 @@ use Rattle.dmlw_script.specs.Plans.{disk_of, is_disk_size, is_ended, is_log_disk
 use Rattle.dmlw_script.specs.Plans.{least_sectors, moment_at_step, request_of, step_answer}
 use Rattle.dmlw_script.specs.Plans.{submission_answer, top_of, Disk, IsInTime, ScriptValue}
 use Rattle.table_line.specs.declared.layer_spec.LayerSpec.{LayerSpec}
-use Rattle.table_line.specs.Refusals.{table_refusal}
+use Rattle.table_line.specs.TableLines.{table_refusal}
 
 -- these lines and some lines after them are a script
 pub record BeginsScript (lines : List (List ℕ)) : Type 0 where

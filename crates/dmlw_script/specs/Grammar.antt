@@ -1,5 +1,5 @@
 -- The grammar of a recorder's scripts, as a relation between texts and scripts.
-use Rattle.std.specs.Prelude.{◌≡◌, ℕ, ◌<◌, true, ◌+◌, List, [], ◌∷◌, ◌++◌, Result, Ok, Err, Some}
+use Rattle.std.specs.Prelude.{◌≡◌, ℕ, ◌<◌, true, ◌+◌, List, [], ◌∷◌, ◌++◌, Result, Some}
 use Rattle.std.specs.Prelude.{codes, length, slice_get}
 use Rattle.std.specs.List.{join_with_byte, AllByRecursion, AllZip}
 use Rattle.bio.specs.declared.sector_size.SectorSize.{SectorSize}
@@ -22,8 +22,7 @@ use Rattle.dmlw_script.specs.Plans.{ScriptValue}
 use Rattle.dmlw_script.specs.Words.{byte_text}
 use Rattle.table_line.specs.declared.layer_spec.LayerSpec.{LayerSpec}
 use Rattle.table_line.specs.declared.table_error.TableError.{TableError}
-use Rattle.table_line.specs.Refusals.{refusal_of}
-use Rattle.table_line.specs.TableLines.{IsTableLine}
+use Rattle.table_line.specs.TableLines.{line_answer}
 use Rattle.refusals.specs.Words.{words_of, IsNumber}
 
 -- the word is the id with this name
@@ -114,21 +113,17 @@ pub record ParsesAsCrash (line picks : List ℕ) : Type 0 where
   pub numbers : AllZip IsNumber words picks
   pub spelled : line ≡ spaced (codes "crash" ∷ words)
 
--- the words of a table line ask for this layer, or fail this test
-abbrev pub AsksFor : List (List ℕ) → Result LayerSpec TableError → Type 0
-AsksFor words (Ok spec) = IsTableLine words spec
-AsksFor words (Err error) = refusal_of words ≡ Some error
-
 -- the first word of a layer's line
 abbrev pub layer_verb : DiskName → List ℕ
 layer_verb disks.Data = codes "data-layer"
 layer_verb disks.Log = codes "log-layer"
 
--- the line is a layer's: a table line after its first word and one space
+-- the line is a layer's: a table line after its first word and one space, whose words ask for this
+-- layer or fail this test
 pub record ParsesAsLayer (over : DiskName) (line : List ℕ)
     (asked : Result LayerSpec TableError) : Type 0 where
   pub text : List ℕ
-  pub asks : AsksFor (words_of text) asked
+  pub asks : line_answer (words_of text) ≡ asked
   pub spelled : line ≡ layer_verb over ++ 32 ∷ text
 
 -- the line has this meaning, by its words

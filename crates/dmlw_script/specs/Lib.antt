@@ -4,7 +4,6 @@ pub use Rattle.bio.specs.Sizes
 pub use Rattle.table_line.specs.Ranges
 pub use Rattle.table_line.specs.LayerOrder
 pub use Rattle.table_line.specs.TableLines
-pub use Rattle.table_line.specs.Refusals as TableRefusals
 pub use Rattle.table_line.specs.Texts as TableTexts
 pub mod Words
 pub mod Ids

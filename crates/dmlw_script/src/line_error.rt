@@ -3,7 +3,7 @@ ghost use Rattle.std.specs.Prelude.{◌≡◌};
 ghost use Rattle.dmlw_script.specs.declared.line_error.LineError.TheVariants.{Memory};
 ghost use Rattle.dmlw_script.specs.declared.line_error.LineError.TheVariants as line_errors;
 ghost use Rattle.bio.specs.Refusals.{bad_bio_refusal};
-ghost use Rattle.table_line.specs.Refusals.{table_refusal};
+ghost use Rattle.table_line.specs.TableLines.{table_refusal};
 
 use bio::BadBio;
 use refusals::Refusal;

@@ -1,9 +1,11 @@
 -- The definitions on lines: those that ask for a layer, and each first test that fails.
-use Rattle.std.proofs.Common.{◌≡◌, ◌||◌, List, ℕ, true, false, [], ◌∷◌, ◌++◌, Some, None, Option}
+use Rattle.std.proofs.Common.{◌≡◌, ◌||◌, List, ℕ, true, false, [], ◌∷◌, ◌++◌, Result, Ok, Err}
 use Rattle.std.proofs.Common.{refl, sym, true≢false, arith}
 use Rattle.std.specs.Prelude.{codes, decimal}
 use Rattle.refusals.specs.Words.{words_of}
 use Rattle.table_line.specs.declared.feature.Feature.TheVariants as features
+use Rattle.table_line.specs.declared.layer_spec.LayerSpec.{LayerSpec}
+use Rattle.table_line.specs.declared.layer_spec.Target.{Target}
 use Rattle.table_line.specs.declared.layer_spec.Target.TheVariants as targets
 use Rattle.table_line.specs.declared.table_error.TableError.{TableError}
 use Rattle.table_line.specs.declared.table_error.TableError.TheVariants.{BadFeature, BadNumber}
@@ -11,82 +13,122 @@ use Rattle.table_line.specs.declared.table_error.TableError.TheVariants.{OutOfRa
 use Rattle.table_line.specs.declared.table_error.TableError.TheVariants.{WrongCount}
 use Rattle.table_line.specs.Ranges.{IsBlockSize, IsCycle, IsLayerSpec}
 use Rattle.table_line.specs.LayerOrder.{drops_writes, top_origin, top_sectors, CanStand}
-use Rattle.table_line.specs.declared.layer_spec.LayerSpec.{LayerSpec}
-use Rattle.table_line.specs.Refusals.{refusal_of}
-use Rattle.table_line.specs.TableLines.{AreFor, IsTableLine}
+use Rattle.table_line.specs.TableLines.{line_answer}
 use Rattle.table_line.specs.Texts.{line_text}
 
--- the first test that a line fails
-abbrev refused : List ℕ → Option TableError
-refused line = refusal_of (words_of line)
+-- what a line asks for, or the first test that it fails
+abbrev answer : List ℕ → Result LayerSpec TableError
+answer line = line_answer (words_of line)
+
+-- a layer of 16 sectors
+abbrev layer : ℕ → Target → Result LayerSpec TableError
+layer offset target = Ok (record { length = 16; offset = offset; target = target })
 
 -- ---- words that ask for a layer
 
-linear : IsTableLine (words_of (codes " 0  16 linear disk 8 "))
-    (record { length = 16; offset = 8; target = targets.Linear })
-linear = record {
-  start_word = codes "0";
-  length_word = codes "16";
-  target_words = codes "disk" ∷ codes "8" ∷ [];
-  start = (refl, refl);
-  sectors = (refl, refl);
-  range = record { some = omega arith; few = omega arith };
-  asks =
-      record {
-        device_word = codes "disk";
-        offset_word = codes "8";
-        number = (refl, refl);
-        spelled = refl;
-      };
-  spelled = refl;
-}
+linear : answer (codes " 0  16 linear disk 8 ") ≡ layer 8 targets.Linear
+linear = refl
 
--- two sets of words: reads begin 1 millisecond later, and
--- writes and flushes 2; the sector may be spelled in two ways
-delays : IsTableLine (words_of (codes "0 16 delay a 08 1 a 8 2"))
-    (record { length = 16; offset = 8; target = targets.Delay 1 2 2 })
-delays = record {
-  start_word = codes "0";
-  length_word = codes "16";
-  target_words = codes "a" ∷ codes "08" ∷ codes "1" ∷ codes "a" ∷ codes "8" ∷ codes "2" ∷ [];
-  start = (refl, refl);
-  sectors = (refl, refl);
-  range = record { some = omega arith; few = omega arith };
-  asks = record {
-    device_word = codes "a";
-    delays = 1 ∷ 2 ∷ [];
-    sets = (
-      codes "a" ∷ codes "8" ∷ codes "2" ∷ [],
-      record {
-        offset_word = codes "08";
-        delay_word = codes "1";
-        number = (refl, refl);
-        delays = (refl, refl);
-        spelled = refl;
-      },
-      (
-        [],
-        record {
-          offset_word = codes "8";
-          delay_word = codes "2";
-          number = (refl, refl);
-          delays = (refl, refl);
-          spelled = refl;
-        },
-        refl,
-      ),
-    );
-    kinds = (refl, refl, refl);
-    range = record { reads = omega arith; writes = omega arith; flushes = omega arith };
-  };
-  spelled = refl;
-}
+error : answer (codes "0 16 error") ≡ layer 0 targets.Error
+error = refl
 
--- two delays aren't for three kinds
-not-three : AreFor (1 ∷ 2 ∷ []) 1 2 3 → ⊥
-not-three kinds = let last = kinds.2 in absurd (omega arith)
+flakey : answer (codes "0 16 flakey disk 8 10 5") ≡ layer 8 (targets.Flakey 10 5 features.None)
+flakey = refl
 
--- one space between two words, and no count of features where there is none
+no_features : answer (codes "0 16 flakey disk 8 10 5 0")
+    ≡ layer 8 (targets.Flakey 10 5 features.None)
+no_features = refl
+
+lying : answer (codes "0 16 flakey disk 8 10 5 1 drop_writes")
+    ≡ layer 8 (targets.Flakey 10 5 features.DropWrites)
+lying = refl
+
+fuse : answer (codes "0 16 fuse disk 8 3") ≡ layer 8 (targets.Fuse 3)
+fuse = refl
+
+dust : answer (codes "0 16 dust disk 8 512") ≡ layer 8 (targets.Dust 512)
+unfolding lib.Count.ones
+dust = refl
+
+one_delay : answer (codes "0 16 delay disk 8 1") ≡ layer 8 (targets.Delay 1 1 1)
+one_delay = refl
+
+-- the sector may be spelled in two ways
+two_delays : answer (codes "0 16 delay a 08 1 a 8 2") ≡ layer 8 (targets.Delay 1 2 2)
+two_delays = refl
+
+three_delays : answer (codes "0 16 delay a 8 1 a 8 2 a 8 3") ≡ layer 8 (targets.Delay 1 2 3)
+three_delays = refl
+
+-- ---- the tests, in their order
+
+short : answer (codes "0 16") ≡ Err WrongCount
+short = refl
+
+unknown : answer (codes "x y zero a b c d e f g") ≡ Err UnknownTarget
+unknown = refl
+
+few : answer (codes "x 16 linear disk") ≡ Err WrongCount
+few = refl
+
+half_a_set : answer (codes "0 16 delay a 0 1 a 0") ≡ Err WrongCount
+half_a_set = refl
+
+no_number : answer (codes "1 16 flakey disk 0 10 x 1 corrupt_bio_byte") ≡ Err BadNumber
+no_number = refl
+
+no_feature : answer (codes "1 0 flakey disk 0 0 0 1 corrupt_bio_byte") ≡ Err BadFeature
+no_feature = refl
+
+no_count : answer (codes "0 16 flakey disk 0 10 5 2") ≡ Err BadFeature
+no_count = refl
+
+start : answer (codes "1 16 linear disk 0") ≡ Err OutOfRange
+start = refl
+
+two_devices : answer (codes "0 16 delay a 0 1 b 0 2") ≡ Err OutOfRange
+two_devices = refl
+
+two_sectors : answer (codes "0 16 delay a 0 1 a 0 2 a 1 3") ≡ Err OutOfRange
+two_sectors = refl
+
+-- the bounds
+last_second : answer (codes "0 16 flakey disk 8 4294967294 1")
+    ≡ layer 8 (targets.Flakey 4294967294 1 features.None)
+last_second = refl
+
+past_second : answer (codes "0 16 flakey disk 8 4294967295 1") ≡ Err OutOfRange
+past_second = refl
+
+no_second : answer (codes "0 16 flakey disk 0 0 0") ≡ Err OutOfRange
+no_second = refl
+
+last_length : answer (codes "0 1048576 error")
+    ≡ Ok (record { length = 1048576; offset = 0; target = targets.Error })
+last_length = refl
+
+past_length : answer (codes "0 1048577 error") ≡ Err OutOfRange
+past_length = refl
+
+last_delay : answer (codes "0 16 delay disk 8 4294967295")
+    ≡ layer 8 (targets.Delay 4294967295 4294967295 4294967295)
+last_delay = refl
+
+past_delay : answer (codes "0 16 delay disk 8 4294967296") ≡ Err OutOfRange
+past_delay = refl
+
+-- no blocks of 256 or of 1,536 bytes
+small_block : answer (codes "0 16 dust disk 0 256") ≡ Err OutOfRange
+unfolding lib.Count.ones
+small_block = refl
+
+odd_block : answer (codes "0 16 dust disk 0 1536") ≡ Err OutOfRange
+unfolding lib.Count.ones
+odd_block = refl
+
+-- ---- the printed text
+
+-- one space between two words, and no count of features if there is none
 plain_text : line_text (record {
   length = 16;
   offset = 0;
@@ -108,89 +150,7 @@ lying_text : line_text (record {
     ++ (decimal 10 ++ (codes " " ++ (decimal 5 ++ codes " 1 drop_writes")))))))
 lying_text = refl
 
-fine : refused (codes "0 16 linear disk 8") ≡ None
-fine = refl
-
-fine_count : refused (codes "0 16 flakey disk 0 10 5 0") ≡ None
-fine_count = refl
-
--- ---- the tests, in their order
-
-short : refused (codes "0 16") ≡ Some WrongCount
-short = refl
-
-unknown : refused (codes "0 16 zero") ≡ Some UnknownTarget
-unknown = refl
-
-few : refused (codes "0 16 linear disk") ≡ Some WrongCount
-few = refl
-
-no_number : refused (codes "0 16 linear disk x") ≡ Some BadNumber
-no_number = refl
-
-no_feature : refused (codes "0 16 flakey disk 0 10 5 1 corrupt_bio_byte") ≡ Some BadFeature
-no_feature = refl
-
-no_count : refused (codes "0 16 flakey disk 0 10 5 2") ≡ Some BadFeature
-no_count = refl
-
-start : refused (codes "1 16 linear disk 0") ≡ Some OutOfRange
-start = refl
-
-no_second : refused (codes "0 16 flakey disk 0 0 0") ≡ Some OutOfRange
-no_second = refl
-
--- a target that there is none of comes before the number of words, that before a number, that
--- before a feature, and that before a range
-unknown_first : refused (codes "x y zero a b c d e f g") ≡ Some UnknownTarget
-unknown_first = refl
-
-count_first : refused (codes "x 16 linear disk") ≡ Some WrongCount
-count_first = refl
-
-number_first : refused (codes "1 16 flakey disk 0 10 x 1 corrupt_bio_byte") ≡ Some BadNumber
-number_first = refl
-
-feature_first : refused (codes "1 0 flakey disk 0 0 0 1 x") ≡ Some BadFeature
-feature_first = refl
-
--- the bounds
-last_second : refused (codes "0 16 flakey disk 0 4294967294 1") ≡ None
-last_second = refl
-
-past_second : refused (codes "0 16 flakey disk 0 4294967295 1") ≡ Some OutOfRange
-past_second = refl
-
-last_length : refused (codes "0 1048576 error") ≡ None
-last_length = refl
-
-past_length : refused (codes "0 1048577 error") ≡ Some OutOfRange
-past_length = refl
-
-one_place : refused (codes "0 16 delay a 0 1 a 0 2 a 0 3") ≡ None
-one_place = refl
-
-two_devices : refused (codes "0 16 delay a 0 1 b 0 2") ≡ Some OutOfRange
-two_devices = refl
-
-two_sectors : refused (codes "0 16 delay a 0 1 a 0 2 a 1 3") ≡ Some OutOfRange
-two_sectors = refl
-
-half_a_set : refused (codes "0 16 delay a 0 1 a 0") ≡ Some WrongCount
-half_a_set = refl
-
--- blocks of 512 bytes, but not of 256 or of 1,536
-least_block : refused (codes "0 16 dust disk 0 512") ≡ None
-unfolding lib.Count.ones
-least_block = refl
-
-small_block : refused (codes "0 16 dust disk 0 256") ≡ Some OutOfRange
-unfolding lib.Count.ones
-small_block = refl
-
-odd_block : refused (codes "0 16 dust disk 0 1536") ≡ Some OutOfRange
-unfolding lib.Count.ones
-odd_block = refl
+-- ---- ranges
 
 a-block : IsBlockSize 1024
 unfolding lib.Count.ones

@@ -3,7 +3,5 @@ pub use Rattle.refusals.specs.Words
 pub mod Ranges
 pub mod LayerOrder
 pub mod TableLines
-pub mod Refusals
 pub mod Texts
 pub mod LineLaws
-pub mod inside

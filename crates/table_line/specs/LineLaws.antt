@@ -1,89 +1,119 @@
--- Laws of the lines of a table.
-use Rattle.std.proofs.Common.{◌≡◌, ℕ, ◌^◌, ◌<◌, ◌≤◌, Bool, true, false, cond, ◌&&◌, List, [], ◌∷◌}
-use Rattle.std.proofs.Common.{◌++◌, Some, None, Result, Ok, Err, ◌⊎◌, inl, inr, refl, ap, sym, ◌∙◌}
-use Rattle.std.proofs.Common.{append_assoc, arith}
-use Rattle.std.specs.Prelude.{codes, decimal, nat_eq, IfOk}
-use Rattle.std.proofs.lemmas.Bool.{eqb-true}
+-- Laws of the lines of a table: what words ask for is in its ranges, and the text that is printed of
+-- a layer asks for it.
+use Rattle.std.proofs.Common.{◌≡◌, ℕ, ◌^◌, ◌<◌, Bool, true, false, cond, ◌&&◌, List, [], ◌∷◌}
+use Rattle.std.proofs.Common.{◌++◌, Option, Some, None, Result, Ok, Err, refl, ap, sym, subst}
+use Rattle.std.proofs.Common.{◌∙◌, append_assoc, arith, rules}
+use Rattle.std.specs.Prelude.{codes, decimal, length, ok_or, nat_eq, nat_le, option_map, IfOk}
 use Rattle.std.specs.List.{join_with_byte, AllByRecursion}
+use Rattle.std.proofs.lemmas.Bool.{and_parts, eq-eqb, eqb-true, le-leb}
 use Rattle.std.proofs.lemmas.List.{append-nil}
-use Rattle.refusals.specs.Words.{is_word, words_of}
-use Rattle.refusals.specs.WordLaws.{decimal_number, number_low}
+use Rattle.refusals.specs.Words.{is_word, number_of, words_of}
+use Rattle.refusals.specs.WordLaws.{decimal_number, number_again, number_low, number_read}
 use Rattle.refusals.specs.SplitLaws.{number_word, words_of_joined}
 use Rattle.table_line.specs.declared.feature.Feature.{Feature}
 use Rattle.table_line.specs.declared.feature.Feature.TheVariants as features
 use Rattle.table_line.specs.declared.layer_spec.LayerSpec.{LayerSpec}
 use Rattle.table_line.specs.declared.layer_spec.Target.{Target}
 use Rattle.table_line.specs.declared.layer_spec.Target.TheVariants as targets
+use Rattle.table_line.specs.declared.name.Name.{Name}
+use Rattle.table_line.specs.declared.name.Name.TheVariants as names
 use Rattle.table_line.specs.declared.table_error.TableError.{TableError}
-use Rattle.table_line.specs.Ranges.{AreDelays, IsLayerSpec, IsTargetInRange}
-use Rattle.table_line.specs.Refusals.{refusal_of}
-use Rattle.table_line.specs.TableLines.{name_of, AreFor, AreSets, IsDelay, IsFeature, IsSet}
-use Rattle.table_line.specs.TableLines.{IsTableLine, IsTarget}
-use Rattle.table_line.specs.Texts.{behind_spaces, feature_words, later_sets, line_text, line_words}
-use Rattle.table_line.specs.Texts.{set_words, target_words}
-use Rattle.table_line.specs.inside.LineParser.{read_words}
-use Rattle.table_line.specs.inside.ParserSteps.{error_of}
-use Rattle.table_line.specs.inside.LineParserLaws.{errors_read, said_again, said_read}
+use Rattle.table_line.specs.declared.table_error.TableError.TheVariants as errors
+use Rattle.table_line.specs.Ranges.{are_delays, is_in_range, is_length, is_target, AreDelays, IsLayerSpec}
+use Rattle.table_line.specs.Ranges.{IsLength, IsTargetInRange}
+use Rattle.table_line.specs.TableLines.{delay_in, feature_in, line_answer, named, offset_in, row}
+use Rattle.table_line.specs.TableLines.{◌>>=◌, has_count, has_numbers, has_ranges, if_holds, layer_of}
+use Rattle.table_line.specs.TableLines.{value_in, word_in}
+use Rattle.table_line.specs.Texts.{behind_spaces, feature_words, line_text, line_words, set_words}
+use Rattle.table_line.specs.Texts.{target_words}
 
--- words ask for one layer at most
-pub one_layer : (words : List (List ℕ)) (spec other : LayerSpec) → IsTableLine words spec
-    → IsTableLine words other → spec ≡ other
-one_layer words spec other is also =
-    let same : Ok spec ≡ Ok other = sym (said_again words spec is) ∙ said_again words other also in
-    cc
+-- ---- what is asked for is in its ranges
 
--- words ask for a layer, or fail a test
-pub asks_or_fails : (words : List (List ℕ))
-    → ((spec : LayerSpec) × IsTableLine words spec)
-    ⊎ ((error : TableError) × (refusal_of words ≡ Some error))
-asks_or_fails words = at (read_words words) refl
+-- a value is below 2 ^ 64
+value_low : (words : List (List ℕ)) (place : ℕ) → value_in words place < 2 ^ 64
+value_low words place = at (number_of (word_in words place)) refl
   where
-    at : (answer : Result LayerSpec TableError) → read_words words ≡ answer
-        → ((spec : LayerSpec) × IsTableLine words spec)
-        ⊎ ((error : TableError) × (refusal_of words ≡ Some error))
-    at (Ok spec) is = inl (spec, said_read words spec is)
-    at (Err error) is = inr (error, sym (errors_read words) ∙ ap error_of is)
+    at : (number : Option ℕ) → number_of (word_in words place) ≡ number
+        → value_in words place < 2 ^ 64
+    at None is = rw is (omega arith)
+    at (Some n) is =
+        rw is (number_low (word_in words place) n (number_read (word_in words place) n is))
 
--- words that ask for a layer fail no test
-pub asks_fails_none : (words : List (List ℕ)) (spec : LayerSpec) → IsTableLine words spec
-    → refusal_of words ≡ None
-asks_fails_none words spec is = sym (errors_read words) ∙ ap error_of (said_again words spec is)
+-- values that pass the tests of the ranges are in them
+length_read : (length : ℕ) → is_length length ≡ true → IsLength length
+length_read length is = search rules
 
--- the sector of some sets
-sets_low : (words : List (List ℕ)) (device : List ℕ) (offset : ℕ) (delays : List ℕ)
-    (read write flush : ℕ) → AreSets words device offset delays
-    → AreFor delays read write flush → offset < 2 ^ 64
-sets_low words device offset [] read write flush sets kinds = absurd kinds
-sets_low words device offset (delay ∷ delays) read write flush sets kinds =
-    let set = sets.1 in number_low set.offset_word offset set.number
+delays_read : (read write flush : ℕ) → are_delays read write flush ≡ true
+    → AreDelays read write flush
+delays_read read write flush is = search rules
 
--- what is asked for is in its range
-target_ranged : (words : List (List ℕ)) (offset : ℕ) (target : Target)
-    → IsTarget words offset target
-    → (offset < 2 ^ 64) × IsTargetInRange offset target
-target_ranged words offset targets.Linear is = (number_low is.offset_word offset is.number, tt)
-target_ranged words offset targets.Error is = let zero = is.1 in (omega arith, zero)
-target_ranged words offset (targets.Flakey up down feature) is =
-    let place = is.place in (number_low place.offset_word offset place.number, is.cycle)
-target_ranged words offset (targets.Fuse calls) is =
-    let place = is.place in
-    (number_low place.offset_word offset place.number, number_low is.calls_word calls is.number)
-target_ranged words offset (targets.Dust bytes) is =
-    let place = is.place in (number_low place.offset_word offset place.number, is.size)
-target_ranged words offset (targets.Delay read write flush) is =
-    (sets_low words is.device_word offset is.delays read write flush is.sets is.kinds, is.range)
+-- the last test
+abbrev ranged : Name → List (List ℕ) → Target → Result LayerSpec TableError
+ranged name words target =
+    if_holds (has_ranges name words (layer_of name words target)) errors.OutOfRange
+    >>= λ _. Ok (layer_of name words target)
 
-pub asks_in_range : (words : List (List ℕ)) (spec : LayerSpec) → IsTableLine words spec
+last_test : (name : Name) (words : List (List ℕ)) (target : Target)
+    → offset_in name words < 2 ^ 64
+    → (is_target target ≡ true → IsTargetInRange (offset_in name words) target)
+    → IfOk (ranged name words target) IsLayerSpec
+last_test name words target low has =
+    at (has_ranges name words (layer_of name words target)) refl
+  where
+    at : (t : Bool) → has_ranges name words (layer_of name words target) ≡ t
+        → IfOk (if_holds t errors.OutOfRange >>= λ _. Ok (layer_of name words target)) IsLayerSpec
+    at true is =
+        let tests = and_parts (nat_eq (value_in words 0) 0) _ is in
+        let fine = and_parts (is_in_range (layer_of name words target)) _ tests.1 in
+        let within = and_parts (is_length (value_in words 1)) _ fine.0 in
+        record { sectors = length_read _ within.0; place = low; has = has within.1 }
+    at false is = tt
+
+-- an answer that goes on from another
+bound : {A : Type 0} (first : Result A TableError) (next : A → Result LayerSpec TableError)
+    → ((x : A) → IfOk (next x) IsLayerSpec) → IfOk (first >>= next) IsLayerSpec
+bound (Ok x) next is = is x
+bound (Err error) next is = tt
+
+-- the target of a line with this name
+flakey_in_range : (words : List (List ℕ)) (up down : ℕ) (feature : Option Feature)
+    → IfOk (ok_or (option_map (targets.Flakey up down) feature) errors.BadFeature
+    >>= ranged names.Flakey words) IsLayerSpec
+flakey_in_range words up down None = tt
+flakey_in_range words up down (Some feature) =
+    last_test names.Flakey words (targets.Flakey up down feature) (value_low words 4)
+    (λ is. search rules)
+
+target_in_range : (name : Name) (words : List (List ℕ))
+    → IfOk (ok_or ((row name).target words) errors.BadFeature >>= ranged name words) IsLayerSpec
+target_in_range names.Linear words =
+    last_test names.Linear words targets.Linear (value_low words 4) (λ is. tt)
+target_in_range names.Error words =
+    last_test names.Error words targets.Error (omega arith) (λ is. refl)
+target_in_range names.Flakey words =
+    flakey_in_range words (value_in words 5) (value_in words 6) (feature_in words)
+target_in_range names.Fuse words =
+    last_test names.Fuse words (targets.Fuse (value_in words 5)) (value_low words 4)
+    (λ is. value_low words 5)
+target_in_range names.Dust words =
+    last_test names.Dust words (targets.Dust (value_in words 5)) (value_low words 4)
+    (λ is. search rules)
+target_in_range names.Delay words =
+    last_test names.Delay words (delay_in words) (value_low words 4) (delays_read _ _ _)
+
+pub answer_in_range : (words : List (List ℕ)) → IfOk (line_answer words) IsLayerSpec
+answer_in_range words =
+    bound (if_holds (nat_le 3 (length words)) errors.WrongCount) _ (λ _.
+    bound (ok_or (named (word_in words 2)) errors.UnknownTarget) _ (λ name.
+    bound (if_holds (has_count name words) errors.WrongCount) _ (λ _.
+    bound (if_holds (has_numbers name words) errors.BadNumber) _ (λ _.
+    target_in_range name words))))
+
+pub asked_in_range : (words : List (List ℕ)) (spec : LayerSpec) → line_answer words ≡ Ok spec
     → IsLayerSpec spec
-asks_in_range words spec is =
-    let ranged = target_ranged is.target_words spec.offset spec.target is.asks in
-    record { sectors = is.range; place = ranged.0; has = ranged.1 }
-
--- what is parsed is in its range
-pub read_in_range : (words : List (List ℕ)) (answer : Result LayerSpec TableError)
-    → answer ≡ read_words words → IfOk answer IsLayerSpec
-read_in_range words (Ok spec) is = asks_in_range words spec (said_read words spec (sym is))
-read_in_range words (Err error) is = tt
+asked_in_range words spec is =
+    subst (λ (answer : Result LayerSpec TableError). IfOk answer IsLayerSpec) is
+    (answer_in_range words)
 
 -- ---- what is printed
 
@@ -111,207 +141,118 @@ AreWords words = AllByRecursion (λ word. is_word word ≡ true) words
 decimal_word : (n : ℕ) → n < 2 ^ 64 → is_word (decimal n) ≡ true
 decimal_word n low = number_word (decimal n) n (decimal_number n low)
 
--- the words of a feature are words, and name it
-feature_are : (feature : Feature)
-    → AreWords (feature_words feature) × IsFeature (feature_words feature) feature
-feature_are features.None = (tt, inl refl)
-feature_are features.ErrorReads = ((refl, (refl, tt)), refl)
-feature_are features.ErrorWrites = ((refl, (refl, tt)), refl)
-feature_are features.DropWrites = ((refl, (refl, tt)), refl)
+-- and are read as the number that they write
+abbrev IsRead : ℕ → Type 0
+IsRead n = number_of (decimal n) ≡ Some n
 
--- the words of a set have its sector and its delay, before any other words
-set_are : (offset delay : ℕ) (more : List (List ℕ)) → offset < 2 ^ 64 → delay ≤ 4294967295
-    → AreWords more
-    → AreWords (set_words offset delay ++ more)
-    × IsSet (set_words offset delay ++ more) (codes "disk") offset delay more
-set_are offset delay more low few are =
-    let delay_low : delay < 2 ^ 64 = omega arith in (
-      (refl, (decimal_word offset low, (decimal_word delay delay_low, are))),
-      record {
-        offset_word = decimal offset;
-        delay_word = decimal delay;
-        number = decimal_number offset low;
-        delays = decimal_number delay delay_low;
-        spelled = refl;
-      },
-    )
+digits_read : (n : ℕ) → n < 2 ^ 64 → IsRead n
+digits_read n low = number_again (decimal n) n (decimal_number n low)
 
--- three sets of words are words, and have their delays
-three_printed : (offset read write flush : ℕ) → offset < 2 ^ 64 → AreDelays read write flush
-    → AreWords (set_words offset read ++ (set_words offset write ++ set_words offset flush))
-    × IsDelay (set_words offset read
-    ++ (set_words offset write ++ set_words offset flush)) offset read write flush
-three_printed offset read write flush low are =
-    let last = set_are offset flush [] low are.flushes tt in
-    let later = set_are offset write (set_words offset flush) low are.writes last.0 in
-    let first =
-    set_are offset read (set_words offset write
-    ++ set_words offset flush) low are.reads later.0 in (
-      first.0,
-      record {
-        device_word = codes "disk";
-        delays = read ∷ write ∷ flush ∷ [];
-        sets = (_, first.1, (_, later.1, (_, last.1, refl)));
-        kinds = (refl, refl, refl);
-        range = are;
-      },
-    )
+-- the words of a feature are words
+feature_are : (feature : Feature) → AreWords (feature_words feature)
+feature_are features.None = tt
+feature_are features.ErrorReads = (refl, (refl, tt))
+feature_are features.ErrorWrites = (refl, (refl, tt))
+feature_are features.DropWrites = (refl, (refl, tt))
 
--- the words of a delay device are words, and have its delays
-delays_printed : (offset read write flush : ℕ) (t u : Bool) → offset < 2 ^ 64
-    → AreDelays read write flush → (t ≡ true → read ≡ write)
-    → (u ≡ true → write ≡ flush)
+-- the words of the sets of a delay line
+sets_are : (offset read write flush : ℕ) (t u : Bool) → offset < 2 ^ 64
+    → AreDelays read write flush
     → AreWords (set_words offset read
     ++ cond (t && u) [] (set_words offset write ++ cond u [] (set_words offset flush)))
-    × IsDelay (set_words offset read
-    ++ cond (t && u) [] (set_words offset write
-    ++ cond u [] (set_words offset flush))) offset read write flush
-delays_printed offset read write flush true true low are one two =
-    let first = set_are offset read [] low are.reads tt in (
-      first.0,
-      record {
-        device_word = codes "disk";
-        delays = read ∷ [];
-        sets = ([], first.1, refl);
-        kinds = (refl, sym (one refl), sym (one refl ∙ two refl));
-        range = are;
-      },
-    )
-delays_printed offset read write flush false true low are one two =
-    let later = set_are offset write [] low are.writes tt in
-    let first = set_are offset read (set_words offset write ++ []) low are.reads later.0 in (
-      first.0,
-      record {
-        device_word = codes "disk";
-        delays = read ∷ write ∷ [];
-        sets = (_, first.1, (_, later.1, refl));
-        kinds = (refl, refl, sym (two refl));
-        range = are;
-      },
-    )
-delays_printed offset read write flush true false low are one two =
-    three_printed offset read write flush low are
-delays_printed offset read write flush false false low are one two =
-    three_printed offset read write flush low are
+sets_are offset read write flush true true low are = search (rules, decimal_word)
+sets_are offset read write flush false true low are = search (rules, decimal_word)
+sets_are offset read write flush true false low are = search (rules, decimal_word)
+sets_are offset read write flush false false low are = search (rules, decimal_word) depth 12
 
--- how a target is printed: its name, and words that ask for it
-record IsPrinted (offset : ℕ) (target : Target) : Type 0 where
-  behind : List (List ℕ)
-  are : AreWords (target_words offset target)
-  asks : IsTarget behind offset target
-  spelled : target_words offset target ≡ name_of target ∷ behind
+-- the words of a target
+target_are : (offset : ℕ) (target : Target) → offset < 2 ^ 64 → IsTargetInRange offset target
+    → AreWords (target_words offset target)
+target_are offset targets.Linear low has = search (rules, decimal_word)
+target_are offset targets.Error low has = search (rules, decimal_word)
+target_are offset (targets.Flakey up down feature) low has =
+    search (rules, decimal_word, feature_are)
+target_are offset (targets.Fuse calls) low has = search (rules, decimal_word)
+target_are offset (targets.Dust bytes) low has = search (rules, decimal_word)
+target_are offset (targets.Delay read write flush) low has =
+    (refl, sets_are offset read write flush (nat_eq read write) (nat_eq write flush) low has)
 
-target_printed : (offset : ℕ) (target : Target) → offset < 2 ^ 64 → IsTargetInRange offset target
-    → IsPrinted offset target
-target_printed offset targets.Linear low has = record {
-  behind = codes "disk" ∷ decimal offset ∷ [];
-  are = (refl, (refl, (decimal_word offset low, tt)));
-  asks =
-      record {
-        device_word = codes "disk";
-        offset_word = decimal offset;
-        number = decimal_number offset low;
-        spelled = refl;
-      };
-  spelled = refl;
-}
-target_printed offset targets.Error low has =
-    record { behind = []; are = (refl, tt); asks = (refl, has); spelled = refl }
-target_printed offset (targets.Flakey up down feature) low has =
-    let up_low : up < 2 ^ 64 = (let few = has.few in omega arith) in
-    let down_low : down < 2 ^ 64 = (let few = has.few in omega arith) in
-    record {
-      behind = codes "disk" ∷ decimal offset ∷ decimal up ∷ decimal down ∷ feature_words feature;
-      are = (
-        refl,
-        (
-          refl,
-          (
-            decimal_word offset low,
-            (decimal_word up up_low, (decimal_word down down_low, (feature_are feature).0)),
-          ),
-        ),
-      );
-      asks = record {
-        up_word = decimal up;
-        down_word = decimal down;
-        feature_words = feature_words feature;
-        place =
-            record {
-              device_word = codes "disk";
-              offset_word = decimal offset;
-              number = decimal_number offset low;
-              spelled = refl;
-            };
-        up_number = decimal_number up up_low;
-        down_number = decimal_number down down_low;
-        cycle = has;
-        named = (feature_are feature).1;
-      };
-      spelled = refl;
-    }
-target_printed offset (targets.Fuse calls) low has = record {
-  behind = codes "disk" ∷ decimal offset ∷ decimal calls ∷ [];
-  are = (refl, (refl, (decimal_word offset low, (decimal_word calls has, tt))));
-  asks = record {
-    calls_word = decimal calls;
-    place =
-        record {
-          device_word = codes "disk";
-          offset_word = decimal offset;
-          number = decimal_number offset low;
-          spelled = refl;
-        };
-    number = decimal_number calls has;
-  };
-  spelled = refl;
-}
-target_printed offset (targets.Dust bytes) low has =
-    let bytes_low : bytes < 2 ^ 64 = (let few = has.few in omega arith) in
-    record {
-      behind = codes "disk" ∷ decimal offset ∷ decimal bytes ∷ [];
-      are = (refl, (refl, (decimal_word offset low, (decimal_word bytes bytes_low, tt))));
-      asks = record {
-        bytes_word = decimal bytes;
-        place =
-            record {
-              device_word = codes "disk";
-              offset_word = decimal offset;
-              number = decimal_number offset low;
-              spelled = refl;
-            };
-        number = decimal_number bytes bytes_low;
-        size = has;
-      };
-      spelled = refl;
-    }
-target_printed offset (targets.Delay read write flush) low has =
-    let printed =
-    delays_printed offset read write flush (nat_eq read write) (nat_eq write flush) low has
-    (eqb-true _ _) (eqb-true _ _) in
-    record {
-      behind = set_words offset read ++ later_sets offset read write flush;
-      are = (refl, printed.0);
-      asks = printed.1;
-      spelled = refl;
-    }
+-- a layer in its ranges passes the tests of the ranges
+length_passes : (length : ℕ) → IsLength length → is_length length ≡ true
+length_passes length is = search rules
+
+target_passes : (offset : ℕ) (target : Target) → IsTargetInRange offset target
+    → is_target target ≡ true
+target_passes offset targets.Linear is = refl
+target_passes offset targets.Error is = refl
+target_passes offset (targets.Flakey up down feature) is = search rules
+target_passes offset (targets.Fuse calls) is = refl
+target_passes offset (targets.Dust bytes) is = search rules
+target_passes offset (targets.Delay read write flush) is = search rules
+
+-- the words ask for the layer
+abbrev Asks : ℕ → ℕ → Target → List (List ℕ) → Type 0
+Asks sectors offset target words =
+    line_answer (codes "0" ∷ decimal sectors ∷ words)
+    ≡ Ok (record { length = sectors; offset = offset; target = target })
+
+flakey_asked : (sectors offset up down : ℕ) (feature : Feature) → IsRead sectors → IsRead offset
+    → IsRead up → IsRead down → is_length sectors ≡ true
+    → is_target (targets.Flakey up down feature) ≡ true
+    → Asks sectors offset (targets.Flakey up down feature)
+    (target_words offset (targets.Flakey up down feature))
+flakey_asked sectors offset up down features.None a b c d e f = rw (a, b, c, d, e, f) refl
+flakey_asked sectors offset up down features.ErrorReads a b c d e f = rw (a, b, c, d, e, f) refl
+flakey_asked sectors offset up down features.ErrorWrites a b c d e f = rw (a, b, c, d, e, f) refl
+flakey_asked sectors offset up down features.DropWrites a b c d e f = rw (a, b, c, d, e, f) refl
+
+-- the sets of a delay line, as few as its delays need
+delay_asked : (sectors offset read write flush : ℕ) (t u : Bool) → IsRead sectors → IsRead offset
+    → IsRead read → IsRead write → IsRead flush → is_length sectors ≡ true
+    → AreDelays read write flush → (t ≡ true → read ≡ write) → (u ≡ true → write ≡ flush)
+    → Asks sectors offset (targets.Delay read write flush) (codes "delay" ∷ set_words offset read
+    ++ cond (t && u) [] (set_words offset write ++ cond u [] (set_words offset flush)))
+delay_asked sectors offset read write flush true true a b c d e f has one two =
+    let r = le-leb _ _ has.reads in
+    let first = one refl in
+    let last = two refl in rw (a, b, c, f, r) cc
+delay_asked sectors offset read write flush false true a b c d e f has one two =
+    let r = le-leb _ _ has.reads in
+    let w = le-leb _ _ has.writes in
+    let same = eq-eqb offset offset refl in
+    let last = two refl in rw (a, b, c, d, f, same, r, w) cc
+delay_asked sectors offset read write flush true false a b c d e f has one two =
+    let passes = target_passes offset (targets.Delay read write flush) has in
+    let same = eq-eqb offset offset refl in rw (a, b, c, d, e, f, same, passes) refl
+delay_asked sectors offset read write flush false false a b c d e f has one two =
+    let passes = target_passes offset (targets.Delay read write flush) has in
+    let same = eq-eqb offset offset refl in rw (a, b, c, d, e, f, same, passes) refl
+
+target_asked : (sectors offset : ℕ) (target : Target) → IsRead sectors → IsRead offset
+    → is_length sectors ≡ true → is_target target ≡ true → IsTargetInRange offset target
+    → Asks sectors offset target (target_words offset target)
+target_asked sectors offset targets.Linear a b e f has = rw (a, b, e) refl
+target_asked sectors offset targets.Error a b e f has = rw (a, e) (let zero = has in cc)
+target_asked sectors offset (targets.Flakey up down feature) a b e f has =
+    flakey_asked sectors offset up down feature a b (digits_read up (omega arith))
+    (digits_read down (omega arith)) e f
+target_asked sectors offset (targets.Fuse calls) a b e f has =
+    rw (a, b, digits_read calls has, e) refl
+target_asked sectors offset (targets.Dust bytes) a b e f has =
+    rw (a, b, digits_read bytes (omega arith), e, f) refl
+target_asked sectors offset (targets.Delay read write flush) a b e f has =
+    delay_asked sectors offset read write flush (nat_eq read write) (nat_eq write flush) a b
+    (digits_read read (omega arith)) (digits_read write (omega arith))
+    (digits_read flush (omega arith)) e has (eqb-true _ _) (eqb-true _ _)
 
 -- the text that is printed of a layer asks for it
 pub printed_again : (spec : LayerSpec) → IsLayerSpec spec
-    → IsTableLine (words_of (line_text spec)) spec
+    → line_answer (words_of (line_text spec)) ≡ Ok spec
 printed_again spec is =
     let sectors = is.sectors in
     let low : spec.length < 2 ^ 64 = (let few = sectors.few in omega arith) in
-    let printed = target_printed spec.offset spec.target is.place is.has in
-    record {
-      start_word = codes "0";
-      length_word = decimal spec.length;
-      target_words = printed.behind;
-      start = (refl, refl);
-      sectors = decimal_number spec.length low;
-      range = sectors;
-      asks = printed.asks;
-      spelled =
-          words_of_joined (line_words spec) (refl, (decimal_word spec.length low, printed.are))
-          ∙ ap (λ (xs : List (List ℕ)). codes "0" ∷ decimal spec.length ∷ xs) printed.spelled;
-    }
+    ap line_answer (words_of_joined (line_words spec)
+    (refl, (decimal_word spec.length low, target_are spec.offset spec.target is.place is.has)))
+    ∙ target_asked spec.length spec.offset spec.target (digits_read spec.length low)
+    (digits_read spec.offset is.place) (length_passes spec.length sectors)
+    (target_passes spec.offset spec.target is.has) is.has

@@ -1,111 +1,207 @@
--- Which words ask for which layer.
-use Rattle.std.specs.Prelude.{◌≡◌, ◌⊎◌, ℕ, List, [], ◌∷◌, codes}
-use Rattle.refusals.specs.Words.{IsNumber}
+-- What the words of a table line ask for: `row` has a row for each target, and `line_answer` tests
+-- the words by these rows.
+use Rattle.std.specs.Prelude.{ℕ, ◌+◌, Bool, true, false, ◌&&◌, ◌||◌, List, [], ◌∷◌, Option, Some}
+use Rattle.std.specs.Prelude.{None, Result, Ok, Err, codes, is_none, is_some, length, nat_eq, nat_le}
+use Rattle.std.specs.Prelude.{ok_or, option_map, slice_get, unwrap_or, if◌then◌else◌}
+use Rattle.std.specs.List.{list_all, list_any}
+use Rattle.std.specs.Str.{bytes_eq}
+use Rattle.refusals.specs.declared.refusal.Refusal.{Refusal}
+use Rattle.refusals.specs.declared.refusal.Refusal.TheVariants as refusals
+use Rattle.refusals.specs.Words.{number_of}
 use Rattle.table_line.specs.declared.feature.Feature.{Feature}
 use Rattle.table_line.specs.declared.feature.Feature.TheVariants as features
 use Rattle.table_line.specs.declared.layer_spec.LayerSpec.{LayerSpec}
 use Rattle.table_line.specs.declared.layer_spec.Target.{Target}
 use Rattle.table_line.specs.declared.layer_spec.Target.TheVariants as targets
-use Rattle.table_line.specs.Ranges.{AreDelays, IsBlockSize, IsCycle, IsLength}
+use Rattle.table_line.specs.declared.name.Name.{Name}
+use Rattle.table_line.specs.declared.name.Name.TheVariants as names
+use Rattle.table_line.specs.declared.table_error.TableError.{TableError}
+use Rattle.table_line.specs.declared.table_error.TableError.TheVariants as errors
+use Rattle.table_line.specs.Ranges.{is_in_range}
 
--- the name of a target
-abbrev pub name_of : Target → List ℕ
-name_of targets.Linear = codes "linear"
-name_of targets.Error = codes "error"
-name_of (targets.Flakey up down feature) = codes "flakey"
-name_of (targets.Fuse calls) = codes "fuse"
-name_of (targets.Dust bytes) = codes "dust"
-name_of (targets.Delay read write flush) = codes "delay"
+-- ---- the words of a line by their places, which are counted from 0
 
--- the words of a feature: their count, and its name; no feature may also have no words
-abbrev pub IsFeature : List (List ℕ) → Feature → Type 0
-IsFeature words features.None = (words ≡ []) ⊎ (words ≡ codes "0" ∷ [])
-IsFeature words features.ErrorReads = words ≡ codes "1" ∷ codes "error_reads" ∷ []
-IsFeature words features.ErrorWrites = words ≡ codes "1" ∷ codes "error_writes" ∷ []
-IsFeature words features.DropWrites = words ≡ codes "1" ∷ codes "drop_writes" ∷ []
+-- the word at a place, or an empty one
+abbrev pub word_in : List (List ℕ) → ℕ → List ℕ
+word_in words place = unwrap_or (slice_get words place) []
 
--- a device, named by any word, and a sector of it
-pub record IsPlace (words : List (List ℕ)) (offset : ℕ) (more : List (List ℕ)) : Type 0 where
-  pub device_word : List ℕ
-  pub offset_word : List ℕ
-  pub number : IsNumber offset_word offset
-  pub spelled : words ≡ device_word ∷ offset_word ∷ more
+-- the word at a place is a number
+abbrev pub has_number : List (List ℕ) → ℕ → Bool
+has_number words place = is_some (number_of (word_in words place))
 
--- a place, the seconds up and down, and a feature
-pub record IsFlakey (words : List (List ℕ)) (offset up down : ℕ) (feature : Feature) : Type 0 where
-  pub up_word : List ℕ
-  pub down_word : List ℕ
-  pub feature_words : List (List ℕ)
-  pub place : IsPlace words offset (up_word ∷ down_word ∷ feature_words)
-  pub up_number : IsNumber up_word up
-  pub down_number : IsNumber down_word down
-  pub cycle : IsCycle up down
-  pub named : IsFeature feature_words feature
+-- the number at a place, or 0 if the word there is none
+abbrev pub value_in : List (List ℕ) → ℕ → ℕ
+value_in words place = unwrap_or (number_of (word_in words place)) 0
 
--- a place, and a number of calls
-pub record IsFuse (words : List (List ℕ)) (offset calls : ℕ) : Type 0 where
-  pub calls_word : List ℕ
-  pub place : IsPlace words offset (calls_word ∷ [])
-  pub number : IsNumber calls_word calls
+-- ---- the words after a flakey line's seconds
 
--- a place, and the bytes of a block
-pub record IsDust (words : List (List ℕ)) (offset bytes : ℕ) : Type 0 where
-  pub bytes_word : List ℕ
-  pub place : IsPlace words offset (bytes_word ∷ [])
-  pub number : IsNumber bytes_word bytes
-  pub size : IsBlockSize bytes
+-- the feature of this name
+abbrev pub feature_named : List ℕ → Option Feature
+feature_named name =
+    if bytes_eq name (codes "error_reads") then Some features.ErrorReads
+    else if bytes_eq name (codes "error_writes") then Some features.ErrorWrites
+    else if bytes_eq name (codes "drop_writes") then Some features.DropWrites
+    else None
 
--- one set of words: a device, a sector there, and a delay
-pub record IsSet (words : List (List ℕ)) (device : List ℕ) (offset delay : ℕ)
-    (more : List (List ℕ)) : Type 0 where
-  pub offset_word : List ℕ
-  pub delay_word : List ℕ
-  pub number : IsNumber offset_word offset
-  pub delays : IsNumber delay_word delay
-  pub spelled : words ≡ device ∷ offset_word ∷ delay_word ∷ more
+-- the feature with this count and this name: no count, the count 0, or the count 1 and a name
+abbrev pub feature_of : Option (List ℕ) → Option (List ℕ) → Option Feature
+feature_of None name = Some features.None
+feature_of (Some count) None = if bytes_eq count (codes "0") then Some features.None else None
+feature_of (Some count) (Some name) =
+    if bytes_eq count (codes "1") then feature_named name else None
 
--- sets of words, one after another, with these delays; all name one device and one sector of it
-abbrev pub AreSets : List (List ℕ) → List ℕ → ℕ → List ℕ → Type 0
-AreSets words device offset [] = words ≡ []
-AreSets words device offset (delay ∷ delays) =
-    (more : List (List ℕ)) × IsSet words device offset delay more
-    × AreSets more device offset delays
+abbrev pub feature_in : List (List ℕ) → Option Feature
+feature_in words = feature_of (slice_get words 7) (slice_get words 8)
 
--- One delay is for all calls. Two delays are for reads, and for writes and flushes. Three are for
--- reads, for writes, and for flushes.
-abbrev pub AreFor : List ℕ → ℕ → ℕ → ℕ → Type 0
-AreFor [] read write flush = ⊥
-AreFor (all ∷ []) read write flush = (read ≡ all) × (write ≡ all) × (flush ≡ all)
-AreFor (reads ∷ others ∷ []) read write flush = (read ≡ reads) × (write ≡ others) × (flush ≡ others)
-AreFor (reads ∷ writes ∷ flushes ∷ []) read write flush =
-    (read ≡ reads) × (write ≡ writes) × (flush ≡ flushes)
-AreFor (reads ∷ writes ∷ flushes ∷ more ∷ delays) read write flush = ⊥
+-- ---- the sets of a delay line: a device, a sector of it, and a delay
 
--- one to three sets of words, and the calls that their delays are for
-pub record IsDelay (words : List (List ℕ)) (offset read write flush : ℕ) : Type 0 where
-  pub device_word : List ℕ
-  pub delays : List ℕ
-  pub sets : AreSets words device_word offset delays
-  pub kinds : AreFor delays read write flush
-  pub range : AreDelays read write flush
+-- the delay of the set from `place` on, or `before` if there is no such set
+abbrev pub later_delay : List (List ℕ) → ℕ → ℕ → ℕ
+later_delay words place before =
+    if is_none (slice_get words place) then before else value_in words (place + 2)
 
--- the words after a target's name give the place that it is mapped to, and the target's values
-abbrev pub IsTarget : List (List ℕ) → ℕ → Target → Type 0
-IsTarget words offset targets.Linear = IsPlace words offset []
-IsTarget words offset targets.Error = (words ≡ []) × (offset ≡ 0)
-IsTarget words offset (targets.Flakey up down feature) = IsFlakey words offset up down feature
-IsTarget words offset (targets.Fuse calls) = IsFuse words offset calls
-IsTarget words offset (targets.Dust bytes) = IsDust words offset bytes
-IsTarget words offset (targets.Delay read write flush) = IsDelay words offset read write flush
+-- the first set's delay is for all calls, the second's for writes and flushes, and the third's for
+-- flushes
+abbrev pub delay_in : List (List ℕ) → Target
+delay_in words =
+    let read = value_in words 5 in
+    let write = later_delay words 6 read in
+    targets.Delay read write (later_delay words 9 write)
 
--- the words ask for this layer: the start, which is 0, the number of sectors, the target's name,
--- and the target's words
-pub record IsTableLine (words : List (List ℕ)) (spec : LayerSpec) : Type 0 where
-  pub start_word : List ℕ
-  pub length_word : List ℕ
-  pub target_words : List (List ℕ)
-  pub start : IsNumber start_word 0
-  pub sectors : IsNumber length_word spec.length
-  pub range : IsLength spec.length
-  pub asks : IsTarget target_words spec.offset spec.target
-  pub spelled : words ≡ start_word ∷ length_word ∷ name_of spec.target ∷ target_words
+-- the set from `place` on, if there is one, names the first set's device and sector
+abbrev pub is_same_place : List (List ℕ) → ℕ → Bool
+is_same_place words place =
+    is_none (slice_get words place)
+    || (bytes_eq (word_in words 3) (word_in words place)
+    && nat_eq (value_in words 4) (value_in words (place + 1)))
+
+-- ---- the rows
+
+-- A line of a target: its third word, the numbers of words that it may have, the places of its
+-- numbers if it has `count` words, and the target that its words ask for, if its feature is in the
+-- table. The first two numbers are the start and the length.
+pub record Row : Type 0 where
+  pub word : List ℕ
+  pub counts : List ℕ
+  pub places : ℕ → List ℕ
+  pub target : List (List ℕ) → Option Target
+
+abbrev pub row : Name → Row
+-- `0 <length> linear <dev> <offset>`
+row names.Linear = record {
+  word = codes "linear";
+  counts = 5 ∷ [];
+  places = λ count. 0 ∷ 1 ∷ 4 ∷ [];
+  target = λ words. Some targets.Linear;
+}
+-- `0 <length> error`
+row names.Error = record {
+  word = codes "error";
+  counts = 3 ∷ [];
+  places = λ count. 0 ∷ 1 ∷ [];
+  target = λ words. Some targets.Error;
+}
+-- `0 <length> flakey <dev> <offset> <up> <down>`, and then `0`, or `1 <feature>`
+row names.Flakey = record {
+  word = codes "flakey";
+  counts = 7 ∷ 8 ∷ 9 ∷ [];
+  places = λ count. 0 ∷ 1 ∷ 4 ∷ 5 ∷ 6 ∷ [];
+  target = λ words.
+      option_map (targets.Flakey (value_in words 5) (value_in words 6)) (feature_in words);
+}
+-- `0 <length> fuse <dev> <offset> <calls>`
+row names.Fuse = record {
+  word = codes "fuse";
+  counts = 6 ∷ [];
+  places = λ count. 0 ∷ 1 ∷ 4 ∷ 5 ∷ [];
+  target = λ words. Some (targets.Fuse (value_in words 5));
+}
+-- `0 <length> dust <dev> <offset> <blksz>`
+row names.Dust = record {
+  word = codes "dust";
+  counts = 6 ∷ [];
+  places = λ count. 0 ∷ 1 ∷ 4 ∷ 5 ∷ [];
+  target = λ words. Some (targets.Dust (value_in words 5));
+}
+-- `0 <length> delay <dev> <offset> <ms>`, and then `<dev> <offset> <ms>` once or twice
+row names.Delay = record {
+  word = codes "delay";
+  counts = 6 ∷ 9 ∷ 12 ∷ [];
+  places = λ count.
+      if nat_eq count 6 then 0 ∷ 1 ∷ 4 ∷ 5 ∷ []
+      else if nat_eq count 9 then 0 ∷ 1 ∷ 4 ∷ 5 ∷ 7 ∷ 8 ∷ []
+      else 0 ∷ 1 ∷ 4 ∷ 5 ∷ 7 ∷ 8 ∷ 10 ∷ 11 ∷ [];
+  target = λ words. Some (delay_in words);
+}
+
+-- the sector of the device below; an error line names no sector
+abbrev pub offset_in : Name → List (List ℕ) → ℕ
+offset_in names.Error words = 0
+offset_in name words = value_in words 4
+
+-- all sets of a delay line name one device and one sector of it
+abbrev pub has_one_place : Name → List (List ℕ) → Bool
+has_one_place names.Delay words = is_same_place words 6 && is_same_place words 9
+has_one_place name words = true
+
+-- the target that a word names
+abbrev pub named : List ℕ → Option Name
+named word =
+    if bytes_eq word (row names.Linear).word then Some names.Linear
+    else if bytes_eq word (row names.Error).word then Some names.Error
+    else if bytes_eq word (row names.Flakey).word then Some names.Flakey
+    else if bytes_eq word (row names.Fuse).word then Some names.Fuse
+    else if bytes_eq word (row names.Dust).word then Some names.Dust
+    else if bytes_eq word (row names.Delay).word then Some names.Delay
+    else None
+
+-- ---- the tests
+
+-- goes on with the value of an answer that is no error
+infixl 10 ◌>>=◌
+abbrev pub ◌>>=◌ : {A B : Type 0} → Result A TableError → (A → Result B TableError)
+    → Result B TableError
+(Ok x) >>= f = f x
+(Err error) >>= f = Err error
+
+-- goes on if the test holds
+abbrev pub if_holds : Bool → TableError → Result (Unit {0}) TableError
+if_holds true error = Ok tt
+if_holds false error = Err error
+
+-- the line has as many words as a line with this name may have
+abbrev pub has_count : Name → List (List ℕ) → Bool
+has_count name words = list_any (nat_eq (length words)) (row name).counts
+
+-- its words at the places of numbers are numbers
+abbrev pub has_numbers : Name → List (List ℕ) → Bool
+has_numbers name words = list_all (has_number words) ((row name).places (length words))
+
+-- the layer with this target that the line asks for
+abbrev pub layer_of : Name → List (List ℕ) → Target → LayerSpec
+layer_of name words target =
+    record { length = value_in words 1; offset = offset_in name words; target = target }
+
+-- the start is 0, the layer's values are in their ranges, and the line names one place
+abbrev pub has_ranges : Name → List (List ℕ) → LayerSpec → Bool
+has_ranges name words spec =
+    nat_eq (value_in words 0) 0 && (is_in_range spec && has_one_place name words)
+
+-- the layer that a line's words ask for, or the error of the first test that they fail
+abbrev pub line_answer : List (List ℕ) → Result LayerSpec TableError
+line_answer words = do
+  _ ← if_holds (nat_le 3 (length words)) errors.WrongCount
+  name ← ok_or (named (word_in words 2)) errors.UnknownTarget
+  _ ← if_holds (has_count name words) errors.WrongCount
+  _ ← if_holds (has_numbers name words) errors.BadNumber
+  target ← ok_or ((row name).target words) errors.BadFeature
+  _ ← if_holds (has_ranges name words (layer_of name words target)) errors.OutOfRange
+  Ok (layer_of name words target)
+
+-- the refusal that is shown for a line's error
+abbrev pub table_refusal : TableError → Refusal
+table_refusal errors.UnknownTarget = refusals.UnknownTarget
+table_refusal errors.WrongCount = refusals.WrongCount
+table_refusal errors.BadNumber = refusals.BadNumber
+table_refusal errors.OutOfRange = refusals.OutOfRange
+table_refusal errors.BadFeature = refusals.BadFeature

@@ -1,9 +1,8 @@
 //! The lines of a table of Linux's device mapper. Each asks for one layer over a device.
 //!
 //! `parse_line` parses a line, or returns the first error in it. `push_line` prints the canonical
-//! text of a layer. `specs/TableLines` defines which words ask for which layer, as a relation.
-//! `specs/Refusals` is the table of the tests that a line has to pass, in their order. A new target
-//! is a case of `Target` and of `Name`, of `IsTarget` and of the tests.
+//! text of a layer. `specs/TableLines` defines what a line's words ask for: a row for each target,
+//! and the tests in their order. A new target is a case of `Target` and of `Name`, and a row.
 #![tactic(auto)]
 
 pub use feature::Feature;

@@ -1,8 +1,7 @@
 -- The meaning of a line, as the reader finds it. `Grammar` defines it in terms of the grammar; the
 -- two agree by proof.
-use Rattle.std.specs.Prelude.{◌≡◌, ◌⊎◌, ℕ, ◌==◌, Bool, true, false, List, [], ◌∷◌, Option, Some}
-use Rattle.std.specs.Prelude.{None, Result, Ok, Err, codes, if◌then◌else◌}
-use Rattle.std.proofs.Common.{inl, inr}
+use Rattle.std.specs.Prelude.{ℕ, ◌==◌, Bool, true, false, List, [], ◌∷◌, Option, Some}
+use Rattle.std.specs.Prelude.{None, codes, if◌then◌else◌}
 use Rattle.std.specs.List.{slice_split}
 use Rattle.std.specs.Option.{option_map, option_or}
 use Rattle.std.specs.Str.{bytes_eq}
@@ -22,11 +21,7 @@ use Rattle.dmlw_script.specs.declared.command.Step.TheVariants as steps
 use Rattle.dmlw_script.specs.declared.script_id.ScriptId.{ScriptId}
 use Rattle.dmlw_script.specs.Words.{byte_of}
 use Rattle.refusals.specs.Words.{before_byte, after_byte, number_of, words_of}
-use Rattle.table_line.specs.declared.layer_spec.LayerSpec.{LayerSpec}
-use Rattle.table_line.specs.declared.table_error.TableError.{TableError}
-use Rattle.table_line.specs.LineLaws.{asks_or_fails}
-use Rattle.table_line.specs.Refusals.{refusal_of}
-use Rattle.table_line.specs.TableLines.{IsTableLine}
+use Rattle.table_line.specs.TableLines.{line_answer}
 use Rattle.dmlw_script.specs.Ids.{id_of_word}
 use Rattle.dmlw_script.specs.Lines.{is_line_text}
 use Rattle.dmlw_script.specs.declared.command.WriteOptions.{WriteOptions}
@@ -133,20 +128,9 @@ body_words verb words =
     (number_of words)
     else None
 
--- the layer that words ask for, or the test that they fail
-abbrev pub asked_from : {words : List (List ℕ)}
-    → ((spec : LayerSpec) × IsTableLine words spec)
-    ⊎ ((error : TableError) × (refusal_of words ≡ Some error)) → Result LayerSpec TableError
-asked_from (inl asks) = Ok asks.0
-asked_from (inr fails) = Err fails.0
-
--- the layer that a table line asks for
-abbrev pub asked_of : List ℕ → Result LayerSpec TableError
-asked_of text = asked_from (asks_or_fails (words_of text))
-
 -- the line of a layer over this disk, with this table line
 abbrev pub layer_of : DiskName → List ℕ → HeadLine
-layer_of over text = head_lines.Layer over (asked_of text)
+layer_of over text = head_lines.Layer over (line_answer (words_of text))
 
 -- the size of a log's sectors that a word gives, or 512 bytes if there is none
 abbrev pub size_of : Option (List ℕ) → Option SectorSize

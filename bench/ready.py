@@ -4,16 +4,24 @@
   bench/ready.py [--count]
         Says which files `rt fmt` would change (the gate refuses their crate whole), which edits, of must-fail/ and of planted.txt, name a text that isn't once in its
         file, which edits have no entry in their crate's planted.txt, and if docs/lab/PLANTED.md has other counts than there are. --count writes the counts.
-        Says also where docs/HEADLINE.md isn't what bench/headline.py writes, which places the documents cite that aren't there, which files have no head, which cite what
-        another crate has in proofs/ or specs/inside/, and if release/ is there and isn't of the tree at hand (bench/release.py).
+        Says also where docs/HEADLINE.md isn't what bench/headline.py writes, which places the documents cite that aren't there, which definitions docs/ARCHITECTURE.md
+        explains that aren't in the file that it names, which files have no head, which cite what another crate has in proofs/ or specs/inside/, and if release/ is there
+        and isn't of the tree at hand (bench/release.py).
+        Warns of house words in the comments and pages that changed since origin/main (else since the last commit), of sentences of over 25 words in the documents,
+        and of documents of over 40,000 words. Warnings leave the exit status.
 
 The repository's files stay as they are, but for the counts. It needs the kit's `rt` on the PATH.
 """
-import glob, os, re, shutil, subprocess, sys, tempfile
+import collections, glob, os, re, shutil, subprocess, sys, tempfile
 
 import planted, release
 
 root = os.path.dirname(os.path.dirname(os.path.abspath(__file__)))
+# Words that a reader has to translate: what is meant is a count, `is`, `only`, `if`, `reported`, `after`, `with`, `below`, the result, a prefix, a header.
+HOUSE_WORDS = re.compile(r"\b(so many|stands?|stood|standing|alone|just|where|tells?|told|said|hears?|heard|behind|beside|beneath|comes? to|came to|what comes out"
+                         r"|hand(?:s|ed)? (?:over|back)|beginnings?|own sectors?|(?:a|no) clause says|one spelling|want of memory|growths?)\b", re.I)
+LONGEST = 25
+MOST_WORDS = 40_000
 
 
 def text_of(path):
@@ -57,8 +65,7 @@ def edits_off(edits):
 
 def cited():
     """Places of this repository that its documents name, and that aren't there."""
-    pages = [*glob.glob(f"{root}/*.md"), *glob.glob(f"{root}/docs/**/*.md", recursive=True), *glob.glob(f"{root}/crates/*/README.md")]
-    for page in sorted(pages):
+    for page in [*pages(), f"{root}/docs/lab/PLANTED.md"]:
         for place in sorted(set(re.findall(r"\b((?:crates|docs|bench|examples)/[\w./-]*[\w/])", text_of(page)))):
             bare = place.rstrip(".")
             if not any(os.path.exists(f"{root}/{bare}{end}") for end in ("", ".antt", ".rt")) and not re.search(r"/NAME\b|/out\b", bare):
@@ -79,6 +86,76 @@ def sources_off():
                     yield f"{os.path.relpath(file, root)}: cites {place} of {name}"
 
 
+def words_off():
+    """Definitions that docs/ARCHITECTURE.md explains, and that aren't in the file that it names."""
+    page = text_of(f"{root}/docs/ARCHITECTURE.md").split("## The words of the contracts")[1].replace("\n  ", " ")
+    crates = []
+    for line in page.split("\n"):
+        if re.fullmatch(r"(`\w+`(, )?)+:", line):
+            crates = re.findall(r"\w+", line)
+        for names, files in re.findall(r"((?:`\w+`(?:, )?)+) \(((?:`\w+`(?:, )?)+)\)", line if line.startswith("- ") else ""):
+            places = [f"{root}/crates/{crate}/specs/{file}.antt" for crate in crates for file in re.findall(r"\w+", files)]
+            text = "".join(text_of(it) for it in places if os.path.exists(it))
+            for name in re.findall(r"\w+", names):
+                if not re.search(rf"^ *(?:\w+ )*pub (?:\w+ )*{name}\b", text, re.M):
+                    yield f"docs/ARCHITECTURE.md: {name} isn't in {files} of {', '.join(crates)}"
+
+
+def pages():
+    """The documents: all but the page of planted bugs, which is data."""
+    found = [*glob.glob(f"{root}/*.md"), *glob.glob(f"{root}/docs/**/*.md", recursive=True), *glob.glob(f"{root}/crates/*/README.md")]
+    return sorted(it for it in found if not it.endswith("/PLANTED.md"))
+
+
+def prose_of(file, line):
+    """The prose of a line of a file: a page's line, or a comment."""
+    mark = {".md": "", ".rt": "//", ".antt": "--", ".py": "#"}.get(os.path.splitext(file)[1])
+    return line if mark is not None and line.lstrip().startswith(mark) else ""
+
+
+def git(*words):
+    return subprocess.run(["git", *words], cwd=root, stdout=subprocess.PIPE, stderr=subprocess.DEVNULL, text=True).stdout
+
+
+def house_words():
+    """House words of which a file has more than at the last common commit with origin/main."""
+    changed = git("diff", "-U0", git("merge-base", "HEAD", "origin/main").strip() or "HEAD")
+    more, file = {}, ""
+    for line in changed.split("\n"):
+        if line.startswith("+++ "):
+            file = line[6:]
+        elif line[:1] in "+-" and not line.startswith("--- "):
+            counts = more.setdefault(file, collections.Counter())
+            for word in HOUSE_WORDS.findall(prose_of(file, line[1:])):
+                counts[word.lower()] += 1 if line[0] == "+" else -1
+    for file in sorted(more):
+        words = [f"{word} {count}" for word, count in sorted(more[file].items()) if count > 0]
+        if words:
+            yield f"{file}: house words, more than before: {', '.join(words)}"
+
+
+def sentences_of(text):
+    """The sentences of a page, without its code, tables and headings."""
+    text = re.sub(r"^```.*?^```$|^<!--.*?-->$", "", text, flags=re.M | re.S)
+    lines = ["" if re.match(r"    |#|\|", line) or " | " in line else re.sub(r"^(?:> |\s*(?:-|\d+\.) )", "\n\n", line) for line in text.split("\n")]
+    for block in re.split(r"\n\s*\n", "\n".join(lines)):
+        yield from re.split(r"(?<=[.!?:])\)?\*{0,2}\s+", " ".join(block.split()))
+
+
+def long_sentences():
+    for page in pages():
+        long = [it for it in sentences_of(text_of(page)) if len(re.findall(r"\S*\w\S*", it)) > LONGEST]
+        if long:
+            worst = max(long, key=lambda it: len(it.split()))
+            yield f"{os.path.relpath(page, root)}: {len(long)} sentences of over {LONGEST} words, the longest: {' '.join(worst.split()[:8])} .."
+
+
+def too_many_words():
+    count = sum(len(text_of(page).split()) for page in pages())
+    if count > MOST_WORDS:
+        yield f"the documents have {count} words, over {MOST_WORDS}"
+
+
 def headline_off():
     said = subprocess.run([sys.executable, f"{root}/bench/headline.py", "--check"], stdout=subprocess.PIPE, text=True).stdout
     return said.split("\n")[:-1]
@@ -90,7 +167,7 @@ def main():
     kept = [(edit.split("/")[-3], os.path.basename(edit)[:-5], text_of(edit).split("\n")) for edit in sorted(glob.glob(f"{root}/crates/*/must-fail/*.edit"))]
     more = [(crate, planted.slug_of(name), edit) for crate in crates for name, _, edit in bugs[crate] if edit]
     page = text_of(f"{root}/docs/lab/PLANTED.md")
-    found = [*not_laid_out(), *edits_off(kept + more), *cited(), *headline_off(), *sources_off(), *release.off()]
+    found = [*not_laid_out(), *edits_off(kept + more), *cited(), *words_off(), *headline_off(), *sources_off(), *release.off()]
     for crate, name, _ in kept:
         if not any(planted.slug_of(bug) == name for bug, _, _ in bugs[crate]):
             found.append(f"crates/{crate}/must-fail/{name}.edit: no entry in planted.txt")
@@ -101,6 +178,8 @@ def main():
             it.write(wanted)
     elif wanted != page:
         found.append(f"docs/lab/PLANTED.md: {len(kept)} edits, {len(more)} more with a text")
+    for warning in (*house_words(), *long_sentences(), *too_many_words()):
+        print(f"warning: {warning}")
     print("\n".join(found) or "ready")
     return 1 if found else 0
 

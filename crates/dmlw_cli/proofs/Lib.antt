@@ -6,5 +6,3 @@ pub mod TaskOfWords
 pub mod PlainCommands
 pub mod Ends
 pub mod Apps
-mod Counterexamples
-mod EndCounterexamples

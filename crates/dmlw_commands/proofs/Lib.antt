@@ -3,19 +3,15 @@ pub mod ImageLog
 pub mod ListLines
 pub mod RecordEnds
 pub mod CommandEnds
-mod Counterexamples
 mod ReplayOnDisk
 mod ReplayEnds
-mod ReplayCounterexamples
 mod CopyEnds
 mod CopyOnDisks
 mod CopyReplay
-mod CopyCounterexamples
 mod LastMoment
 mod QuestionEnds
 mod Agreement
 mod PrefixIsPossible
-mod JudgeCounterexamples
 mod RunOutcome
 mod RunEnds
 mod SeatLines

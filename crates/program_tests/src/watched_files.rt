@@ -16,6 +16,7 @@ use std::{fs, io};
 #[derive(Clone, Copy, PartialEq, Eq)]
 enum Failing {
     Nothing,
+    Write,
     Seek,
     Length,
     Sync,
@@ -82,6 +83,7 @@ impl<F: Read + Drop> Read for WatchedFile<'_, F> {
 
 impl<F: Write + Drop> Write for WatchedFile<'_, F> {
     fn write(&mut self, buf: &[u8]) -> io::Result<usize> {
+        self.noted.passes(Failing::Write)?;
         self.noted.is_changed.set(true);
         let written = self.file.write(buf)?;
         self.noted
@@ -237,6 +239,7 @@ fn files_are_synced_before_they_are_renamed(rt: HostRuntime) -> Result<(), Fail>
 #[test]
 fn files_that_fail_leave_the_older_ones(rt: HostRuntime) -> Result<(), Fail> {
     for failing in [
+        Failing::Write,
         Failing::Seek,
         Failing::Length,
         Failing::Sync,
@@ -247,6 +250,26 @@ fn files_that_fail_leave_the_older_ones(rt: HostRuntime) -> Result<(), Fail> {
         assert!(rt; noted.renames.get() == 0);
     }
     Ok(())
+}
+
+// A pipe whose writes fail is reported.
+fn check_failing_pipe<R: std::rt::Files + Abort>(rt: &R, alloc: Global) -> Result<(), Fail> {
+    let name = "dmlw-test-failing-pipe";
+    fs::write(rt, name, b"".as_slice())?;
+    let noted = Noted::new(Failing::Write);
+    let watched = Watched {
+        runtime: rt,
+        noted: &noted,
+    };
+    let written = HostFiles::new(&watched, alloc).write(alloc, name, disk_with(alloc, 1, 0, 7)?);
+    assert!(rt; written == Err(FileError::Unusable));
+    fs::remove_file(rt, name)?;
+    Ok(())
+}
+
+#[test]
+fn pipes_that_fail_are_reported(rt: HostRuntime) -> Result<(), Fail> {
+    check_failing_pipe(&rt, rt.alloc())
 }
 
 // Another name of an older file still has its bytes: the file was replaced, and neither cut off nor

@@ -13,4 +13,3 @@ mod Plays
 mod RequestFates
 mod BareDisk
 mod LawfulRuns
-mod Counterexamples

@@ -152,6 +152,8 @@ impl<R: Run> FirstStop<R> {
         ensures same { self.new ≡ self.old }
         ensures shown { IfSome result (λ cause. self.old ≡ Some cause) }
         ensures none { result ≡ None → (self.old ≡ None) ⊎ (mine.old ≡ false) }
+        ensures kept { result ≡ None → mine.new ≡ mine.old }
+        ensures once { IfSome result (λ _. mine.new ≡ false) }
     {
         let Some(cause) = self.cause else {
             return None;

@@ -1,5 +1,5 @@
-//! A call that goes on while a device holds another seat's, a log that has hardly any room, and one
-//! whose device fails.
+//! A call that goes on while a device holds another seat's, a log that has hardly any room, one
+//! whose device fails, and a recorded device that fails.
 ghost use Rattle.std.specs.Prelude.{◌<◌, ◌≤◌};
 
 use crate::gate::{Gate, Sign};
@@ -27,6 +27,7 @@ pub fn tally(done: u64, logged: u64, found: u64) -> Tally {
         done,
         logged,
         failed: 0,
+        starved: 0,
         not_logged: 0,
         refused: 0,
         found,
@@ -427,5 +428,59 @@ fn failing_log<H: Threads + Wait + Clock + Print + Sync>(
 #[test]
 fn a_log_whose_device_fails_ends_by_that(rt: HostRuntime) -> Result<(), Fail> {
     assert!(rt; failing_log(&rt, rt.alloc())?);
+    Ok(())
+}
+
+// Returns a call of each kind that the device gets, and a write with FUA.
+fn device_calls(alloc: Global) -> Result<Vec<Call>, AllocError> {
+    let mut calls = Vec::new(alloc);
+    for fua in [false, true] {
+        calls.push(Call::Write {
+            first: 1,
+            byte: 7,
+            fua,
+        })?;
+    }
+    calls.push(Call::Read { first: 1, byte: 7 })?;
+    calls.push(Call::Discard { first: 1 })?;
+    calls.push(Call::Flush)?;
+    Ok(calls)
+}
+
+// A seat's calls, and its late ones, over a device that fails each. Returns whether each is
+// answered by that, and none by lack of memory.
+fn failing_device<H: Threads + Wait + Clock + Print + Sync>(
+    rt: &H,
+    alloc: Global,
+) -> Result<bool, AllocError> {
+    let mut tables = Vec::new(alloc);
+    tables.push(Table {
+        calls: device_calls(alloc)?,
+        late: device_calls(alloc)?,
+        after: None,
+    })?;
+    let device = Failing::in_calls(SectorDisk::new(alloc, FEW)?, 0);
+    let log = SectorDisk::new(alloc, FEW)?;
+    let Some(played) = stage(rt, alloc, tables, device, log, 0)? else {
+        return Ok(holds(rt, false, "one seat plays"));
+    };
+    let [found] = played.tallies.as_slice() else {
+        return Ok(holds(rt, false, "one tally"));
+    };
+    let failed = Tally {
+        failed: 10,
+        ..tally(0, 0, 0)
+    };
+    Ok(is_same(
+        rt,
+        found,
+        &failed,
+        "the answers of a seat whose device fails",
+    ))
+}
+
+#[test]
+fn a_fault_of_the_device_is_answered(rt: HostRuntime) -> Result<(), Fail> {
+    assert!(rt; failing_device(&rt, rt.alloc())?);
     Ok(())
 }

@@ -1,6 +1,6 @@
 //! The calls that one thread makes at its seat: a table of calls, and a tally of their answers.
 use crate::gate::Sign;
-use bio::{Bio, Bytes, Ms};
+use bio::{Bio, Bytes, DevError, Ms};
 use blockdev::BlockDev;
 use board::Names;
 use lock_state::{Receipt, Run, Seat};
@@ -30,6 +30,8 @@ pub struct Tally {
     pub done: u64,
     pub logged: u64,
     pub failed: u64,
+    /// The number of calls that failed for lack of memory. They aren't in `failed`.
+    pub starved: u64,
     pub not_logged: u64,
     pub refused: u64,
     /// The number of reads that found the byte.
@@ -42,6 +44,7 @@ impl Tally {
             done: 0,
             logged: 0,
             failed: 0,
+            starved: 0,
             not_logged: 0,
             refused: 0,
             found: 0,
@@ -121,7 +124,7 @@ impl<R: Run + Names> Player<R> {
         }
     }
 
-    // Makes a call, and counts its answer. The test's own lack of memory counts as a failed call.
+    // Makes a call, and counts its answer. The test's own lack of memory counts as the recorder's.
     fn make<D: BlockDev + Drop, L: BlockDev + Drop, H: Wait>(
         &mut self,
         rt: &H,
@@ -147,7 +150,7 @@ impl<R: Run + Names> Player<R> {
             _ => {}
         }
         let Ok(bio) = bio_of(alloc, call) else {
-            count(&mut self.tally.failed);
+            count(&mut self.tally.starved);
             return;
         };
         let answer = recorder.submit(rt, &mut self.seat, bio, Ms::new(0));
@@ -159,7 +162,7 @@ impl<R: Run + Names> Player<R> {
         match asked {
             Ok(()) => count(&mut self.tally.done),
             Err(CloseError::Busy) => count(&mut self.tally.refused),
-            Err(CloseError::Memory) => count(&mut self.tally.failed),
+            Err(CloseError::Memory) => count(&mut self.tally.starved),
         }
     }
 
@@ -188,7 +191,8 @@ impl<R: Run + Names> Player<R> {
                 count(&mut self.tally.logged);
                 let _ = self.receipts.push(receipt);
             }
-            Answer::Failed(_) => count(&mut self.tally.failed),
+            Answer::Failed(DevError::Io) => count(&mut self.tally.failed),
+            Answer::Failed(DevError::Memory) => count(&mut self.tally.starved),
             Answer::NotLogged(_) => count(&mut self.tally.not_logged),
             Answer::Refused(_) => count(&mut self.tally.refused),
         }

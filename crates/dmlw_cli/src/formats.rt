@@ -37,9 +37,9 @@ Sizes and places are in sectors of 512 bytes. An id is 1 to 16 of `a` to `z` and
 ends after its last line, and that is no fault: what wasn't written to the log by then isn't in it.
 
 With `flush` the data disk is flushed and then, if that succeeded, written. A flush makes durable what ended before the flush was submitted. With `fua` the write is
-durable at its own end. `meta` is a note in the log. A mark waits for nothing, and has no `c`; a log keeps the first 479 bytes of its text, and one with
-sectors of 4,096 bytes the first 4,063. With such sectors each request begins and ends at a multiple of 8 sectors, else it is refused as 28 Unaligned at its line;
-a layer over the log has at least 8.
+durable at its own end. `meta` is a note in the log. A mark waits for nothing, and has no `c`. A log keeps the first 479 bytes of its text, or
+the first 4,063 with sectors of 4,096 bytes. With such sectors each request begins and ends at a multiple of 8 sectors, else it is refused as 28 Unaligned at its line.
+A layer over the log has at least 8.
 
 A script of `run` is a text of the same kind. Its head is that of a script of `record` with one line more, and its body has these lines:
 
@@ -70,7 +70,7 @@ first sector on the device below. The layer must fit there. Requests are within 
 | the same, then `<dev> <offset> <ms>` once more, or twice | the second delay is that of writes, discards and flushes, the third that of flushes; all with the same device and offset |
 
 A dust layer takes these messages, their words separated by one space. Blocks count from 0, and begin within the layer. Another message is refused
-as 6 BadMessage at its line, one that adds a listed block as 7 AlreadyBad, and one that removes a block that isn't listed as 8 NotBad.
+as 6 BadMessage at its line. Adding a listed block is refused as 7 AlreadyBad, and removing one that isn't listed as 8 NotBad.
 
 | Message | From then on |
 |---|---|
@@ -95,16 +95,16 @@ as 6 BadMessage at its line, one that adds a listed block as 7 AlreadyBad, and o
 `help formats` prints this page.
 
 `replay LOG FIRST OUT WHAT` applies the prefix of a log that WHAT names: `entries:<n>`, the first n; `mark:<text>`, all up to the first mark
-of exactly this text; `flush`, all up to the first flush. OUT is of the size of FIRST, and is written only if all of them were applied; it may be
+of exactly this text; `flush`, all up to the first flush. OUT is of the size of FIRST, and is written only if all of them were applied. It may be
 the file FIRST, and isn't written over LOG. FIRST is whole sectors, at most 1,048,576. The images have sectors of 512 bytes, even if the log's are larger.
 
-`copy LOG OUT SECTORS` copies a log to a new one with sectors of 4,096 bytes, on a disk of SECTORS sectors of 512 bytes, 8 to 1,048,576: each entry with its flags,
+`copy LOG OUT SECTORS` copies a log to a new one with sectors of 4,096 bytes. OUT is a disk of SECTORS sectors of 512 bytes, 8 to 1,048,576. It gets each entry with its flags,
 its data or text, and its place and length in bytes, in their order. So each prefix of the copy replays to what that prefix of LOG replays to. OUT is written only
 if all entries were copied, and isn't written over LOG.
 
-`judge SCRIPT M IMAGE` runs the script as `record` does, writes no log, and judges whether the image could have been on the data disk, as seen from the top of its
-layers, had power failed after M of the recorder's events; at first the disk holds zeroes. The lines `w`, `f`, `d`, `c`, `mark` and `close` are
-events, and the Stop, if logging ends early. Event numbers count from 0. A Stop is the event that the recorder adds then: the log is full, its device failed, or memory ran out.
+`judge SCRIPT M IMAGE` runs the script as `record` does, and writes no log. It judges whether the image could have been on the data disk, had power failed after M of
+the recorder's events. The disk is seen from the top of its layers; at first it holds zeroes. The lines `w`, `f`, `d`, `c`, `mark` and `close` are
+events, counted from 0, and so is a Stop. The recorder adds one if logging ends early: the log is full, its device failed, or memory ran out.
 
 `path SCRIPT M IMAGE` prints how the image could have come to the disk, if `judge` says yes: a run that submits and ends the requests of the first M events in their order,
 and after which the disk holds the image. A request's value lands in the cache, sector by sector. A sector is destaged from there to what power leaves. `power` is the end. Which
@@ -113,8 +113,8 @@ of the runs is printed is left open.
 M, and n of `entries:<n>`, are 1 to 20 decimal digits of a value below 2^64. Another M, a WHAT of no such form, or another SECTORS is a
 usage fault, which is reported before a file is read.
 
-If no layer of the log lied, and while logging goes on, each prefix of a recorded log replays to a content that the data disk could hold, had power failed there,
-by the rules of flush, FUA and completion.
+If no layer of the log lied, this holds: while logging goes on, each prefix of a recorded log replays to what a disk that got these requests could hold, had power
+failed there, by the rules of flush, FUA and completion.
 
 `3 4` is a status: three entries, of which the last uses sector 4. A mark's bytes outside 20 to 7e, and the backslash, are printed as a
 backslash and two lower case hexadecimal digits.
@@ -165,8 +165,8 @@ isn't is a usage fault (2).
 The word `--explain`, in any place after the program's name, changes no other line. It adds lines to standard error, after the fault's line. Each begins with
 two spaces:
 
-- For a script's line: the line and its number, and the form that it should have. If the usual cause is seen (a carriage return, a byte order mark, a tab, an upper
-  case letter), that; else the first word that doesn't fit, or what its place asks for.
+- For a script's line: the line and its number, and the form that it should have. Also the usual cause, if it is seen: a carriage return, a byte order mark, a
+  tab, an upper case letter. Else the first word that doesn't fit, or what its place asks for.
 - For a log: how many entries it has, or which comes next. For an image: its size. For a file: its name and the system's reason.
 - If `judge` says no: the line of the event that rules the sector out. For a run of `path`: the script's line of each step.
 - At status 0: if a script has no `close`.

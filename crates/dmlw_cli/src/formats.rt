@@ -114,7 +114,7 @@ M, and n of `entries:<n>`, are 1 to 20 decimal digits of a value below 2^64. Ano
 usage fault, which is reported before a file is read.
 
 If no layer of the log lied, this holds: while logging goes on, each prefix of a recorded log replays to what a disk that got these requests could hold, had power
-failed there, by the rules of flush, FUA and completion.
+failed there. What it could hold follows from flush, FUA and completion.
 
 `3 4` is a status: three entries, of which the last uses sector 4. A mark's bytes outside 20 to 7e, and the backslash, are printed as a
 backslash and two lower case hexadecimal digits.

@@ -20,8 +20,8 @@ use bio::{End, Status};
 use std::alloc::{AllocError, Global};
 use std::marker::{Brand, Model, PhantomData};
 
-/// Names a board. Each board has a name of its own, so the
-/// seat of another board is refused by its type.
+/// Names a board. Each board has a name of its own, so
+/// the type of another board's seat doesn't fit.
 pub trait Names {
     ghost use Rattle.atomic_table.specs.Seated.{TableId};
 

@@ -18,8 +18,8 @@ pub enum Change {
     Next(usize, usize),
 }
 
-/// Where the link of a row leads. It notes, too, which row's link last came to lead to this row;
-/// contracts don't see that.
+/// The row to which the link of a row leads. It also notes the row whose link was last set to lead
+/// here; contracts don't see that.
 #[derive(Drop)]
 struct Link {
     to: usize,
@@ -109,7 +109,7 @@ impl LastRow {
     }
 }
 
-/// Where the link of each row leads, and which row is the last of each chain.
+/// The row to which the link of each row leads, and the last row of each chain.
 #[derive(Debug, Drop)]
 pub struct Links {
     next: Vec<Link>,

@@ -209,9 +209,9 @@ TaskLeaves (tasks.Copy files sectors) contents later old new exit =
     exit ≡ Done → HoldsCopied (contents files.log.now) sectors (later files.out.now)
 TaskLeaves task contents later old new exit = Unit {0}
 
--- What doing a command line comes to, over files that hold this and then that: its words but
--- `--explain` are read as a task, and that task ends, explaining itself where that word stands
--- among them, and leaves what it makes in its file.
+-- The result of a command line, over files that hold this and then that. Its words but `--explain`
+-- are read as a task. That task ends, and explains itself if that word is among them. It leaves what
+-- it makes in its file.
 pub record DoesWords (words : List (List ℕ)) (contents later : List ℕ → Option (List ℕ))
     (writes_old writes_new : Option (List Write)) (old new : Option (List ℕ))
     (errors_old errors_new : Option (List ℕ)) (ended : Ended) : Type 0 where

@@ -38,7 +38,7 @@ pub fn plain_words_record()
         (script ∷ log ∷ [])) contents later before after old new errors_old errors_new ended →
         EndsRecording (contents script) log before after old new
         (err_stream false errors_old errors_new) ended }
-    // And the file LOG holds the log.
+    // The file LOG then holds the log.
     ensures leaves { (contents later : List ℕ → Option (List ℕ))
         (before after : Option (List Write)) (old new errors_old errors_new : Option (List ℕ))
         (ended : Ended)
@@ -58,7 +58,7 @@ pub fn plain_words_run()
         (script ∷ log ∷ [])) contents later before after old new errors_old errors_new ended →
         EndsRunning (contents script) log before after old new
         (err_stream false errors_old errors_new) ended }
-    // And the file LOG holds the log.
+    // The file LOG then holds the log.
     ensures leaves { (contents later : List ℕ → Option (List ℕ))
         (before after : Option (List Write)) (old new errors_old errors_new : Option (List ℕ))
         (ended : Ended)
@@ -102,7 +102,7 @@ pub fn plain_words_replay()
         later before after old new errors_old errors_new ended →
         ReplaysWhat what (contents log) (contents first) (contents out) out before after old new
         (err_stream false errors_old errors_new) ended }
-    // And the file OUT holds the resulting image.
+    // The file OUT then holds the resulting image.
     ensures leaves { (contents later : List ℕ → Option (List ℕ))
         (before after : Option (List Write)) (old new errors_old errors_new : Option (List ℕ))
         (ended : Ended)
@@ -125,7 +125,7 @@ pub fn plain_words_copy()
         (log ∷ out ∷ word ∷ [])) contents later before after old new errors_old errors_new ended →
         EndsCopying (contents log) out sectors before after old new
         (err_stream false errors_old errors_new) ended }
-    // And the file OUT holds the new log.
+    // The file OUT then holds the new log.
     ensures leaves { (contents later : List ℕ → Option (List ℕ))
         (before after : Option (List Write)) (old new errors_old errors_new : Option (List ℕ))
         (ended : Ended)

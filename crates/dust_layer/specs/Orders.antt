@@ -66,8 +66,8 @@ CanBeDone size sectors orders.Clear bad = Unit {0}
 CanBeDone size sectors orders.Enable bad = Unit {0}
 CanBeDone size sectors orders.Disable bad = Unit {0}
 
--- Why an order is refused. A block that isn't within the layer is refused by BadMessage. Within it,
--- adding a listed block is refused by AlreadyBad, and removing an unlisted one by NotBad. A lack of
+-- Why an order is refused. It fails with BadMessage if the block isn't within the layer. If it is,
+-- adding a listed block fails with AlreadyBad, and removing an unlisted one with NotBad. A lack of
 -- memory refuses only adding an unlisted block. No other order is refused.
 abbrev pub IsRefused : ℕ → ℕ → Order → Bad → MessageError → Type 0
 IsRefused size sectors (orders.Add block count) bad errors.BadMessage = sectors ≤ block * size

@@ -18,9 +18,9 @@ pub(crate) fn is_within(block: u64, size: u64, sectors: u64) -> bool
 }
 
 /// Does an order over blocks of `size` sectors, in a layer of `sectors`. A block that isn't within
-/// the layer is refused by BadMessage. Listing a listed block is refused by AlreadyBad, and listing
-/// another by Memory if memory lacks. Removing an unlisted block is refused by NotBad. After a
-/// refusal the list and the mode are unchanged.
+/// the layer fails with BadMessage. Listing a listed block fails with AlreadyBad, and listing
+/// another one with Memory if memory lacks. Removing an unlisted block fails with NotBad. After an
+/// error the list and the mode are unchanged.
 pub(crate) fn apply(
     bad: &mut BadBlocks,
     enabled: &mut bool,

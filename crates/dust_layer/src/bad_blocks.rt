@@ -75,9 +75,8 @@ impl BadBlocks {
         self.counts.clear();
     }
 
-    /// Lists a block with its count, if it isn't listed yet. A listed block is refused by
-    /// AlreadyBad, and another one by Memory if memory lacks. After a refusal the list is
-    /// unchanged.
+    /// Lists a block with its count, if it isn't listed yet. Fails with AlreadyBad if the block is
+    /// listed, and with Memory if memory lacks. After an error the list is unchanged.
     pub(crate) fn list(&mut self, block: u64, count: u8) -> Result<(), MessageError>
         ensures added { OnOk result
             (IsList (listed self.new) (with_entry block (Some count) (listed self.old))) }
@@ -95,8 +94,7 @@ impl BadBlocks {
         }
     }
 
-    /// Removes a block from the list. If it isn't listed, this is refused by NotBad, and the list
-    /// stays.
+    /// Removes a block from the list. Fails with NotBad if it isn't listed; then the list stays.
     pub(crate) fn unlist(&mut self, block: u64) -> Result<(), MessageError>
         ensures removed { is_some (listed self.old block) ≡ true →
             (result ≡ Ok tt) × IsList (listed self.new) (with_entry block None (listed self.old)) }

@@ -1,4 +1,4 @@
-//! What decides, call by call, whether the lower device does it, and when: `Gate`.
+//! `Gate` decides for each call whether, and when, the lower device does it.
 //! The delay, error, flakey and fuse layers each have one, and `Gated` asks it.
 ghost use Rattle.std.specs.Prelude.{◌≡◌, ℕ, Bool, false};
 ghost use Rattle.fault_layers.specs.declared.gate.Kind.{Kind};
@@ -26,7 +26,7 @@ pub enum Verdict {
     Delay(Ms),
     /// It answers Io, and the lower device isn't called.
     Fail,
-    /// It answers that it ended well at once, and the lower device isn't called: a lie.
+    /// It is answered as done, at once, and the lower device isn't called: a lie.
     Drop,
 }
 
@@ -53,7 +53,7 @@ pub trait Gate {
     ghost honest: { (gate : Self) (kind : Kind) (now : ℕ) → may_drop gate ≡ false
         → verdict gate kind now ≡ verdicts.Drop → ⊥ };
 
-    /// Whether it may stays as it is.
+    /// A decision doesn't change `may_drop`.
     ghost stays: { (gate : Self) (kind : Kind) (now : ℕ)
         → may_drop (after gate kind now) ≡ may_drop gate };
 }

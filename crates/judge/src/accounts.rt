@@ -57,7 +57,7 @@ impl Account {
         lowest_failing(&self.held, &self.last, first, image)
     }
 
-    /// Where the request of this place ended.
+    /// Returns the place of the end of the request of this place.
     pub fn end(&self, id: usize) -> Option<usize>
         ensures { result ≡ place_at self.now.ends.items id }
     {

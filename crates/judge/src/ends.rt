@@ -10,7 +10,7 @@ ghost use Rattle.judge.specs.inside.Last.{AreEnds, is_below_last};
 use bio::CoreEvent;
 use std::alloc::{AllocError, Global};
 
-/// Where each request ended: for the place of its submission, the place of its end.
+/// Returns, for the place of each request's submission, the place of its end.
 pub fn ends_of(alloc: Global, events: &[CoreEvent]) -> Result<Vec<Option<usize>>, AllocError>
     ensures { IfOk result (λ ends. AreEnds events.now (length events.now) ends.items) }
 {
@@ -68,7 +68,7 @@ pub fn ended_ok(events: &[CoreEvent], ends: &[Option<usize>], id: usize) -> bool
     }
 }
 
-/// Where the request of this place ended.
+/// Returns the place of the end of the request of this place.
 pub fn end_at(ends: &[Option<usize>], id: usize) -> Option<usize>
     ensures { result ≡ place_at ends.now id }
 {

@@ -8,7 +8,7 @@ use Rattle.fault_layers.specs.declared.linear.Linear.{Linear}
 use Rattle.layer_table.specs.declared.slot.Slot.{Slot}
 use Rattle.layer_table.specs.declared.slot.Slot.TheVariants as slots
 
--- the message is refused by BadMessage, and nothing is changed
+-- the message is refused with BadMessage, and nothing is changed
 pub record IsNoMessage {S : Type 0} (result : Result (Unit {0}) MessageError)
     (old new : S) : Type 0 where
   pub refused : result ≡ Err BadMessage

@@ -113,7 +113,7 @@ pub fn marks_stand_in_the_events<D: Message + Drop, L: Message + Drop>()
     lines_go_as_one_call::<D, L>();
 }
 
-/// Where the log's device didn't lie: whatever a crash at any moment of a script's run may have
+/// If the log's device didn't lie: whatever a crash at any moment of a script's run may have
 /// left has a log, and that is a prefix of the completion list of the recorder's events, with
 /// all that was settled when the run began.
 pub fn crashes_of_a_run_leave_beginnings<D: Message + Drop, L: Message + Drop>()

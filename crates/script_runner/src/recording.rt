@@ -39,11 +39,11 @@ pub struct RunResult {
 }
 
 /// Records a script, which was read from `text`, on two disks in memory of the sizes that it names,
-/// each under its layers. What its lines print is written to `out`. Where the script ends by a
-/// crash, the log's disk loses power then, with its picks. The log is passed on also if
-/// logging ended before the script did. Where no log can be made, the run ends by the cause of
-/// that. A close or a message that is refused fails at its line; so do memory that runs out and an
-/// output that can't be written, for which no line is named.
+/// each under its layers. What its lines print is written to `out`. If the script ends with a
+/// crash, the log's disk loses power then, with its picks. The log is returned even if logging
+/// ended before the script did. If no log can be made, the run fails with the cause of that. A
+/// close or a message that is refused fails at its line. Lack of memory, or an output that can't be
+/// written, fails without a line.
 pub fn record<O: Write>(
     alloc: Global,
     text: &[u8],

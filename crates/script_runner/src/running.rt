@@ -28,10 +28,10 @@ pub struct Running<D: BlockDev + Drop, L: BlockDev + Drop> {
     disk: D,
     write_data: WriteData,
     requests: Vec<Request>,
-    // At which the calls of both devices begin.
+    // The time at which the calls of both devices begin.
     moment: Ms,
-    // Whether a mark, the log, or the data device's call for a request found no memory. A request
-    // that found none as it was submitted is `NotAsked`.
+    // True once a mark, the log's writer or the data device's call for a request ran out of memory.
+    // A request that ran out of it at its submission isn't noted here: it is `NotAsked`.
     short: bool,
     ghost fits: { IsTrue (list_all (fits_device (D.shown disk).size) requests.items) },
 }
@@ -69,8 +69,8 @@ impl<D: BlockDev + Drop, L: BlockDev + Drop> Running<D, L> {
         &self.recorder
     }
 
-    /// Whether all that the lines asked for found memory, but for reads: one that finds none prints
-    /// that it failed, and the recorder isn't asked.
+    /// Whether no line ran out of memory, except reads: a read that does prints that it failed, and
+    /// the recorder isn't asked.
     pub fn is_ample(&self) -> bool
         ensures { result ≡ is_ample self.now }
     {
@@ -134,7 +134,7 @@ impl<D: Message + Drop, L: Message + Drop> Running<D, L> {
         Ok(())
     }
 
-    // Hands a request over to the data device, and ends it with that result.
+    // Passes a request to the data device, and ends it with that result.
     fn complete<O: Write>(
         &mut self,
         request: usize,
@@ -194,7 +194,7 @@ impl<D: Message + Drop, L: Message + Drop> Running<D, L> {
         self.short |= is_memory_end(&turn);
     }
 
-    // Tells the recorder of a mark, and says so if there is no memory for it.
+    // Passes a mark to the recorder, and prints `mark failed` if there is no memory for it.
     fn mark<O: Write>(&mut self, text: &Bytes, out: &mut O) -> Result<(), StepError>
         requires { is_line_text text.now ≡ true }
         ensures keeps { StepKeeps self.old self.new }
@@ -210,7 +210,7 @@ impl<D: Message + Drop, L: Message + Drop> Running<D, L> {
         print_mark(reply, out)
     }
 
-    // Sets the moment at which the calls of both devices begin from then on.
+    // Sets the time at which the calls of both devices begin from then on.
     fn set_moment(&mut self, moment: Ms)
         ensures sets { SetsMoment moment [] self.old self.new }
         ensures moment { self.new.moment ≡ moment }
@@ -243,7 +243,7 @@ impl<D: Message + Drop, L: Message + Drop> Running<D, L> {
         Ok(())
     }
 
-    // Hands a message to a layer of a disk.
+    // Passes a message to a layer of a disk.
     #[tactic(auto, using(crate::proofs::LineSteps::line_ascii))]
     fn message(&mut self, over: DiskName, layer: u64, text: &Bytes) -> Result<(), StepError>
         requires { is_line_text text.now ≡ true }

@@ -85,7 +85,7 @@ fn play<
     works
 }
 
-// Asks to close. Where that is refused logging ends, so that the writer doesn't wait for more.
+// Asks to close. If that is refused, logging ends, so that the writer doesn't wait for more.
 fn ask_close<D: BlockDev + Drop, L: BlockDev + Drop, R: Run + Names, H: Wait>(
     rt: &H,
     recorder: &Shared<D, L, R>,

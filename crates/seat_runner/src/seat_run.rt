@@ -45,8 +45,8 @@ pub struct Ran {
 
 /// Runs a script on two disks in memory of the sizes that it names, each under its layers: each
 /// seat makes the calls of its lines in a thread of its own, then the recorder is closed. The log
-/// is passed on also if logging ended before the script did. Where no log can be made, the run
-/// ends by the cause of that. No fault names a line.
+/// is returned even if logging ended before the script did. If no log can be made, the run fails
+/// with the cause of that. No fault names a line.
 pub fn run_seats<H: Threads + Wait + Sync>(
     rt: &H,
     alloc: Global,

@@ -26,8 +26,8 @@ pub struct SectorDisk {
     // For each sector the place of the call that has its value;
     // empty before the second call, when each has the first's.
     newest: Vec<usize>,
-    // And of the one that had it when the past began, at the last crash. Empty before the first
-    // crash, when each has the first's: there is room then for all sectors.
+    // For each sector the place of the call that had its value when the past began, at the last
+    // crash. Empty before the first crash, when each has the first's; it has room for all sectors.
     base: Vec<usize>,
     // The number of calls when the past began.
     begun: usize,

@@ -42,7 +42,7 @@ pub struct Closed<D: Drop, L: Drop> {
     /// How far the log came.
     pub status: Status,
     /// Why logging ended: the cause of the first Stop, else that of the
-    /// log itself. Where it is None, a close that is Ok has written all.
+    /// log itself. If it is None, a close that is Ok has written all.
     pub end: Option<End>,
     /// The core, with the history (`Core::events`).
     pub core: Core,

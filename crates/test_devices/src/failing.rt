@@ -5,8 +5,8 @@ ghost use Rattle.blockdev.specs.OwnCounts.{counted, lawful_counted};
 use bio::{DevError, Ms};
 use blockdev::BlockDev;
 
-/// A device that passes a number of calls of some kinds, and answers Io to each later one of these.
-/// It passes the other kinds.
+/// Passes the first `n` calls of some kinds, and fails later ones with Io. Passes all calls of the
+/// other kinds.
 #[derive(Drop)]
 pub struct Failing<D: BlockDev + Drop> {
     pub lower: D,

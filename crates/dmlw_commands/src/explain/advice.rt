@@ -33,8 +33,7 @@ fn write_bytes<W: Write>(number: u64, to: &mut W) -> fmt::Result {
     Ok(())
 }
 
-/// Returns what helps if a command is refused by this: one sentence, or none if its name says
-/// everything.
+/// Returns what helps against this refusal: one sentence, or none if its name says everything.
 pub(crate) fn advice(refusal: Refusal) -> &'static str {
     match refusal {
         Refusal::Memory | Refusal::EndMemory => "memory ran out: try a smaller script or image",

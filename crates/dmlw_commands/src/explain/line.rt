@@ -39,9 +39,10 @@ const SEAT_FORMS: [&str; 9] = [
     "s<k> mark <text>",
 ];
 
-// The word of a form that names a seat, and the end of that of a crash.
+// Stands for a seat in a form.
 const SEAT: &[u8] = b"s<k>";
 
+// The end of a crash line's form.
 const PICK: &[u8] = b"<pick> ..";
 
 // The most bytes of a line that are shown.
@@ -73,7 +74,7 @@ pub(crate) fn explain_line<W: Write>(
     }
 }
 
-// Writes that no line begins as this one, and how lines do.
+// Writes that no kind of line begins like this, and lists the kinds.
 fn write_unknown<W: Write>(grammar: Grammar, line: &[u8], to: &mut W) -> fmt::Result {
     let word = Shown(line.split(is_space).next().unwrap_or_default());
     if form_of(other_of(grammar), line).is_some() {
@@ -122,7 +123,7 @@ fn forms_of(grammar: Grammar) -> &'static [&'static str] {
     }
 }
 
-/// Bytes of a script, shown by printable ones, and cut after 100.
+/// Bytes of a script, printed with escapes, the first 100 at most.
 #[derive(Clone, Copy)]
 pub(crate) struct Shown<'a>(pub(crate) &'a [u8]);
 
@@ -142,7 +143,7 @@ impl fmt::Display for Shown<'_> {
     }
 }
 
-// Returns what a line has that no line may have.
+// Returns a usual mistake in a line, such as a tab.
 fn cause_of(line: &[u8]) -> Option<&'static str> {
     if line.starts_with(b"\xef\xbb\xbf".as_slice()) {
         return Some(
@@ -172,8 +173,8 @@ fn cause_of(line: &[u8]) -> Option<&'static str> {
     None
 }
 
-// The text of a mark or a message is taken as it is, and the words of a layer's table line are its
-// own.
+// Returns whether the text of a line is taken as it is, as for a mark or a message, or its words
+// have their own rule, as for a layer's table line.
 fn has_own_words(line: &[u8]) -> bool {
     line.starts_with(b"mark ".as_slice())
         || line.starts_with(b"message ".as_slice())
@@ -203,8 +204,8 @@ fn begins_as(form: &[u8], line: &[u8]) -> bool {
     first != SEAT || words.next() == wanted.next()
 }
 
-// Writes which word of a line is the first that doesn't fit a form; if all do, what its place asks
-// for.
+// Writes which word of a line is the first that doesn't fit a form. If all fit, writes what its
+// place asks for.
 fn write_flaw<W: Write>(
     grammar: Grammar,
     text: &[u8],
@@ -238,9 +239,9 @@ fn write_flaw<W: Write>(
 // What of a line doesn't fit a form.
 enum Flaw<'a> {
     None,
-    // A word of this kind isn't there.
+    // A word of this kind is missing.
     Missing(&'a [u8]),
-    // In the place of a word of this kind is this one.
+    // The kind that is asked for, and the word in its place.
     Misfit(&'a [u8], &'a [u8]),
     // This word is after all that the form has.
     TooMany(&'a [u8]),
@@ -269,7 +270,7 @@ fn flaw_of<'a>(line: &'a [u8], form: &'a [u8]) -> Flaw<'a> {
         None => Flaw::None,
     }
 }
-// Returns the first pick of a crash that is no number.
+// Returns the first pick of a crash that isn't a number.
 fn pick_flaw(line: &[u8]) -> Flaw<'_> {
     for word in line.split(is_space).skip(1) {
         if number_of(word).is_none() {
@@ -306,7 +307,7 @@ fn is_id(word: &[u8]) -> bool {
     !word.is_empty() && word.len() <= 16 && word.iter().all(is_letter_of_id)
 }
 
-// Returns whether a word names a seat, there or not.
+// Returns whether a word names a seat, whether or not the script has that seat.
 fn is_seat(word: &[u8]) -> bool {
     match word {
         [b's', number @ ..] => number_of(number).is_some(),

@@ -7,7 +7,7 @@ use refusals::Refusal;
 use std::fmt;
 use std::fmt::Write;
 
-/// Writes why a message is refused by this, in a script of this text.
+/// Writes why a message of a script of this text gets this refusal.
 pub(crate) fn write_message<W: Write>(
     text: &[u8],
     line: Numbered,

@@ -14,16 +14,20 @@ use std::alloc::{AllocError, Global};
 use std::io;
 use std::io::Write;
 
-/// Executes `judge SCRIPT M IMAGE`: runs a script as `record` does, and prints whether the image
-/// could have been on its data disk, had power failed after the first `moment` of the recorder's
-/// events, if it held zeroes at first. `script` and `image` are names of files; both are read
-/// before either is judged.
+/// Executes `judge SCRIPT M IMAGE`. Runs the script as `record` does, on a data disk of zeroes.
+/// Prints whether the image could have been on that disk, had power failed after the first `moment`
+/// of the recorder's events. `script` and `image` are names of files. Both are read first.
 ///
-/// The disk is seen from the top of its layers. A verdict of no exits as ruled out, with nothing on
-/// `err`. It refuses a file that can't be read, is too long or no image (32), the first line of the
-/// script that is at fault, a run that fails, and a number past the last moment or an image of
-/// another size than the disk (34). A log that can't be made is the end of logging. A fault is
-/// reported to `err`, with what helps if the session `explains`.
+/// The disk is seen from the top of its layers. If the verdict is no, the exit is ruled out, and
+/// nothing is written to `err`. These are refused:
+///
+/// - a file that can't be read, is too long or no image (32);
+/// - the first line of the script that is at fault;
+/// - a run that fails;
+/// - a `moment` past the last event, or an image of another size than the disk (34).
+///
+/// If no log can be made, logging has ended. A fault is reported to `err`, with what helps if the
+/// session `explains`.
 pub fn judge<F: Files, O: Write, E: Write>(
     script: &str,
     moment: u64,

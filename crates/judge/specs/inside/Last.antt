@@ -34,8 +34,8 @@ pub record AreLastKept (events : List CoreEvent) (sectors below : ℕ)
   pub each : (sector : ℕ) → sector < sectors
       → place_at last sector ≡ last_below (is_kept events sector) below
 
--- of so many sectors, those from the first to before the
--- second are the ones that the event puts a value in
+-- of this many sectors, the event puts a value in those
+-- from `from` to before `to`
 pub record AreCovered (event : Option CoreEvent) (sectors from to : ℕ) : Type 0 where
   pub order : from ≤ to
   pub within : to ≤ sectors

@@ -1,12 +1,9 @@
 -- Worked answers: some that hold, and some that don't.
 use Rattle.std.proofs.Common.{◌≡◌, ◌==◌, ◌<◌, ℕ, zero, suc, Bool, true, false, List, [], ◌∷◌}
-use Rattle.std.proofs.Common.{Option, length}
-use Rattle.std.specs.Prelude.{map}
-use Rattle.std.proofs.Common.{None, Ok, Err, Some, inl, inr, refl, ap, subst, sym, ◌∙◌, true≢false}
+use Rattle.std.proofs.Common.{length}
+use Rattle.std.proofs.Common.{None, Ok, Some, inl, inr, refl, ap, subst, sym, ◌∙◌, true≢false}
 use Rattle.std.proofs.Common.{arith}
-use Rattle.std.specs.Prelude.{is_some}
 use Rattle.bio.specs.declared.event.CoreEvent.TheVariants as events
-use Rattle.refusals.specs.declared.end.End.{End}
 use Rattle.refusals.specs.declared.end.End.TheVariants.{Device, Full}
 use Rattle.bio.specs.declared.request.Bio.{Bio}
 use Rattle.bio.specs.declared.request.Bio.TheVariants as bios
@@ -16,10 +13,10 @@ use Rattle.log_format.specs.Entries.{entry_of}
 use Rattle.lock_state.specs.declared.note.Item.{Item}
 use Rattle.lock_state.specs.Comparison.{Receipt}
 use Rattle.lock_state.specs.Comparison.{Each}
-use Rattle.lock_state.specs.History.{Part, Queue, begun, ended, ended_by, finished, new_part, noted}
-use Rattle.lock_state.specs.History.{after_taking, in_hand, passed_at, recorded_by}
+use Rattle.lock_state.specs.History.{Part, Queue, begun, ended, ended_by, new_part, noted}
+use Rattle.lock_state.specs.History.{recorded_by}
 use Rattle.lock_state.specs.PlacedItems.{Log}
-use Rattle.pending.specs.CoreState.{next_item, sized_state}
+use Rattle.pending.specs.CoreState.{sized_state}
 use Rattle.shared.specs.Answers.{Answered, Marked}
 use Rattle.shared.specs.Admission.{Enters, MarkEnters}
 use Rattle.shared.specs.Posts.{IsCurrent, IsLatest, IsOfPrefix, KeepsCauses, PostsNext, TellsCause}
@@ -29,8 +26,7 @@ use Rattle.shared.specs.declared.answer.Answer.TheVariants.{Done, Logged}
 use Rattle.shared.specs.declared.answer.MarkAnswer.TheVariants as marks
 use Rattle.shared.specs.declared.calls.Entered.TheVariants.{Recorded, Unrecorded}
 use Rattle.shared.specs.declared.marks.EnteredMark.TheVariants as entered
-use Rattle.shared.specs.declared.writing.Next.TheVariants.{Finished, NoRoom, Stopped}
-use Rattle.shared.specs.declared.writing.Next.TheVariants as nexts
+use Rattle.shared.specs.declared.writing.Next.TheVariants.{Stopped}
 
 abbrev plain : Bio
 plain = bios.Write 1 [] false false false
@@ -53,10 +49,6 @@ fua_not_done answered = elim answered.1 [
   | inr passed ↦ true≢false (ap (λ (part : Part). length part.own == 2) passed.1.1)
 ]
 
--- it is answered by a receipt with its own id
-fua_logged : Answered (new_part 0) fua (Logged (record { id = 0; number = 7 })) (after fua true)
-fua_logged = (refl, (1, refl))
-
 -- a mark is answered so where it stands in the list
 mark_logged : Marked (new_part 0) (1 ∷ []) (marks.Logged (record { id = 3; number = 0 }))
     (noted (new_part 0) 3 (events.Mark (1 ∷ [])))
@@ -67,29 +59,6 @@ mark_missing : Marked (new_part 0) (1 ∷ []) (marks.Logged (record { id = 3; nu
     (new_part 0) → ⊥
 mark_missing answered = true≢false (ap (λ (part : Part). length part.own == 0) answered)
 
--- after a Stop a passed write is done
-abbrev passed_full : Part
-passed_full = passed_at (new_part 0) 4 (Some Full)
-
-passed_plain : Answered (new_part 0) plain Done passed_full
-passed_plain = (refl, inr (Some Full, (4, refl), inr refl))
-
--- but one with FUA isn't: it is answered by the Stop's cause
-abbrev stops : Part → List (Option End)
-stops part = map (λ call. call.stop) part.passed
-
-passed_fua_done : Answered (new_part 0) fua Done passed_full → ⊥
-passed_fua_done answered = elim answered.1 [
-  | inl recorded ↦ true≢false recorded.0
-  | inr passed ↦ elim passed.2 [
-    | inl none ↦ (
-        let stop : Some Full ∷ [] ≡ passed.0 ∷ [] = ap stops passed.1.1 in
-        absurd (cc (none, stop))
-        )
-    | inr plain ↦ true≢false plain
-  ]
-]
-
 -- a queue of no events, one whose logging ended, and one that was closed
 abbrev fresh : Queue
 fresh = record { core = sized_state 512; by = []; stop = None }
@@ -97,38 +66,13 @@ fresh = record { core = sized_state 512; by = []; stop = None }
 abbrev stopped : Queue
 stopped = ended_by fresh Full
 
-abbrev closed : Queue
-closed = finished fresh
-
 -- the first request is the first event
 first_enters : Enters fresh 0 plain (Recorded 0) (recorded_by fresh (Some 0) (events.Submit plain))
 first_enters = (refl, (refl, refl))
 
--- and has no other place, and no other seat's number
-other_place : Enters fresh 0 plain (Recorded 1) (recorded_by fresh (Some 0) (events.Submit plain))
-    → ⊥
-other_place enters = let place = enters.1.0 in absurd (omega arith)
-
-other_seat : Enters fresh 0 plain (Recorded 0) (recorded_by fresh (Some 1) (events.Submit plain))
-    → ⊥
-other_seat enters = let by = ap (λ (queue : Queue). queue.by) enters.1.1 in absurd (cc by)
-
 -- and isn't passed while recording goes on
 none_passed : Enters fresh 0 plain (Unrecorded None) fresh → ⊥
 none_passed enters = true≢false enters.0
-
--- nor is one behind a stop passed without its cause
-stop_dropped : Enters stopped 0 plain (Unrecorded None) stopped → ⊥
-stop_dropped enters = let stop = enters.1.0 in absurd (cc stop)
-
--- a mark has the next place, and waits behind what had been taken
-first_mark : MarkEnters fresh 0 (1 ∷ []) (entered.Recorded 0 0)
-    (recorded_by fresh (Some 0) (events.Mark (1 ∷ [])))
-first_mark = (refl, (refl, (refl, refl)))
-
-late_mark : MarkEnters fresh 0 (1 ∷ []) (entered.Recorded 0 7)
-    (recorded_by fresh (Some 0) (events.Mark (1 ∷ []))) → ⊥
-late_mark enters = let taken = enters.1.1.0 in absurd (omega arith)
 
 -- a mark behind a stop is told its cause, and no other
 stopped_mark : MarkEnters stopped 0 (1 ∷ []) (entered.Stopped Full) stopped
@@ -137,46 +81,8 @@ stopped_mark = (refl, (refl, refl))
 other_mark : MarkEnters stopped 0 (1 ∷ []) (entered.Stopped Device) stopped → ⊥
 other_mark enters = let cause = enters.1.0 in absurd (cc cause)
 
--- the writer finds nothing in a queue of no events, and waits; and a stop with its cause
-nothing_next : FindsNext fresh None fresh None
-nothing_next = (refl, (refl, (omega arith, (refl, (refl, refl)))))
-
 stop_next : FindsNext stopped (Some Stopped) stopped None
 stop_next = (refl, (refl, (refl, refl)))
-
--- it isn't finished while recording goes on, nor where a stop ended it
-open_finished : FindsNext fresh (Some Finished) fresh None → ⊥
-open_finished finds = true≢false finds.0
-
-stop_finished : FindsNext stopped (Some Finished) stopped None → ⊥
-stop_finished finds = let none = finds.1.0 in absurd (cc none)
-
--- nor before the end mark of a close is taken
-close_finished : FindsNext closed (Some Finished) closed None → ⊥
-close_finished finds = true≢false (ap is_some finds.1.1.1.0)
-
--- the end mark is taken, into the writer's hand; and then it is finished
-mark_taken : FindsNext closed (Some nexts.Item) (after_taking closed)
-    (in_hand (next_item closed.core))
-mark_taken = (refl, (refl, refl))
-
-mark_untaken : FindsNext closed (Some nexts.Item) closed (in_hand (next_item closed.core)) → ⊥
-mark_untaken finds =
-    let taken = ap (λ (queue : Queue). queue.core.taken) finds.1.0 in absurd (omega arith)
-
-mark_dropped : FindsNext closed (Some nexts.Item) (after_taking closed) None → ⊥
-mark_dropped finds = true≢false (sym (ap is_some finds.1.1))
-
-all_finished : FindsNext (after_taking closed) (Some Finished) (after_taking closed) None
-all_finished = (refl, (refl, (omega arith, (refl, (refl, refl)))))
-
--- it doesn't wait then, nor takes an item for which there is no room, nor is stopped by no Stop
-close_awaited : FindsNext (after_taking closed) None (after_taking closed) None → ⊥
-close_awaited finds = true≢false (sym finds.0)
-
-no_room_taken : FindsNext closed (Some NoRoom) (after_taking closed) None → ⊥
-no_room_taken finds =
-    let taken = ap (λ (queue : Queue). queue.core.taken) finds.0 in absurd (omega arith)
 
 no_stop : FindsNext fresh (Some Stopped) fresh None → ⊥
 no_stop finds = true≢false (sym finds.0)
@@ -195,10 +101,6 @@ none_posted = record { within = omega arith; sector = refl }
 -- so is that of one item of two, which lies in sector 1
 one_posted : IsOfPrefix 512 two (record { entries = 1; sector = 1; end = None })
 one_posted = record { within = omega arith; sector = refl }
-
--- but one that counts an entry too many isn't
-three_posted : IsOfPrefix 512 two (record { entries = 3; sector = 3; end = None }) → ⊥
-three_posted is = let within = is.within in absurd (omega arith)
 
 -- nor is one with the sector of another prefix
 other_posted : IsOfPrefix 512 two (record { entries = 1; sector = 2; end = None }) → ⊥
@@ -226,39 +128,17 @@ second_found = (
   ),
 )
 
-second_awaited : Finds both_placed 1 0 None → ⊥
-second_awaited finds = finds.0 1 (flushed 1) (omega arith) (omega arith) refl refl
-
--- it isn't found where it is placed alone, nor below the number from which it is looked for
-second_placed : Finds (record both_placed { settled = 1 }) 1 0 (Some (Ok (told_of 1))) → ⊥
-second_placed finds =
-    let settled = finds.1.1 in
-    let within = settled.within in
-    absurd (omega arith)
-
-second_early : Finds both_placed 1 2 (Some (Ok (told_of 1))) → ⊥
-second_early finds = let from = finds.1.0 in absurd (omega arith)
-
 -- a third one isn't; whoever waits for it is told the first cause, and no other
 abbrev both_ended : Log
 both_ended = record both_placed { end = Some Full; released = Some Device }
-
-other_cause : Finds both_ended 2 0 (Some (Err Device)) → ⊥
-other_cause finds = let cause = finds.1 in absurd (cc cause)
 
 -- and doesn't wait on, though who waits for the second one has its receipt
 third_awaited : Finds both_ended 2 0 None → ⊥
 third_awaited finds = let cause = finds.1 in absurd (cc cause)
 
-second_ended : Finds both_ended 1 0 (Some (Err Full)) → ⊥
-second_ended finds = finds.0 1 (flushed 1) (omega arith) (omega arith) refl refl
-
 -- a posted end is why the store ended, or else why those who waited were let go; there is no other
 abbrev full : Status
 full = record { entries = 2; sector = 2; end = Some Full }
-
-store_told : TellsCause (Some Full) (Some Device) full
-store_told cause is other = absurd (other is)
 
 stop_told : TellsCause None (Some Full) full
 stop_told cause is other = is
@@ -266,15 +146,9 @@ stop_told cause is other = is
 none_told : TellsCause None None full → ⊥
 none_told tells = let is = tells Full refl (λ none. absurd (cc none)) in absurd (cc is)
 
-other_told : TellsCause (Some Device) None full → ⊥
-other_told tells = let is = tells Full refl (λ same. absurd (cc same)) in absurd (cc is)
-
 -- a cause that a log's lock knew isn't forgotten
 end_forgotten : KeepsCauses both_ended (record both_ended { end = None }) → ⊥
 end_forgotten keeps = let is = keeps.end Full refl in absurd (cc is)
-
-release_forgotten : KeepsCauses both_ended (record both_ended { released = None }) → ⊥
-release_forgotten keeps = let is = keeps.released Device refl in absurd (cc is)
 
 -- the status of both items, which may be posted on the board of an empty log
 abbrev both : Status

@@ -12,9 +12,9 @@ use Rattle.dmlw_commands.specs.declared.exit.Exit.{Exit}
 use Rattle.dmlw_commands.specs.declared.exit.Exit.TheVariants.{Done, LoggingEnded, Refused}
 use Rattle.dmlw_commands.specs.declared.exit.Exit.TheVariants.{RuledOut, Usage}
 use Rattle.dmlw_commands.specs.Exits.{exit_after, exit_at, exit_by, exit_of, fault_line, status_of}
-use Rattle.dmlw_commands.specs.Exits.{told_line}
+use Rattle.dmlw_commands.specs.Exits.{reported_line}
 use Rattle.dmlw_commands.specs.declared.ending.Ended.{Ended}
-use Rattle.dmlw_commands.specs.Ends.{ErrStream, Tells, TellsLine}
+use Rattle.dmlw_commands.specs.Ends.{ErrStream, Tells, ReportsLine}
 use Rattle.dmlw_files.specs.Files.{AsksFor, KeepsFiles, Write}
 use Rattle.dmlw_commands.specs.Records.{PrintsLog, Records}
 use Rattle.dmlw_commands.specs.LogRuns.{PrintsRun, Runs}
@@ -28,7 +28,7 @@ use Rattle.judge.specs.declared.verdict.Verdict.{Verdict}
 use Rattle.judge.specs.declared.verdict.Verdict.TheVariants as verdicts
 use Rattle.replay.specs.declared.upto.Upto.{Upto}
 use Rattle.dmlw_cli.specs.Commands.{AsksForOne, EndsCommand, EndsTask, EndsUntasked, IsFaultLine}
-use Rattle.dmlw_cli.specs.Commands.{LeavesBy, TellsBy, TellsOneLine, TellsUntasked}
+use Rattle.dmlw_cli.specs.Commands.{LeavesBy, ReportsBy, ReportsOneLine, ReportsUntasked}
 use Rattle.clap.specs.Words.{Text, kind_of}
 use Rattle.clap.specs.declared.error.Error.{Error}
 use Rattle.dmlw_cli.specs.CommandLine.{is_formats}
@@ -256,8 +256,8 @@ nothing_behind old new line more none grew =
 
 -- a command that ends by a fault with this line, and doesn't explain itself, has told the line
 told_one_line : (t : ErrStream) (exit : Exit) (line : List ℕ) (ended : Ended) → t.explains ≡ false
-    → IsFaultLine exit line → TellsLine t exit line ended
-    → TellsOneLine ended t.before t.after
+    → IsFaultLine exit line → ReportsLine t exit line ended
+    → ReportsOneLine ended t.before t.after
 told_one_line t exit line ended off is tells = record {
   line = line;
   is = subst (λ (e : Exit). IsFaultLine e line) (sym tells.exits) is;
@@ -268,76 +268,82 @@ told_one_line t exit line ended off is tells = record {
 
 -- what a fault tells, by how it ends
 told_fault : (t : ErrStream) (cause : RunError) (ended : Ended) → t.explains ≡ false
-    → TellsLine t (exit_of cause) (fault_line cause) ended
-    → TellsBy ended.exit ended t.before t.after
+    → ReportsLine t (exit_of cause) (fault_line cause) ended
+    → ReportsBy ended.exit ended t.before t.after
 told_fault t cause ended off tells =
-    subst (λ (e : Exit). TellsBy e ended t.before t.after) (sym tells.exits)
+    subst (λ (e : Exit). ReportsBy e ended t.before t.after) (sym tells.exits)
     (by_fault cause (told_one_line t (exit_of cause) (fault_line cause) ended off
     (record { cause = cause; ends = refl; is = refl }) tells))
   where
-    by_fault : (cause : RunError) → TellsOneLine ended t.before t.after
-        → TellsBy (exit_of cause) ended t.before t.after
+    by_fault : (cause : RunError) → ReportsOneLine ended t.before t.after
+        → ReportsBy (exit_of cause) ended t.before t.after
     by_fault (faults.Refused refused) line = line
     by_fault (faults.LoggingEnded end) line = inr line
     by_fault (faults.StoppedAfter applied refusal) line = line
 
 -- what a command tells that did this
 told_by : {T : Type 0} (t : ErrStream) (done : Result T RunError) (ended : Ended)
-    → t.explains ≡ false → Tells t done ended → TellsBy ended.exit ended t.before t.after
+    → t.explains ≡ false → Tells t done ended → ReportsBy ended.exit ended t.before t.after
 told_by t (Ok u) ended off tells =
-    subst (λ (e : Exit). TellsBy e ended t.before t.after) (sym tells.exits) (tells.quiet off refl)
+    subst (λ (e : Exit). ReportsBy e ended t.before t.after) (sym tells.exits)
+    (tells.quiet off refl)
 told_by t (Err fault) ended off tells = told_fault t fault ended off tells
 
 -- what a recording tells
 told_recording : (t : ErrStream) (done : Result Status RunError) (ended : Ended)
-    → t.explains ≡ false → TellsLine t (exit_after done) (told_line done) ended
-    → TellsBy ended.exit ended t.before t.after
+    → t.explains ≡ false → ReportsLine t (exit_after done) (reported_line done) ended
+    → ReportsBy ended.exit ended t.before t.after
 told_recording t (Ok status) ended off tells =
-    subst (λ (e : Exit). TellsBy e ended t.before t.after) (sym tells.exits)
+    subst (λ (e : Exit). ReportsBy e ended t.before t.after) (sym tells.exits)
     (by_end status.end (tells.quiet off refl))
   where
-    by_end : (end : Option End) → t.after ≡ t.before → TellsBy (exit_at end) ended t.before t.after
+    by_end : (end : Option End) → t.after ≡ t.before
+        → ReportsBy (exit_at end) ended t.before t.after
     by_end None same = same
     by_end (Some cause) same = inl same
 told_recording t (Err fault) ended off tells = told_fault t fault ended off tells
 
 -- what a judging tells
 told_judging : (t : ErrStream) (done : Result Verdict RunError) (ended : Ended) → t.explains ≡ false
-    → TellsLine t (exit_judged done) (told_line done) ended
-    → TellsBy ended.exit ended t.before t.after
+    → ReportsLine t (exit_judged done) (reported_line done) ended
+    → ReportsBy ended.exit ended t.before t.after
 told_judging t (Ok verdicts.Yes) ended off tells =
-    subst (λ (e : Exit). TellsBy e ended t.before t.after) (sym tells.exits) (tells.quiet off refl)
+    subst (λ (e : Exit). ReportsBy e ended t.before t.after) (sym tells.exits)
+    (tells.quiet off refl)
 told_judging t (Ok (verdicts.No sector by)) ended off tells =
-    subst (λ (e : Exit). TellsBy e ended t.before t.after) (sym tells.exits) (tells.quiet off refl)
+    subst (λ (e : Exit). ReportsBy e ended t.before t.after) (sym tells.exits)
+    (tells.quiet off refl)
 told_judging t (Err cause) ended off tells = told_fault t cause ended off tells
 
 -- what the finding of a path tells
 told_finding : (t : ErrStream) (done : Result Finding RunError) (ended : Ended) → t.explains ≡ false
-    → TellsLine t (exit_answered finding_meaning done) (told_line done) ended
-    → TellsBy ended.exit ended t.before t.after
+    → ReportsLine t (exit_answered finding_meaning done) (reported_line done) ended
+    → ReportsBy ended.exit ended t.before t.after
 told_finding t (Ok (findings.Run run)) ended off tells =
-    subst (λ (e : Exit). TellsBy e ended t.before t.after) (sym tells.exits) (tells.quiet off refl)
+    subst (λ (e : Exit). ReportsBy e ended t.before t.after) (sym tells.exits)
+    (tells.quiet off refl)
 told_finding t (Ok (findings.RuledOut sector by)) ended off tells =
-    subst (λ (e : Exit). TellsBy e ended t.before t.after) (sym tells.exits) (tells.quiet off refl)
+    subst (λ (e : Exit). ReportsBy e ended t.before t.after) (sym tells.exits)
+    (tells.quiet off refl)
 told_finding t (Err cause) ended off tells = told_fault t cause ended off tells
 
 -- what a text tells
 text_tells : (kind : ErrorKind) (t : ErrStream) (ended : Ended) → EndsUntasked kind ended.exit
-    → TellsUntasked kind t ended → t.explains ≡ false
-    → TellsBy ended.exit ended t.before t.after
+    → ReportsUntasked kind t ended → t.explains ≡ false
+    → ReportsBy ended.exit ended t.before t.after
 text_tells OutOfMemory t ended ends tells off =
     told_by {T = Unit {0}} t (Err memory_error) ended off tells
 text_tells DisplayHelp t ended ends (done, fault, tells) off = told_by t done ended off tells
 text_tells DisplayVersion t ended ends (done, fault, tells) off = told_by t done ended off tells
 text_tells _ t ended ends tells off =
-    subst (λ (e : Exit). TellsBy e ended t.before t.after) (sym ends) tt
+    subst (λ (e : Exit). ReportsBy e ended t.before t.after) (sym ends) tt
 
 -- what every task tells that doesn't explain itself
 pub task_tells : (task : Task) (contents : List ℕ → Option (List ℕ))
     (writes_old writes_new : Option (List Write)) (old new : Option (List ℕ))
     (t : ErrStream) (ended : Ended) → EndsTask task contents writes_old writes_new old new t ended
     → t.explains ≡ false
-    → TellsBy ended.exit ended t.before t.after
+    → ReportsBy ended.exit ended t.before t.after
 task_tells (tasks.Record script log) contents writes_old writes_new old new t ended ends off =
     told_recording t ends.done ended off ends.tells
 task_tells (tasks.Run script log) contents writes_old writes_new old new t ended ends off =
@@ -359,7 +365,7 @@ task_tells (tasks.Formats page) contents writes_old writes_new old new t ended e
 task_tells (tasks.Show error) contents writes_old writes_new old new t ended ends off =
     text_tells (kind_of error) t ended ends.ends ends.tells off
 task_tells (tasks.Flawed flaw word) contents writes_old writes_new old new t ended ends off =
-    subst (λ (e : Exit). TellsBy e ended t.before t.after) (sym ends.usage) tt
+    subst (λ (e : Exit). ReportsBy e ended t.before t.after) (sym ends.usage) tt
 
 -- where there was no memory to read words, that is what they are read as
 pub memory_read : (words : List Text) (error : Error) → kind_of error ≡ OutOfMemory

@@ -73,11 +73,11 @@ pub record EndsCommand (old new : Option (List Write)) (status : ℕ) : Type 0 w
 -- What is told on the error stream of a text that is shown, as one of this kind: of memory that ran
 -- out its line, of help and the version the line of the file's error where they can't be printed;
 -- the others are told themselves.
-abbrev pub TellsUntasked : ErrorKind → ErrStream → Ended → Type 0
-TellsUntasked OutOfMemory t ended = Tells {T = Unit {0}} t (Err memory_error) ended
-TellsUntasked DisplayHelp t ended = TellsPrinting t ended
-TellsUntasked DisplayVersion t ended = TellsPrinting t ended
-TellsUntasked _ t ended = Unit {0}
+abbrev pub ReportsUntasked : ErrorKind → ErrStream → Ended → Type 0
+ReportsUntasked OutOfMemory t ended = Tells {T = Unit {0}} t (Err memory_error) ended
+ReportsUntasked DisplayHelp t ended = TellsPrinting t ended
+ReportsUntasked DisplayVersion t ended = TellsPrinting t ended
+ReportsUntasked _ t ended = Unit {0}
 
 -- How a text ends that is shown, as one of this kind: no file was asked to be written, it ends as
 -- its kind has it, and nothing was printed on the output unless it was asked for.
@@ -86,10 +86,10 @@ pub record EndsText (kind : ErrorKind) (writes_old writes_new : Option (List Wri
   pub unwritten : writes_new ≡ writes_old
   pub ends : EndsUntasked kind ended.exit
   pub silent : is_asked_for kind ≡ false → Keeps old new
-  pub tells : TellsUntasked kind t ended
+  pub tells : ReportsUntasked kind t ended
 
 -- How the printing of a page ends: it was printed, or the output can't be written.
-pub record TellsPage (page : List ℕ) (old new : Option (List ℕ)) (t : ErrStream)
+pub record ReportsPage (page : List ℕ) (old new : Option (List ℕ)) (t : ErrStream)
     (ended : Ended) : Type 0 where
   pub done : Result (Unit {0}) RunError
   pub printed : MatchResult done (λ _. Appends old new page) IsFileError
@@ -99,7 +99,7 @@ pub record TellsPage (page : List ℕ) (old new : Option (List ℕ)) (t : ErrStr
 pub record EndsPage (page : List ℕ) (writes_old writes_new : Option (List Write))
     (old new : Option (List ℕ)) (t : ErrStream) (ended : Ended) : Type 0 where
   pub unwritten : writes_new ≡ writes_old
-  pub told : TellsPage page old new t ended
+  pub told : ReportsPage page old new t ended
 
 -- How the replay of the log in a file ends, up to what a word names.
 abbrev pub ReplaysWhat : List ℕ → Option (List ℕ) → Option (List ℕ) → Option (List ℕ) → List ℕ
@@ -229,7 +229,7 @@ pub record IsFaultLine (exit : Exit) (line : List ℕ) : Type 0 where
 
 -- One line was told, of a fault by which the command ends
 -- so, and nothing else, where the error stream took it.
-pub record TellsOneLine (ended : Ended) (old new : Option (List ℕ)) : Type 0 where
+pub record ReportsOneLine (ended : Ended) (old new : Option (List ℕ)) : Type 0 where
   pub line : List ℕ
   pub is : IsFaultLine ended.exit line
   pub told : ended.err_taken ≡ true → Appends old new line
@@ -237,9 +237,9 @@ pub record TellsOneLine (ended : Ended) (old new : Option (List ℕ)) : Type 0 w
 -- What is told of how a command ends so, which doesn't explain itself: of a refusal one line, and
 -- nothing if it is done or ruled out. Where logging ended, a line where no log could be made,
 -- and nothing where the log came as far as it did.
-abbrev pub TellsBy : Exit → Ended → Option (List ℕ) → Option (List ℕ) → Type 0
-TellsBy Done ended old new = new ≡ old
-TellsBy Refused ended old new = TellsOneLine ended old new
-TellsBy Usage ended old new = Unit {0}
-TellsBy LoggingEnded ended old new = (new ≡ old) ⊎ TellsOneLine ended old new
-TellsBy RuledOut ended old new = new ≡ old
+abbrev pub ReportsBy : Exit → Ended → Option (List ℕ) → Option (List ℕ) → Type 0
+ReportsBy Done ended old new = new ≡ old
+ReportsBy Refused ended old new = ReportsOneLine ended old new
+ReportsBy Usage ended old new = Unit {0}
+ReportsBy LoggingEnded ended old new = (new ≡ old) ⊎ ReportsOneLine ended old new
+ReportsBy RuledOut ended old new = new ≡ old

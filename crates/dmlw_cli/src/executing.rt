@@ -5,8 +5,8 @@ ghost use Rattle.std.specs.IoError.{error_kind};
 ghost use Rattle.clap.specs.Words.{kind_of};
 ghost use Rattle.dmlw_cli.specs.CommandLine.{has_explain};
 ghost use Rattle.dmlw_cli.specs.Commands.{AsksForOne, DoesWords, EndsCommand, EndsTask};
-ghost use Rattle.dmlw_cli.specs.Commands.{EndsUntasked, TaskLeaves, TellsBy, TellsPage};
-ghost use Rattle.dmlw_cli.specs.Commands.{TellsUntasked, flaw_text, is_asked_for, unread_exit};
+ghost use Rattle.dmlw_cli.specs.Commands.{EndsUntasked, TaskLeaves, ReportsBy, ReportsPage};
+ghost use Rattle.dmlw_cli.specs.Commands.{ReportsUntasked, flaw_text, is_asked_for, unread_exit};
 ghost use Rattle.dmlw_commands.specs.Ends.{err_stream};
 ghost use Rattle.refusals.specs.Errors.{IsFileError};
 ghost use Rattle.dmlw_files.specs.Files.{KeepsFiles};
@@ -67,7 +67,7 @@ pub fn execute<'a, S: AsStr, F: Files, O: Write, E: Write, H: Threads + Wait + S
     // Without `--explain` nothing goes to `err` if it is done,
     // and for a refusal its one line, as far as `err` takes it.
     ensures told { has_explain (map S.text words.entry.now) ≡ false
-        → TellsBy result.exit result (E.contents session.old.err) (E.contents session.new.err) }
+        → ReportsBy result.exit result (E.contents session.old.err) (E.contents session.new.err) }
 {
     let alloc = session.alloc;
     session.explains = has_explain(words);
@@ -146,7 +146,7 @@ pub fn refuse<E: Write>(alloc: Global, error: io::Error, err: &mut E) -> u8
 
 // Prints a page.
 fn print_page<O: Write, E: Write>(alloc: Global, page: &str, out: &mut O, err: &mut E) -> Ended
-    ensures { (explains : Bool) → TellsPage page.now (O.contents out.old) (O.contents out.new)
+    ensures { (explains : Bool) → ReportsPage page.now (O.contents out.old) (O.contents out.new)
         (err_stream explains (E.contents err.old) (E.contents err.new)) result }
 {
     let printed = write_page(page, out);
@@ -189,7 +189,7 @@ fn show<O: Write, E: Write>(alloc: Global, text: Error, out: &mut O, err: &mut E
     ensures ends { EndsUntasked (kind_of text) result.exit }
     ensures silent { is_asked_for (kind_of text) ≡ false
         → Keeps (O.contents out.old) (O.contents out.new) }
-    ensures tells { (explains : Bool) → TellsUntasked (kind_of text)
+    ensures tells { (explains : Bool) → ReportsUntasked (kind_of text)
         (err_stream explains (E.contents err.old) (E.contents err.new)) result }
 {
     match text.kind() {

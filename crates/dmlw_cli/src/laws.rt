@@ -22,7 +22,7 @@ ghost use Rattle.refusals.specs.Words.{IsNumber};
 
 /// A word names a command exactly if it is the command's name.
 #[tactic(auto, using(crate::proofs::CommandNames::named, crate::proofs::CommandNames::named_again))]
-pub fn names_are_told_apart()
+pub fn names_are_distinct()
     ensures named { (word : List ℕ) (name : Name) → name_of word ≡ Some name
         → word ≡ name_text name }
     ensures again { (name : Name) → name_of (name_text name) ≡ Some name }

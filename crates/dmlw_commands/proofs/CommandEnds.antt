@@ -13,8 +13,8 @@ use Rattle.script_runner.specs.DiskRun.{run as no_run, unmade}
 use Rattle.script_runner.specs.Runs.{EndsRun, close, file as by_file, message}
 use Rattle.refusals.specs.declared.end.End.{End}
 use Rattle.bio.specs.declared.outcome.Status.{Status}
-use Rattle.dmlw_commands.specs.Ends.{EndsRecording, EndsShowing, ErrStream, Tells, TellsLine}
-use Rattle.dmlw_commands.specs.Exits.{IsRefusal, exit_after, exit_at, told_line}
+use Rattle.dmlw_commands.specs.Ends.{EndsRecording, EndsShowing, ErrStream, Tells, ReportsLine}
+use Rattle.dmlw_commands.specs.Exits.{IsRefusal, exit_after, exit_at, reported_line}
 use Rattle.dmlw_files.specs.Files.{AsksFor, KeepsFiles, MatchesContents, Write}
 use Rattle.dmlw_commands.specs.Lists.{Shows, ShowsFile}
 use Rattle.dmlw_commands.specs.Records.{FailsRecording, HoldsLog, IsPrintedLog, Records, PrintsLog}
@@ -112,7 +112,7 @@ pub recording_ends : (contents : Option (List ℕ)) (log : List ℕ)
     (t : ErrStream) (done : Result Status RunError) (ended : Ended)
     → Records contents log writes_old writes_middle old middle done → Keeps middle new
     → writes_new ≡ writes_middle
-    → TellsLine t (exit_after done) (told_line done) ended
+    → ReportsLine t (exit_after done) (reported_line done) ended
     → EndsRecording contents log writes_old writes_new old new t ended
 recording_ends contents log writes_old writes_middle writes_new old middle new t done ended records
     kept same tells = record {

@@ -21,8 +21,8 @@ use Rattle.script_runner.specs.Rehearsals.{FailsRehearsal, IsRehearsed}
 use Rattle.dmlw_commands.specs.declared.ending.Ended.{Ended}
 use Rattle.dmlw_files.specs.declared.files.FileError.{FileError}
 use Rattle.dmlw_files.specs.declared.files.FileError.TheVariants as errors
-use Rattle.dmlw_commands.specs.Ends.{ErrStream, TellsLine}
-use Rattle.dmlw_commands.specs.Exits.{told_line}
+use Rattle.dmlw_commands.specs.Ends.{ErrStream, ReportsLine}
+use Rattle.dmlw_commands.specs.Exits.{reported_line}
 use Rattle.dmlw_files.specs.FileErrors.{file_refusal}
 use Rattle.dmlw_files.specs.Files.{IsWithin, MatchesContents, Write}
 use Rattle.dmlw_files.specs.Images.{IsImage, image_read}
@@ -242,7 +242,7 @@ pub answering_ends : {A : Type 0} (meaning : Meaning A) (asked : Question)
     (done : Result A RunError) (ended : Ended)
     → Answers meaning asked old mid done → Keeps mid new → writes_mid ≡ writes_old
     → writes_new ≡ writes_mid
-    → TellsLine t (exit_answered meaning done) (told_line done) ended
+    → ReportsLine t (exit_answered meaning done) (reported_line done) ended
     → EndsAnswering meaning asked writes_old writes_new old new t ended
 answering_ends meaning asked writes_old writes_mid writes_new old mid new t done ended judged kept
     first second tells = record {

@@ -9,8 +9,8 @@ use Rattle.refusals.specs.declared.run_error.RunError.{RunError}
 use Rattle.refusals.specs.declared.run_error.RunError.TheVariants as faults
 use Rattle.refusals.specs.declared.end.End.{End}
 use Rattle.bio.specs.declared.outcome.Status.{Status}
-use Rattle.dmlw_commands.specs.Ends.{ErrStream, TellsLine}
-use Rattle.dmlw_commands.specs.Exits.{IsRefusal, exit_after, exit_at, told_line}
+use Rattle.dmlw_commands.specs.Ends.{ErrStream, ReportsLine}
+use Rattle.dmlw_commands.specs.Exits.{IsRefusal, exit_after, exit_at, reported_line}
 use Rattle.dmlw_files.specs.Files.{AsksFor, KeepsFiles, MatchesContents, Write}
 use Rattle.dmlw_commands.specs.LogRuns.{EndsRunning, FailsRunning, HoldsRun, IsPrintedRun, PrintsRun}
 use Rattle.dmlw_commands.specs.LogRuns.{Runs, WritesRun, file, run as ran, text as unread}
@@ -84,7 +84,7 @@ pub running_ends : (contents : Option (List ℕ)) (log : List ℕ)
     (t : ErrStream) (done : Result Status RunError) (ended : Ended)
     → Runs contents log writes_old writes_middle old middle done → Keeps middle new
     → writes_new ≡ writes_middle
-    → TellsLine t (exit_after done) (told_line done) ended
+    → ReportsLine t (exit_after done) (reported_line done) ended
     → EndsRunning contents log writes_old writes_new old new t ended
 running_ends contents log writes_old writes_middle writes_new old middle new t done ended records
     kept same tells = record {

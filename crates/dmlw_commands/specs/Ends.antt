@@ -5,7 +5,7 @@ use Rattle.refusals.specs.declared.run_error.RunError.{RunError}
 use Rattle.dmlw_commands.specs.declared.ending.Ended.{Ended}
 use Rattle.bio.specs.declared.outcome.Status.{Status}
 use Rattle.dmlw_commands.specs.declared.exit.Exit.{Exit}
-use Rattle.dmlw_commands.specs.Exits.{exit_after, exit_by, told_line}
+use Rattle.dmlw_commands.specs.Exits.{exit_after, exit_by, reported_line}
 use Rattle.dmlw_files.specs.Files.{Write}
 use Rattle.dmlw_commands.specs.Lists.{Shows, ShowsFile}
 use Rattle.dmlw_commands.specs.Records.{Records}
@@ -22,7 +22,7 @@ err_stream explains before after = record { explains = explains; before = before
 -- What a command with this end has written to the error stream, with this line to report. This is
 -- that line and, if it explains itself, perhaps more after it. It is nothing if there is no line,
 -- and it doesn't explain itself.
-pub record TellsLine (t : ErrStream) (exit : Exit) (line : List ℕ) (ended : Ended) : Type 0 where
+pub record ReportsLine (t : ErrStream) (exit : Exit) (line : List ℕ) (ended : Ended) : Type 0 where
   pub exits : ended.exit ≡ exit
   pub told : ended.err_taken ≡ true
       → (more : List ℕ) × (t.explains ≡ false → more ≡ []) × Appends t.before t.after (line ++ more)
@@ -30,7 +30,7 @@ pub record TellsLine (t : ErrStream) (exit : Exit) (line : List ℕ) (ended : En
 
 -- what a command with this result has reported: the one line of its fault, or none if it is done
 abbrev pub Tells : {T : Type 0} → ErrStream → Result T RunError → Ended → Type 0
-Tells t done ended = TellsLine t (exit_by done) (told_line done) ended
+Tells t done ended = ReportsLine t (exit_by done) (reported_line done) ended
 
 -- How the recording of a script in a log of this name ends: as what it did has it.
 pub record EndsRecording (contents : Option (List ℕ)) (log : List ℕ)
@@ -38,7 +38,7 @@ pub record EndsRecording (contents : Option (List ℕ)) (log : List ℕ)
     (t : ErrStream) (ended : Ended) : Type 0 where
   pub done : Result Status RunError
   pub recorded : Records contents log writes_old writes_new old new done
-  pub tells : TellsLine t (exit_after done) (told_line done) ended
+  pub tells : ReportsLine t (exit_after done) (reported_line done) ended
 
 -- How a command on the image in a file ends: no file was
 -- asked to be written, and it ends as what it did has it.

@@ -49,6 +49,6 @@ abbrev pub fault_line : RunError → List ℕ
 fault_line fault = codes "dmlw: " ++ error_text fault ++ codes "\n"
 
 -- the line that a user reads after this result: of a fault, or none
-abbrev pub told_line : {T : Type 0} → Result T RunError → List ℕ
-told_line (Ok done) = []
-told_line (Err fault) = fault_line fault
+abbrev pub reported_line : {T : Type 0} → Result T RunError → List ℕ
+reported_line (Ok done) = []
+reported_line (Err fault) = fault_line fault

@@ -24,8 +24,8 @@ use Rattle.script_runner.specs.Rehearsals.{FailsRehearsal, IsRehearsed}
 use Rattle.dmlw_commands.specs.declared.ending.Ended.{Ended}
 use Rattle.dmlw_commands.specs.declared.exit.Exit.{Exit}
 use Rattle.dmlw_commands.specs.declared.exit.Exit.TheVariants as exits
-use Rattle.dmlw_commands.specs.Ends.{ErrStream, TellsLine}
-use Rattle.dmlw_commands.specs.Exits.{exit_of, told_line}
+use Rattle.dmlw_commands.specs.Ends.{ErrStream, ReportsLine}
+use Rattle.dmlw_commands.specs.Exits.{exit_of, reported_line}
 use Rattle.dmlw_files.specs.Files.{IsWithin, MatchesContents, Write}
 use Rattle.dmlw_files.specs.Images.{HoldsImage, IsImage}
 use Rattle.dmlw_commands.specs.Records.{IsNoScript}
@@ -137,7 +137,7 @@ pub record EndsAnswering {A : Type 0} (meaning : Meaning A) (asked : Question)
   pub unwritten : writes_new ≡ writes_old
   pub done : Result A RunError
   pub judged : Answers meaning asked old new done
-  pub tells : TellsLine t (exit_answered meaning done) (told_line done) ended
+  pub tells : ReportsLine t (exit_answered meaning done) (reported_line done) ended
 
 -- the line of a verdict
 abbrev pub verdict_line : Verdict → List ℕ

@@ -6,8 +6,8 @@ use Rattle.bio.specs.declared.outcome.Status.{Status}
 use Rattle.refusals.specs.declared.refusal.Refusal.{Refusal}
 use Rattle.dmlw_commands.specs.declared.ending.Ended.{Ended}
 use Rattle.dmlw_commands.specs.declared.exit.Exit.{Exit}
-use Rattle.dmlw_commands.specs.Ends.{ErrStream, TellsLine}
-use Rattle.dmlw_commands.specs.Exits.{exit_after, exit_at, told_line}
+use Rattle.dmlw_commands.specs.Ends.{ErrStream, ReportsLine}
+use Rattle.dmlw_commands.specs.Exits.{exit_after, exit_at, reported_line}
 use Rattle.dmlw_commands.specs.Records.{end_lines}
 use Rattle.dmlw_files.specs.Files.{MatchesContents, Write, one_more}
 use Rattle.dmlw_script.specs.Lines.{lines_of}
@@ -118,4 +118,4 @@ pub record EndsRunning (contents : Option (List ℕ)) (log : List ℕ)
     (t : ErrStream) (ended : Ended) : Type 0 where
   pub done : Result Status RunError
   pub ran : Runs contents log writes_old writes_new old new done
-  pub tells : TellsLine t (exit_after done) (told_line done) ended
+  pub tells : ReportsLine t (exit_after done) (reported_line done) ended

@@ -3,7 +3,7 @@ ghost use Rattle.std.specs.Prelude.{◌≡◌, ◌++◌, [], Err, OnOk, true};
 ghost use Rattle.std.specs.Io.KnownBytes.{Appends, Keeps};
 ghost use Rattle.dmlw_commands.specs.declared.exit.Exit.{Exit};
 ghost use Rattle.dmlw_commands.specs.Exits.{exit_after, exit_by, exit_of};
-ghost use Rattle.dmlw_commands.specs.Exits.{fault_line, told_line};
+ghost use Rattle.dmlw_commands.specs.Exits.{fault_line, reported_line};
 
 use crate::exit::Exit;
 use bio::Status;
@@ -30,9 +30,10 @@ pub fn end<T: Copy, O: Write, E: Write>(
 ) -> Ended
     ensures exit { result.exit ≡ exit_by done }
     ensures kept { Keeps (O.contents out.old) (O.contents out.new) }
-    ensures quiet { told_line done ≡ [] → more.now ≡ [] → E.contents err.new ≡ E.contents err.old }
+    ensures quiet { reported_line done ≡ [] → more.now ≡ []
+        → E.contents err.new ≡ E.contents err.old }
     ensures told { result.err_taken ≡ true
-        → Appends (E.contents err.old) (E.contents err.new) (told_line done ++ more.now) }
+        → Appends (E.contents err.old) (E.contents err.new) (reported_line done ++ more.now) }
 {
     match done {
         Ok(_) => end_well(Exit::Done, more, err),
@@ -54,9 +55,10 @@ pub fn end_recording<O: Write, E: Write>(
 ) -> Ended
     ensures exit { result.exit ≡ exit_after done }
     ensures kept { Keeps (O.contents out.old) (O.contents out.new) }
-    ensures quiet { told_line done ≡ [] → more.now ≡ [] → E.contents err.new ≡ E.contents err.old }
+    ensures quiet { reported_line done ≡ [] → more.now ≡ []
+        → E.contents err.new ≡ E.contents err.old }
     ensures told { result.err_taken ≡ true
-        → Appends (E.contents err.old) (E.contents err.new) (told_line done ++ more.now) }
+        → Appends (E.contents err.old) (E.contents err.new) (reported_line done ++ more.now) }
 {
     match done {
         Ok(status) => end_well(Exit::from(status.end), more, err),

@@ -4,7 +4,7 @@ ghost use Rattle.std.specs.Io.KnownBytes.{Appends};
 ghost use Rattle.refusals.specs.declared.refusal.Refusal.TheVariants as refusals;
 ghost use Rattle.refusals.specs.Errors.{IsFileError, refused_by};
 ghost use Rattle.dmlw_script.specs.RunGrammar.{IsRunText};
-ghost use Rattle.dmlw_commands.specs.Ends.{TellsLine, err_stream};
+ghost use Rattle.dmlw_commands.specs.Ends.{ReportsLine, err_stream};
 ghost use Rattle.dmlw_commands.specs.declared.exit.Exit.{Exit};
 ghost use Rattle.dmlw_commands.specs.Exits.{IsRefusal, exit_after, exit_at, exit_of, fault_line};
 ghost use Rattle.std.specs.Result.{IsErrAnd};
@@ -61,7 +61,7 @@ pub fn run<F: Files, O: Write, E: Write, H: Threads + Wait + Sync>(
         (O.contents session.new.out) (F.contents session.new.files log.now) }
     ensures apart { script.now ≡ log.now → F.writes session.new.files ≡ F.writes session.old.files }
     ensures same { script.now ≡ log.now →
-        TellsLine (err_stream session.old.explains (E.contents session.old.err)
+        ReportsLine (err_stream session.old.explains (E.contents session.old.err)
         (E.contents session.new.err)) Exit.Refused
         (fault_line (refused_by refusals.File)) result }
     // A script whose known bytes are too many is refused as a file, and nothing is printed.

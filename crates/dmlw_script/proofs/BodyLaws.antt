@@ -35,7 +35,7 @@ use Rattle.dmlw_script.specs.inside.Drafts.{body_step, ended_next, named_next, a
 use Rattle.dmlw_script.specs.inside.Drafts.{step_test, with_command, with_name, Body}
 use Rattle.dmlw_script.specs.Ids.{script_id, same_name}
 use Rattle.dmlw_script.specs.Plans.{count_after_command, lines_of_body, is_ended, is_submission}
-use Rattle.dmlw_script.specs.Plans.{name_at, request_of, line_at, moment_after, step_answer}
+use Rattle.dmlw_script.specs.Plans.{name_at, request_of, line_at, time_after, step_answer}
 use Rattle.dmlw_script.specs.Plans.{submission_answer, submissions, top_of, Disk, HasLineText}
 use Rattle.dmlw_script.specs.Plans.{IsInTime, IsName, IsWellFormed, CanFollow, WritesByte}
 use Rattle.dmlw_script.specs.inside.Readers.{parsed_step, with_body, Progress}
@@ -308,8 +308,8 @@ step_grows bytes sectors b c (body_lines.Submit name submission) e fine sound =
 step_grows bytes sectors b c (body_lines.Complete name) e fine sound =
     end_grows bytes sectors b c name (request_of name b.names) refl e sound
 step_grows bytes sectors b c (body_lines.Step step) e fine sound =
-    let q = bind_ok (step_test bytes sectors (moment_after b.body) step) _ c e in
-    let told = step_ok bytes sectors (moment_after b.body) step q.0 q.1 in
+    let q = bind_ok (step_test bytes sectors (time_after b.body) step) _ c e in
+    let told = step_ok bytes sectors (time_after b.body) step q.0 q.1 in
     other_grows bytes sectors b (commands.Step step) (body_lines.Step step) (told.0, fine, told.1)
     refl refl sound c (let last = q.2 in cc)
 
@@ -545,7 +545,7 @@ run_again d l size names front rest before
     (commands.Step step ∷ body) whole distinct numbered left well_formed =
     again_step d l size names front front before body (commands.Step step)
     (bind_at _ _ _ _ (step_again (bytes_of size) (top_of d)
-    (moment_after before) step well_formed.0.0 well_formed.0.2) refl) refl
+    (time_after before) step well_formed.0.0 well_formed.0.2) refl) refl
     (run_again d l size names front rest
     (before ++ commands.Step step ∷ []) body whole distinct
     (numbered ∙ sym (submissions-push before (commands.Step step) ∙ omega arith))

@@ -37,7 +37,7 @@ use Rattle.dmlw_script.specs.Lines.{with_line_feeds, is_line_byte, is_line_text,
 use Rattle.dmlw_script.specs.Lines.{lines_of, IsUnbroken}
 use Rattle.dmlw_script.specs.Ids.{is_id, is_name_byte, letters_of, script_id}
 use Rattle.dmlw_script.specs.Plans.{ArePicks, CanFollow, count_after_command, head_of, layer_line}
-use Rattle.dmlw_script.specs.Plans.{line_at, lines_behind_head, lines_of_body, name_at}
+use Rattle.dmlw_script.specs.Plans.{line_at, lines_after_head, lines_of_body, name_at}
 use Rattle.dmlw_script.specs.Plans.{lines_of_script, range_test, step_answer, submission_answer}
 use Rattle.dmlw_script.specs.Plans.{submissions, top_of, with_ending, Disk, HasLineText, IsDisk}
 use Rattle.dmlw_script.specs.Plans.{IsName, IsWellFormed, IsPlan, ScriptValue, WritesByte}
@@ -541,7 +541,7 @@ plan_written plan is =
     let is_data : IsDisk d = is.data_disk in
     let small : top_of d ≤ 1048576 =
     top_small d.sectors d.layers is_data.stand (disk_small d is_data) in
-    all_append IsWritten (head_of d l plan.log_size) (lines_behind_head plan)
+    all_append IsWritten (head_of d l plan.log_size) (lines_after_head plan)
     (head_written d l plan.log_size is_data is.log_disk)
     (ending_written plan.ending (lines_of_body plan.names 0 plan.commands) is.picks
     (body_written (bytes_of plan.log_size)

@@ -8,7 +8,7 @@ use Rattle.std.proofs.lemmas.List.{length-append}
 use Rattle.table_line.specs.declared.layer_spec.LayerSpec.{LayerSpec}
 use Rattle.table_line.specs.Ranges.{IsLayerSpec}
 use Rattle.dmlw_script.specs.Plans.{is_disk_size, is_within, top_of, Disk, IsDisk}
-use Rattle.table_line.specs.LayerOrder.{top_sectors, CanStand}
+use Rattle.table_line.specs.LayerOrder.{top_sectors, IsAllowed}
 use Rattle.dmlw_script.specs.FirstFault.{bare, with_layer}
 
 -- the last layer is on top
@@ -30,9 +30,9 @@ top_push sectors [] layer = refl
 top_push sectors (first ∷ layers) layer = top_push first.length layers layer
 
 -- one more layer may stand
-stand_push : (sectors : ℕ) (layers : List LayerSpec) (layer : LayerSpec) → CanStand sectors layers
+stand_push : (sectors : ℕ) (layers : List LayerSpec) (layer : LayerSpec) → IsAllowed sectors layers
     → IsLayerSpec layer → layer.offset + layer.length ≤ top_sectors sectors layers
-    → CanStand sectors (layers ++ layer ∷ [])
+    → IsAllowed sectors (layers ++ layer ∷ [])
 stand_push sectors [] layer stand is within = (is, within, tt)
 stand_push sectors (first ∷ layers) layer stand is within =
     (stand.0, stand.1, stand_push first.length layers layer stand.2 is within)
@@ -59,21 +59,21 @@ disk_small disk is =
     (and_parts (nat_le 1 disk.sectors) (nat_le disk.sectors 1048576) is.size).1
 
 -- layers that may stand are layers
-pub layer_specs : (sectors : ℕ) (layers : List LayerSpec) → CanStand sectors layers
+pub layer_specs : (sectors : ℕ) (layers : List LayerSpec) → IsAllowed sectors layers
     → AllByRecursion IsLayerSpec layers
 layer_specs sectors [] stand = tt
 layer_specs sectors (layer ∷ layers) stand =
     (stand.0, layer_specs layer.length layers stand.2)
 
 -- layers that stand over a device of at most 1,048,576 sectors have at most so many
-pub top_small : (sectors : ℕ) (layers : List LayerSpec) → CanStand sectors layers
+pub top_small : (sectors : ℕ) (layers : List LayerSpec) → IsAllowed sectors layers
     → sectors ≤ 1048576 → top_sectors sectors layers ≤ 1048576
 top_small sectors [] stand small = small
 top_small sectors (layer ∷ layers) stand small =
     top_small layer.length layers stand.2 (let lengths = stand.0.sectors in lengths.few)
 
 -- what stands on top has no more sectors than the disk
-pub top_within : (sectors : ℕ) (layers : List LayerSpec) → CanStand sectors layers
+pub top_within : (sectors : ℕ) (layers : List LayerSpec) → IsAllowed sectors layers
     → top_sectors sectors layers ≤ sectors
 top_within sectors [] stand = omega arith
 top_within sectors (layer ∷ layers) stand =
@@ -87,7 +87,7 @@ abbrev pub AreLong : ℕ → List LayerSpec → Type 0
 AreLong least layers = AllByRecursion (λ (layer : LayerSpec). least ≤ layer.length) layers
 
 -- layers have as many as their top has
-pub long_below : (least sectors : ℕ) (layers : List LayerSpec) → CanStand sectors layers
+pub long_below : (least sectors : ℕ) (layers : List LayerSpec) → IsAllowed sectors layers
     → least ≤ top_sectors sectors layers → AreLong least layers
 long_below least sectors [] stand long = tt
 long_below least sectors (layer ∷ layers) stand long =
@@ -96,7 +96,7 @@ long_below least sectors (layer ∷ layers) stand long =
     (omega (arith, long), long_below least layer.length layers stand.2 long)
 
 -- layers that stand have a sector each
-pub long_enough : (sectors : ℕ) (layers : List LayerSpec) → CanStand sectors layers
+pub long_enough : (sectors : ℕ) (layers : List LayerSpec) → IsAllowed sectors layers
     → AreLong 1 layers
 long_enough sectors [] stand = tt
 long_enough sectors (layer ∷ layers) stand =

@@ -14,7 +14,7 @@ use Rattle.dmlw_script.specs.declared.command.Command.{Command}
 use Rattle.dmlw_script.specs.declared.command.Command.TheVariants as commands
 use Rattle.dmlw_script.specs.inside.Drafts.{named_next, with_name, Body, IsFlags}
 use Rattle.dmlw_script.specs.Ids.{same_name}
-use Rattle.dmlw_script.specs.Plans.{is_end_of, is_ended, moment_at, moment_from, request_of}
+use Rattle.dmlw_script.specs.Plans.{is_end_of, is_ended, time_at, time_from, request_of}
 use Rattle.dmlw_script.specs.declared.script_id.ScriptId.{ScriptId}
 use Rattle.refusals.specs.declared.refusal.Refusal.TheVariants.{BadId}
 
@@ -107,6 +107,6 @@ with_old_name b name old =
 
 -- one more command
 pub moment_push : (moment : ℕ) (body : List Command) (command : Command)
-    → moment_from moment (body ++ command ∷ []) ≡ moment_at (moment_from moment body) command
+    → time_from moment (body ++ command ∷ []) ≡ time_at (time_from moment body) command
 moment_push moment [] command = refl
-moment_push moment (first ∷ body) command = moment_push (moment_at moment first) body command
+moment_push moment (first ∷ body) command = moment_push (time_at moment first) body command

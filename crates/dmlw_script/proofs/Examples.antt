@@ -19,11 +19,11 @@ use Rattle.dmlw_script.specs.declared.command.Step.TheVariants as steps
 use Rattle.dmlw_script.specs.declared.command.WriteOptions.{WriteOptions}
 use Rattle.dmlw_script.specs.CanonicalText.{line_text, step_text}
 use Rattle.dmlw_script.specs.Plans.{head_count, is_log_disk_size, is_within, layer_line}
-use Rattle.dmlw_script.specs.Plans.{lines_of_script, moment_after, range_test, top_of, Disk}
+use Rattle.dmlw_script.specs.Plans.{lines_of_script, time_after, range_test, top_of, Disk}
 use Rattle.dmlw_script.specs.Plans.{IsInTime, IsPlan, ScriptValue}
-use Rattle.table_line.specs.LayerOrder.{CanStand}
+use Rattle.table_line.specs.LayerOrder.{IsAllowed}
 use Rattle.dmlw_script.specs.FirstFault.{bare, data_due, head_refusal, in_body, in_head}
-use Rattle.dmlw_script.specs.FirstFault.{prefix_after, StandsAfter}
+use Rattle.dmlw_script.specs.FirstFault.{prefix_after, MayFollowInScript}
 use Rattle.dmlw_script.specs.Grammar.{spaced}
 use Rattle.dmlw_script.specs.Words.{byte_text}
 use Rattle.dmlw_script.specs.Ids.{script_id}
@@ -196,7 +196,7 @@ past_end : is_within (linear 8 9) 16 ≡ false
 past_end = refl
 
 -- a layer that fits the disk but not the layer beneath it can't stand
-may_stand : CanStand 16 (linear 8 8 ∷ linear 8 0 ∷ [])
+may_stand : IsAllowed 16 (linear 8 8 ∷ linear 8 0 ∷ [])
 may_stand =
     let fine : IsLayerSpec (linear 8 8) =
     record {
@@ -212,7 +212,7 @@ may_stand =
     } in
     (fine, omega arith, (other, omega arith, tt))
 
-may_not_stand : CanStand 16 (linear 8 8 ∷ linear 8 1 ∷ []) → ⊥
+may_not_stand : IsAllowed 16 (linear 8 8 ∷ linear 8 1 ∷ []) → ⊥
 may_not_stand stand = absurd (let within = stand.2.1 in omega arith)
 
 -- a head of two sizes and two layers has four lines, the last of which says the upper layer
@@ -238,10 +238,10 @@ reads_no_layer : parse_line (codes "data-layer") ≡ None
 reads_no_layer = refl
 
 -- the moment is that of the last `at`
-first_moment : moment_after (commands.Step steps.Turn ∷ []) ≡ 0
+first_moment : time_after (commands.Step steps.Turn ∷ []) ≡ 0
 first_moment = refl
 
-last_moment : moment_after
+last_moment : time_after
     (commands.Step (steps.At 5) ∷ commands.Step steps.Turn ∷ commands.Step
     (steps.At 7) ∷ commands.Step steps.Close ∷ []) ≡ 7
 last_moment = refl
@@ -274,20 +274,21 @@ in_the_body : prefix_after data_due
     ≡ in_body (bare 16) (bare 32) 5
 in_the_body = refl
 
-fourth_layer : StandsAfter (in_head (under (linear 8 8 ∷ linear 8 0 ∷ linear 8 0 ∷ [])) (bare 32))
+fourth_layer : MayFollowInScript (in_head (under (linear 8 8 ∷ linear 8 0 ∷ linear 8 0 ∷ []))
+    (bare 32))
     (layer_line disks.Data (linear 8 0))
 fourth_layer = (omega arith, refl)
 
-no_fifth_layer : StandsAfter
+no_fifth_layer : MayFollowInScript
     (in_head (under (linear 8 8 ∷ linear 8 0 ∷ linear 8 0 ∷ linear 8 0 ∷ [])) (bare 32))
     (layer_line disks.Data (linear 8 0)) → ⊥
 no_fifth_layer stands = absurd (let few = stands.0 in omega arith)
 
-none_behind_the_logs : StandsAfter (in_head (bare 16) (under (linear 8 8 ∷ [])))
+none_behind_the_logs : MayFollowInScript (in_head (bare 16) (under (linear 8 8 ∷ [])))
     (layer_line disks.Data (linear 8 0)) → ⊥
 none_behind_the_logs stands = absurd (let none = stands.1 in cc)
 
-none_in_the_body : StandsAfter (in_body (bare 16) (bare 32) 0)
+none_in_the_body : MayFollowInScript (in_body (bare 16) (bare 32) 0)
     (layer_line disks.Log (linear 8 0)) → ⊥
 none_in_the_body stands = stands
 

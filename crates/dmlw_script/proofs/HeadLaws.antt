@@ -11,7 +11,7 @@ use Rattle.bio.specs.declared.sector_size.SectorSize.{SectorSize}
 use Rattle.bio.specs.Sizes.{bytes_of}
 use Rattle.refusals.specs.declared.refusal.Refusal.{Refusal}
 use Rattle.refusals.specs.declared.refusal.Refusal.TheVariants.{BadLine, OutOfRange}
-use Rattle.table_line.specs.LayerOrder.{top_sectors, CanStand}
+use Rattle.table_line.specs.LayerOrder.{top_sectors, IsAllowed}
 use Rattle.table_line.specs.LineLaws.{asked_in_range}
 use Rattle.table_line.specs.Ranges.{IsLayerSpec}
 use Rattle.table_line.specs.TableLines.{table_refusal}
@@ -249,7 +249,7 @@ module _ {W : Type 0} (on_data on_log : LayerSpec → W) where
       ≡ Ok (under sectors (done ++ layer ∷ []))
       → step (at done) (line layer) ≡ Ok (at (done ++ layer ∷ [])))
       → (done layers : List LayerSpec) → length done + length layers ≤ 4
-      → CanStand (top_sectors sectors done) layers → AreLong least layers
+      → IsAllowed (top_sectors sectors done) layers → AreLong least layers
       → fold step (at done) (map line layers) ≡ Ok (at (done ++ layers))
   some_again step line least sectors at one done [] few stand long =
       ap (λ (ls : List LayerSpec). Ok (at ls)) (sym (append-nil done))
@@ -261,7 +261,7 @@ module _ {W : Type 0} (on_data on_log : LayerSpec → W) where
       bind_at _ _ _ _ (one done layer taken)
       (some_again step line least sectors at one (done ++ layer ∷ []) layers
       (omega (arith, few, length-append done (layer ∷ [])))
-      (subst (λ (top : ℕ). CanStand top layers) (sym (top_push sectors done layer)) stand.2) long.1
+      (subst (λ (top : ℕ). IsAllowed top layers) (sym (top_push sectors done layer)) stand.2) long.1
       ∙ ap (λ (ls : List LayerSpec). Ok (at ls)) (append_assoc done (layer ∷ []) layers))
 
   -- the layers of both disks are read again

@@ -31,7 +31,7 @@ use Rattle.dmlw_script.specs.declared.command.Step.TheVariants as steps
 use Rattle.dmlw_script.specs.declared.command.WriteOptions.{WriteOptions}
 use Rattle.dmlw_script.specs.Grammar.{layer_verb, message_verb, size_words, spaced, IsId}
 use Rattle.dmlw_script.specs.Grammar.{ParsesAs, ParsesAsCrash, ParsesAsId, ParsesAsNumber}
-use Rattle.dmlw_script.specs.RunGrammar.{SaysWrite}
+use Rattle.dmlw_script.specs.RunGrammar.{MeansWrite}
 use Rattle.refusals.specs.WordLaws.{number_again, number_read}
 use Rattle.dmlw_script.specs.Lines.{is_line_text, is_skipped}
 use Rattle.dmlw_script.specs.Ids.{is_id, is_name_byte, id_of_word}
@@ -340,7 +340,7 @@ same_some x y e = cc
 -- what is heard as a write's words is said behind their first one
 pub write_words_read : (words : List ℕ) (s : Submission) → write_words words ≡ Some s
     → (first : ℕ) × (count : ℕ) × (byte : ℕ) × (options : WriteOptions)
-    × SaysWrite (first_word (codes "w") words) first count byte options
+    × MeansWrite (first_word (codes "w") words) first count byte options
     × (submits.Write first count byte options ≡ s)
 write_words_read words s e =
     let b = bind_some (after_byte 32 words) _ s e in

@@ -34,17 +34,17 @@ use Rattle.dmlw_script.specs.inside.Drafts.{◌>>=◌, body_step, ended_next, na
 use Rattle.dmlw_script.specs.inside.Drafts.{step_test, with_command, Body}
 use Rattle.dmlw_script.specs.Grammar.{AreLinesOf}
 use Rattle.dmlw_script.specs.Ids.{same_name}
-use Rattle.dmlw_script.specs.Plans.{disk_of, is_ended, least_sectors, moment_after, request_of}
+use Rattle.dmlw_script.specs.Plans.{disk_of, is_ended, least_sectors, time_after, request_of}
 use Rattle.dmlw_script.specs.Plans.{step_answer, submission_answer, top_of, Disk, ScriptValue}
-use Rattle.dmlw_script.specs.Plans.{head_of, layer_line, lines_of_body, moment_at_step}
-use Rattle.dmlw_script.specs.Plans.{moment_from}
+use Rattle.dmlw_script.specs.Plans.{head_of, layer_line, lines_of_body, time_at_step}
+use Rattle.dmlw_script.specs.Plans.{time_from}
 use Rattle.dmlw_script.specs.inside.Readers.{body_line, crash_line, finish_step, finished}
 use Rattle.dmlw_script.specs.inside.Readers.{has_begun, parsed_step, Progress}
 use Rattle.dmlw_script.specs.FirstFault.{at_end, bad_line, bare, body_refusal, data_due}
 use Rattle.dmlw_script.specs.FirstFault.{head_refusal, in_body, in_head, is_open, log_due, next}
 use Rattle.dmlw_script.specs.FirstFault.{prefix_after, refused, test_refusal, BeginsScript}
 use Rattle.dmlw_script.specs.FirstFault.{ComesInTime, FaultAfter, IsFirstFault, IsLineAfter}
-use Rattle.dmlw_script.specs.FirstFault.{IsLineFault, Prefix, StandsAfter, line_refusal}
+use Rattle.dmlw_script.specs.FirstFault.{IsLineFault, Prefix, MayFollowInScript, line_refusal}
 use Rattle.dmlw_script.proofs.FoldLaws.{barred_err, made_err}
 use Rattle.dmlw_script.proofs.BodyLaws.{in_draft, unlisted}
 use Rattle.dmlw_script.proofs.DraftLemmas.{listed}
@@ -84,7 +84,7 @@ unfinished_is h b refusal e = absurd (cc)
 -- how much a head of these disks and these commands are
 abbrev pub body_prefix : Disk → Disk → List Command → Prefix
 body_prefix d l [] = in_head d l
-body_prefix d l (command ∷ body) = in_body d l (moment_after (command ∷ body))
+body_prefix d l (command ∷ body) = in_body d l (time_after (command ∷ body))
 
 -- how much was read
 abbrev pub prefix_of : Stage → List Command → Prefix
@@ -100,14 +100,14 @@ prefix_at p = prefix_of p.head p.body.body
 -- after the lines of commands, behind others
 after_more : (d l : Disk) (names : List ScriptId) (n moment : ℕ) (body : List Command)
     → prefix_after (in_body d l moment) (lines_of_body names n body)
-    ≡ in_body d l (moment_from moment body)
+    ≡ in_body d l (time_from moment body)
 after_more d l names n moment [] = refl
 after_more d l names n moment (commands.Submit submission ∷ body) =
     after_more d l names (n + 1) moment body
 after_more d l names n moment (commands.Complete request ∷ body) =
     after_more d l names n moment body
 after_more d l names n moment (commands.Step step ∷ body) =
-    after_more d l names n (moment_at_step moment step) body
+    after_more d l names n (time_at_step moment step) body
 
 -- after those of a body
 after_body : (d l : Disk) (names : List ScriptId) (body : List Command)
@@ -116,7 +116,7 @@ after_body d l names [] = refl
 after_body d l names (commands.Submit submission ∷ body) = after_more d l names 1 0 body
 after_body d l names (commands.Complete request ∷ body) = after_more d l names 0 0 body
 after_body d l names (commands.Step step ∷ body) =
-    after_more d l names 0 (moment_at_step 0 step) body
+    after_more d l names 0 (time_at_step 0 step) body
 
 -- a crash comes next after a head, or after commands
 next_crash : (d l : Disk) (body : List Command) (picks : List ℕ)
@@ -163,8 +163,8 @@ after_lines (heads.Ended d l size picks) b begun =
 -- which it is refused
 abbrev pub Refuses : Progress → LineMeaning → Refusal → Type 0
 Refuses p s refusal =
-    ((StandsAfter (prefix_at p) s → ⊥) × (BadLine ≡ refusal))
-    ⊎ (StandsAfter (prefix_at p) s × (plan : ScriptValue) × (finish_step p ≡ Ok plan)
+    ((MayFollowInScript (prefix_at p) s → ⊥) × (BadLine ≡ refusal))
+    ⊎ (MayFollowInScript (prefix_at p) s × (plan : ScriptValue) × (finish_step p ≡ Ok plan)
     × (line_refusal plan s ≡ Some refusal))
 
 -- a test of sectors that is refused
@@ -214,13 +214,13 @@ end_refused d l size b name refusal (Some request) is e =
 -- why a line of the body is refused: it doesn't come in time, or for its own reason
 abbrev pub BodyRefused : Disk → Disk → SectorSize → Body → BodyLine → Refusal → Type 0
 BodyRefused d l size b line refusal =
-    ((ComesInTime (moment_after b.body) line → ⊥) × (BadLine ≡ refusal))
-    ⊎ (ComesInTime (moment_after b.body) line
+    ((ComesInTime (time_after b.body) line → ⊥) × (BadLine ≡ refusal))
+    ⊎ (ComesInTime (time_after b.body) line
     × (body_refusal (plan_of d l size b) line ≡ Some refusal))
 
 -- why a line that names no request is refused
 step_refused : (d l : Disk) (size : SectorSize) (b : Body) (step : Step) (refusal : Refusal)
-    → step_test (bytes_of size) (top_of d) (moment_after b.body) step ≡ Err refusal
+    → step_test (bytes_of size) (top_of d) (time_after b.body) step ≡ Err refusal
     → BodyRefused d l size b (body_lines.Step step) refusal
 step_refused d l size b (steps.Read first count) refusal e =
     inr (
@@ -229,9 +229,9 @@ step_refused d l size b (steps.Read first count) refusal e =
           (steps.Read first count)) refusal e,
     )
 step_refused d l size b (steps.At later) refusal e =
-    let p = barred_err (nat_lt later (moment_after b.body)) BadLine tt refusal e in
-    let back : later < moment_after b.body = ltb-true _ _ p.0 in
-    inl (λ in_time. absurd (let forth : moment_after b.body ≤ later = in_time in omega arith), p.1)
+    let p = barred_err (nat_lt later (time_after b.body)) BadLine tt refusal e in
+    let back : later < time_after b.body = ltb-true _ _ p.0 in
+    inl (λ in_time. absurd (let forth : time_after b.body ≤ later = in_time in omega arith), p.1)
 step_refused d l size b step refusal e = absurd (cc)
 
 -- why a line of the body is refused by its own words
@@ -244,20 +244,20 @@ body_refused d l size b (body_lines.Complete name) refusal e =
     inr (tt, end_refused d l size b name refusal (request_of name b.names) refl e)
 body_refused d l size b (body_lines.Step step) refusal e =
     step_refused d l size b step refusal
-    (made_err (step_test (bytes_of size) (top_of d) (moment_after b.body) step)
+    (made_err (step_test (bytes_of size) (top_of d) (time_after b.body) step)
     (λ (fine : Unit {0}). with_command b (commands.Step step)) refusal e)
 
 -- a line of the body that comes in time may stand after a head, or after commands
 stands_body : (d l : Disk) (body : List Command) (line : BodyLine)
-    → ComesInTime (moment_after body) line
-    → StandsAfter (body_prefix d l body) (parsed_lines.Body line)
+    → ComesInTime (time_after body) line
+    → MayFollowInScript (body_prefix d l body) (parsed_lines.Body line)
 stands_body d l [] line in_time = in_time
 stands_body d l (command ∷ body) line in_time = in_time
 
 -- and no other
 stood_body : (d l : Disk) (body : List Command) (line : BodyLine)
-    → StandsAfter (body_prefix d l body) (parsed_lines.Body line)
-    → ComesInTime (moment_after body) line
+    → MayFollowInScript (body_prefix d l body) (parsed_lines.Body line)
+    → ComesInTime (time_after body) line
 stood_body d l [] line stands = stands
 stood_body d l (command ∷ body) line stands = stands
 
@@ -266,9 +266,9 @@ body_refuses : (h : Stage) (b : Body) (s : BodyLine) (refusal : Refusal)
     → body_line h (at h b) s ≡ Err refusal → Refuses (at h b) (parsed_lines.Body s) refusal
 body_refuses (heads.Whole d l size) b s refusal e =
     ⊎_elim
-    (λ (h : (ComesInTime (moment_after b.body) s → ⊥) × (BadLine ≡ refusal)).
+    (λ (h : (ComesInTime (time_after b.body) s → ⊥) × (BadLine ≡ refusal)).
     inl (λ stands. h.0 (stood_body d l b.body s stands), h.1))
-    (λ (h : ComesInTime (moment_after b.body) s
+    (λ (h : ComesInTime (time_after b.body) s
     × (body_refusal (plan_of d l size b) s ≡ Some refusal)).
     inr (stands_body d l b.body s h.0, plan_of d l size b, refl, h.1))
     (body_refused d l size b s refusal
@@ -285,7 +285,8 @@ crash_refuses h b picks refusal e = inl (λ stands. stands, cc)
 
 -- a line of the head that may stand after what was read may stand in the head
 stood_head : (h : Stage) (body : List Command) (line : HeadLine)
-    → StandsAfter (prefix_of h body) (parsed_lines.Head line) → HeadStands h line (has_begun body)
+    → MayFollowInScript (prefix_of h body) (parsed_lines.Head line)
+    → HeadStands h line (has_begun body)
 stood_head heads.Empty body (head_lines.Data n) stands = stands
 stood_head (heads.Data d) body (head_lines.Log n size) stands = stands
 stood_head (heads.Whole d l size) [] (head_lines.Layer disks.Data asked) stands = stands
@@ -338,7 +339,7 @@ why_fault before line refusal (refused s plan why at spells is) = inr (s, plan, 
 abbrev pub recorder_faults : Faults recorder Prefix
 recorder_faults = record {
   after = prefix_after data_due;
-  Stands = StandsAfter;
+  Stands = MayFollowInScript;
   prefix_of = prefix_at;
   after_lines = λ p. after_lines p.head p.body;
   line_refusal = line_refusal;

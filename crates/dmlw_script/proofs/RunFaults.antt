@@ -24,7 +24,7 @@ use Rattle.dmlw_script.specs.RunFirstFault.{at_end, bad_line, data_due, head_ref
 use Rattle.dmlw_script.specs.RunFirstFault.{in_head, next, line_refusal, log_due, prefix_after}
 use Rattle.dmlw_script.specs.RunFirstFault.{refused, run_disk, seats_due, BeginsRun}
 use Rattle.dmlw_script.specs.RunFirstFault.{IsFirstRunFault, IsRunLineAfter, IsRunLineFault}
-use Rattle.dmlw_script.specs.RunFirstFault.{RunFaultAfter, RunPrefix, StandsBehind}
+use Rattle.dmlw_script.specs.RunFirstFault.{RunFaultAfter, RunPrefix, MayFollowInRun}
 use Rattle.dmlw_script.specs.inside.Drafts.{as_refusal}
 use Rattle.dmlw_script.specs.inside.Heads.{head_step}
 use Rattle.dmlw_script.specs.inside.RunReaders.{call_line, finished_run, is_closed, is_seat_count}
@@ -132,8 +132,8 @@ unfinished_is h seats done refusal e = cc
 -- or what was read is a script after which it is refused
 abbrev pub Refuses : RunProgress → RunLine → Refusal → Type 0
 Refuses q said refusal =
-    ((StandsBehind (prefix_at q) said → ⊥) × (BadLine ≡ refusal))
-    ⊎ (StandsBehind (prefix_at q) said × (plan : RunPlan) × (run_finish_step q ≡ Ok plan)
+    ((MayFollowInRun (prefix_at q) said → ⊥) × (BadLine ≡ refusal))
+    ⊎ (MayFollowInRun (prefix_at q) said × (plan : RunPlan) × (run_finish_step q ≡ Ok plan)
     × (line_refusal plan said ≡ Some refusal))
 
 -- it is why a line of the head is refused
@@ -145,7 +145,7 @@ head_refusal_is plan over (Ok spec) = refl
 
 -- a line of the head that may stand after what was read may stand in the head
 stood_head : (h : Stage) (seats : Option ℕ) (done : List SeatCall) (line : HeadLine)
-    → StandsBehind (prefix_of h seats done) (run_lines.Head line)
+    → MayFollowInRun (prefix_of h seats done) (run_lines.Head line)
     → HeadStands h line (is_closed seats done)
 stood_head heads.Empty seats done (head_lines.Data n) stands = stands
 stood_head (heads.Data d) seats done (head_lines.Log n size) stands = stands
@@ -191,13 +191,13 @@ seats_refused h seats done count refusal e = inl (λ stands. stands, cc)
 -- a line of the body stands where its seat is one of so many
 stands_body : (d l : Disk) (seats : ℕ) (done : List SeatCall) (line : SeatCall)
     → line.seat < seats →
-    StandsBehind (seated_prefix d l seats done) (run_lines.Body line)
+    MayFollowInRun (seated_prefix d l seats done) (run_lines.Body line)
 stands_body d l seats [] line below = below
 stands_body d l seats (one ∷ done) line below = below
 
 -- and no other
 stood_body : (d l : Disk) (seats : ℕ) (done : List SeatCall) (line : SeatCall)
-    → StandsBehind (seated_prefix d l seats done) (run_lines.Body line) →
+    → MayFollowInRun (seated_prefix d l seats done) (run_lines.Body line) →
     line.seat < seats
 stood_body d l seats [] line stands = stands
 stood_body d l seats (one ∷ done) line stands = stands
@@ -255,7 +255,7 @@ why_fault before line refusal (refused s plan why at spells is) = inr (s, plan, 
 abbrev pub runner_faults : Faults runner RunPrefix
 runner_faults = record {
   after = prefix_after data_due;
-  Stands = StandsBehind;
+  Stands = MayFollowInRun;
   prefix_of = prefix_at;
   after_lines = λ p. after_lines p.head p.seats p.calls;
   line_refusal = line_refusal;

@@ -21,9 +21,9 @@ use Rattle.dmlw_script.specs.declared.seat_call.Call.TheVariants as calls
 use Rattle.dmlw_script.specs.declared.seat_call.SeatCall.{SeatCall}
 use Rattle.dmlw_script.specs.Plans.{top_of, Disk}
 use Rattle.dmlw_script.specs.FirstFault.{bare}
-use Rattle.dmlw_script.specs.RunGrammar.{AreRunLines, SaysCall, SaysLine}
+use Rattle.dmlw_script.specs.RunGrammar.{AreRunLines, MeansCall, MeansLine}
 use Rattle.dmlw_script.specs.RunPlans.{call_answer, data_layer, lines_of_run, log_layer, run_head}
-use Rattle.dmlw_script.specs.RunPlans.{CanStand, FitsLine, IsRunPlan, RunPlan}
+use Rattle.dmlw_script.specs.RunPlans.{IsAllowed, FitsLine, IsRunPlan, RunPlan}
 use Rattle.dmlw_script.specs.inside.Drafts.{◌>>=◌, as_refusal}
 use Rattle.dmlw_script.specs.inside.Heads as heads_inside
 use Rattle.dmlw_script.specs.inside.Heads.{head_step, layer_step, with_log}
@@ -51,13 +51,13 @@ IsFineRunLine (run_lines.Seats count) = Unit {0}
 IsFineRunLine (run_lines.Body line) = FitsLine line.call
 
 -- what a call says may stand in a line
-fine_call : (words : List ℕ) (call : Call) → SaysCall words call → FitsLine call
+fine_call : (words : List ℕ) (call : Call) → MeansCall words call → FitsLine call
 fine_call words (calls.Submit (submits.Write first count byte options)) says = says.is_byte
 fine_call words (calls.Mark text) says = says.0
 fine_call words call says = tt
 
 -- what a line says is fine
-pub fine_run_line : (line : List ℕ) (said : RunLine) → SaysLine line said → IsFineRunLine said
+pub fine_run_line : (line : List ℕ) (said : RunLine) → MeansLine line said → IsFineRunLine said
 fine_run_line line (run_lines.Head said) says = fine_head line said says
 fine_run_line line (run_lines.Seats count) says = tt
 fine_run_line line (run_lines.Body said) says = fine_call says.words said.call says.says
@@ -83,7 +83,7 @@ HasSeats heads.Empty None [] = Unit {0}
 HasSeats (heads.Data d) None [] = Unit {0}
 HasSeats (heads.Whole d l size) None [] = (d.layers ≡ []) × (l.layers ≡ [])
 HasSeats (heads.Whole d l size) (Some seats) calls =
-    (1 ≤ seats) × (seats ≤ 64) × AllByRecursion (CanStand (bytes_of size) (top_of d) seats) calls
+    (1 ≤ seats) × (seats ≤ 64) × AllByRecursion (IsAllowed (bytes_of size) (top_of d) seats) calls
 HasSeats _ _ _ = ⊥
 
 -- what was read is the beginning of a script
@@ -164,7 +164,7 @@ call_grown (heads.Whole d l size) (Some seats) done q line e fine begun =
     let g = tested_ok (nat_lt line.seat seats) (with_call p line (as_refusal answer)) q BadLine e in
     let r = made_ok (as_refusal answer)
     (λ (fine : Unit {0}). seated d l size seats (done ++ line ∷ [])) q g.1 in
-    let stands : CanStand (bytes_of size) (top_of d) seats line =
+    let stands : IsAllowed (bytes_of size) (top_of d) seats line =
     record {
       seat = ltb-true line.seat seats g.0;
       tested = told_ok answer r.0 r.1;
@@ -176,7 +176,7 @@ call_grown (heads.Whole d l size) (Some seats) done q line e fine begun =
         (
           begun.1.0,
           begun.1.1,
-          all_append (CanStand (bytes_of size) (top_of d) seats) done (line ∷ []) begun.1.2
+          all_append (IsAllowed (bytes_of size) (top_of d) seats) done (line ∷ []) begun.1.2
               (stands, tt),
         ),
       ),
@@ -224,7 +224,7 @@ finished_grown h seats done plan e begun = absurd (cc e)
 -- the lines of a body give it again: those after its
 -- beginning lead from there to all of it
 calls_read : (d l : Disk) (size : SectorSize) (seats : ℕ) (done lines : List SeatCall)
-    → AllByRecursion (CanStand (bytes_of size) (top_of d) seats) lines →
+    → AllByRecursion (IsAllowed (bytes_of size) (top_of d) seats) lines →
     fold said_step (seated d l size seats done) (map run_lines.Body lines)
     ≡ Ok (seated d l size seats (done ++ lines))
 calls_read d l size seats done [] all =
@@ -278,7 +278,7 @@ script_read plan is =
 abbrev pub runner : Reader RunProgress RunLine RunPlan
 runner = record {
   parse = parse_run_line;
-  Says = SaysLine;
+  Says = MeansLine;
   parse_says = says_run;
   says_parse = parses_run;
   start = nothing_read;

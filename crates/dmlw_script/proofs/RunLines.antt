@@ -17,7 +17,7 @@ use Rattle.dmlw_script.specs.declared.run_line.RunLine.TheVariants as run_lines
 use Rattle.dmlw_script.specs.declared.seat_call.Call.{Call}
 use Rattle.dmlw_script.specs.declared.seat_call.Call.TheVariants as calls
 use Rattle.dmlw_script.specs.Lines.{is_line_text, is_skipped}
-use Rattle.dmlw_script.specs.RunGrammar.{SaysCall, SaysLine}
+use Rattle.dmlw_script.specs.RunGrammar.{MeansCall, MeansLine}
 use Rattle.dmlw_script.specs.inside.LineParser.{discard_words, head_words, write_words}
 use Rattle.dmlw_script.specs.inside.RunLineParser.{call_of, mark_call, parse_run_line}
 use Rattle.dmlw_script.specs.inside.RunLineParser.{run_head_line, run_line_parts, seat_line}
@@ -36,7 +36,7 @@ use Rattle.refusals.specs.Words.{after_byte, before_byte, number_of, IsNumber}
 
 -- the words say that a seat submits this
 abbrev SaysSubmission : List ℕ → Submission → Type 0
-SaysSubmission words submission = SaysCall words (calls.Submit submission)
+SaysSubmission words submission = MeansCall words (calls.Submit submission)
 
 -- what is heard as a seat's write is said
 seat_write_read : (words : List ℕ) (s : Submission) → write_words words ≡ Some s
@@ -76,23 +76,23 @@ submission_read words None s cut e =
 -- what is heard as a seat's mark is said
 seat_mark_read : (words : List ℕ) (rest : Option (List ℕ)) (call : Call)
     → after_byte 32 words ≡ rest → before_byte 32 words ≡ codes "mark"
-    → mark_call rest ≡ Some call → SaysCall words call
+    → mark_call rest ≡ Some call → MeansCall words call
 seat_mark_read words None call cut verb e = absurd (cc)
 seat_mark_read words (Some text) call cut verb e =
     let p = cond_some (is_line_text text) (calls.Mark text) call e in
-    subst (λ (x : Call). SaysCall words x) p.1
+    subst (λ (x : Call). MeansCall words x) p.1
     ((p.0, cut_joined 32 words text cut ∙ ap (λ (v : List ℕ). v ++ 32 ∷ text) verb))
 
 -- what is heard of what a seat does is said
 call_read : (words : List ℕ) (rest : Option (List ℕ)) (call : Call) → after_byte 32 words ≡ rest
     → call_of (before_byte 32 words) rest ≡ Some call
-    → SaysCall words call
+    → MeansCall words call
 call_read words rest call cut e =
     chosen (bytes_eq (before_byte 32 words) (codes "mark")) _ _ (Some call) e
     (λ mark is. seat_mark_read words rest call cut (same_bytes _ _ mark) is)
     (λ other is.
     let p = map_some calls.Submit (submission_of (before_byte 32 words) rest) call is in
-    subst (λ (x : Call). SaysCall words x) p.2 (submission_read words rest p.0 cut p.1))
+    subst (λ (x : Call). MeansCall words x) p.2 (submission_read words rest p.0 cut p.1))
 
 -- a word that names a seat is `s` and its number
 seat_read : (verb : List ℕ) (seat : ℕ) → seat_of verb ≡ Some seat
@@ -105,12 +105,12 @@ seat_read (byte ∷ word) seat e =
 
 -- what is heard as a seat's line is said
 seat_line_read : (verb words : List ℕ) (said : RunLine) → seat_line verb words ≡ Some said
-    → SaysLine (first_word verb words) said
+    → MeansLine (first_word verb words) said
 seat_line_read verb words said e =
     let a = bind_some (seat_of verb) _ said e in
     let b = bind_some (call_of (before_byte 32 words) (after_byte 32 words)) _ said a.2 in
     let s = seat_read verb a.0 a.1 in
-    subst (λ (x : RunLine). SaysLine (first_word verb words) x)
+    subst (λ (x : RunLine). MeansLine (first_word verb words) x)
     (same_some (run_lines.Body (record { seat = a.0; call = b.0 })) said b.2) (record {
       seat_word = s.0;
       words = words;
@@ -121,34 +121,34 @@ seat_line_read verb words said e =
 
 -- what is heard as a line of a run's head is said
 run_head_read : (verb words : List ℕ) (said : RunLine) → run_head_line verb words ≡ Some said
-    → SaysLine (first_word verb words) said
+    → MeansLine (first_word verb words) said
 run_head_read verb words said =
-    verb_read SaysLine verb (codes "seats") words _ _ said
-    (number_line SaysLine (codes "seats") words run_lines.Seats said (λ n says. says))
+    verb_read MeansLine verb (codes "seats") words _ _ said
+    (number_line MeansLine (codes "seats") words run_lines.Seats said (λ n says. says))
     (λ (head : option_map run_lines.Head (head_words verb words) ≡ Some said).
     let p = map_some run_lines.Head (head_words verb words) said head in
-    subst (λ (x : RunLine). SaysLine (first_word verb words) x) p.2 (head_read verb words p.0 p.1))
+    subst (λ (x : RunLine). MeansLine (first_word verb words) x) p.2 (head_read verb words p.0 p.1))
 
 -- what is heard of the parts of a line is said
 run_parts_read : (line : List ℕ) (rest : Option (List ℕ)) (said : RunLine)
     → after_byte 32 line ≡ rest
-    → run_line_parts (before_byte 32 line) rest ≡ Some said → SaysLine line said
+    → run_line_parts (before_byte 32 line) rest ≡ Some said → MeansLine line said
 run_parts_read line None said cut e = absurd (cc)
 run_parts_read line (Some words) said cut e =
-    subst (λ (x : List ℕ). SaysLine x said) (sym (cut_joined 32 line words cut))
+    subst (λ (x : List ℕ). MeansLine x said) (sym (cut_joined 32 line words cut))
     (⊎_elim (run_head_read (before_byte 32 line) words said)
     (seat_line_read (before_byte 32 line) words said)
     (first_some (run_head_line (before_byte 32 line) words) _ said e))
 
 -- what is heard is said
 pub says_run : (line : List ℕ) (said : RunLine) → parse_run_line line ≡ Some said
-    → SaysLine line said
+    → MeansLine line said
 says_run line said e = run_parts_read line (after_byte 32 line) said refl e
 
 -- ---- what is said is heard
 
 -- what a seat does is heard as it is
-call_again : (words : List ℕ) (call : Call) → SaysCall words call
+call_again : (words : List ℕ) (call : Call) → MeansCall words call
     → call_of (before_byte 32 words) (after_byte 32 words) ≡ Some call
 call_again words (calls.Submit (submits.Write first count byte options)) says =
     rw says.spelled
@@ -181,7 +181,7 @@ not_head word words seat is =
 
 -- a seat's line is heard as it is
 seat_line_again : (word words : List ℕ) (seat : ℕ) (call : Call) → IsNumber word seat
-    → SaysCall words call
+    → MeansCall words call
     → parse_run_line (codes "s" ++ (word ++ 32 ∷ words))
     ≡ Some (run_lines.Body (record { seat = seat; call = call }))
 seat_line_again word words seat call is says =
@@ -202,7 +202,7 @@ abbrev heard_head : Option HeadLine → Option RunLine
 heard_head s = option_or (option_map run_lines.Head s) None
 
 -- what is said is heard
-pub parses_run : (line : List ℕ) (said : RunLine) → SaysLine line said
+pub parses_run : (line : List ℕ) (said : RunLine) → MeansLine line said
     → parse_run_line line ≡ Some said
 parses_run line (run_lines.Head (head_lines.Data n)) says =
     rw says.spelled (ap (λ (k : Option ℕ). heard_head (option_map head_lines.Data k))
@@ -228,7 +228,7 @@ comment_parts word None = refl
 comment_parts word (Some words) = refl
 
 -- a line that says something isn't skipped
-pub run_said_kept : (line : List ℕ) (said : RunLine) → SaysLine line said → is_skipped line ≡ false
+pub run_said_kept : (line : List ℕ) (said : RunLine) → MeansLine line said → is_skipped line ≡ false
 run_said_kept line said says =
     kept_by parse_run_line refl (λ l. comment_parts (before_byte 32 l) (after_byte 32 l)) line said
     (parses_run line said says)

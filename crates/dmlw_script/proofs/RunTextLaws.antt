@@ -13,9 +13,9 @@ use Rattle.dmlw_script.specs.declared.seat_call.Call.TheVariants as calls
 use Rattle.dmlw_script.specs.declared.seat_call.SeatCall.{SeatCall}
 use Rattle.dmlw_script.specs.Lines.{lines_of}
 use Rattle.dmlw_script.specs.Plans.{top_of, IsDisk}
-use Rattle.dmlw_script.specs.RunGrammar.{IsRunText, SaysCall, SaysLine}
+use Rattle.dmlw_script.specs.RunGrammar.{IsRunText, MeansCall, MeansLine}
 use Rattle.dmlw_script.specs.RunPlans.{call_answer, data_layer, lines_of_run, log_layer, run_head}
-use Rattle.dmlw_script.specs.RunPlans.{CanStand as SeatCanStand, FitsLine, IsRunPlan, RunPlan}
+use Rattle.dmlw_script.specs.RunPlans.{IsAllowed as SeatCanStand, FitsLine, IsRunPlan, RunPlan}
 use Rattle.dmlw_script.specs.RunText.{call_text, run_line_text, run_text}
 use Rattle.dmlw_script.specs.LineMeaning as parsed_lines
 use Rattle.dmlw_script.proofs.CanonicalTextLaws.{data_written, layer_written, line_number}
@@ -34,7 +34,7 @@ use Rattle.refusals.specs.WordLaws.{decimal_number}
 
 -- what can be written of what a run's line says
 abbrev IsRunWritten : RunLine → Type 0
-IsRunWritten said = IsWrittenAs run_line_text SaysLine said
+IsRunWritten said = IsWrittenAs run_line_text MeansLine said
 
 -- what can be written of a recorder's head can be written of a run's
 head_line_written : (line : HeadLine) → IsWritten (parsed_lines.Head line)
@@ -50,7 +50,7 @@ seats_written count low = record {
 
 -- what a call is written as: its text says it
 record IsCallWritten (call : Call) : Type 0 where
-  says : SaysCall (call_text call) call
+  says : MeansCall (call_text call) call
   good : IsLineText (call_text call)
 
 -- each call that may stand in a script can be written
@@ -148,7 +148,7 @@ run_written plan is =
 pub run_text_is : (plan : RunPlan) → IsRunPlan plan → IsRunText (run_text plan) plan
 run_text_is plan is =
     let written =
-    written_text run_line_text SaysLine run_said_kept (lines_of_run plan)
+    written_text run_line_text MeansLine run_said_kept (lines_of_run plan)
     (run_written plan is) in
     record { plain = written.plain; says = written.says; script = is }
 

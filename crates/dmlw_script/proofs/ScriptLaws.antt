@@ -22,8 +22,8 @@ use Rattle.dmlw_script.specs.LineMeaning as parsed_lines
 use Rattle.dmlw_script.specs.Grammar.{IsLineOf, ParsesAs, IsTextOf, AreLinesOf}
 use Rattle.dmlw_script.specs.Lines.{command_line, is_ascii_line, is_skipped, unskipped}
 use Rattle.dmlw_script.specs.Lines.{unskipped_numbers, lines_of}
-use Rattle.dmlw_script.specs.Plans.{count_after_command, count_behind_head, head_count, head_of}
-use Rattle.dmlw_script.specs.Plans.{layer_line, lines_behind_head, lines_of_body, is_end_of}
+use Rattle.dmlw_script.specs.Plans.{count_after_command, count_after_head, head_count, head_of}
+use Rattle.dmlw_script.specs.Plans.{layer_line, lines_after_head, lines_of_body, is_end_of}
 use Rattle.dmlw_script.specs.Plans.{is_ended, lines_of_script, top_of, with_ending, IsWellFormed}
 use Rattle.dmlw_script.specs.Plans.{IsPlan, CanFollow, ScriptValue}
 use Rattle.dmlw_script.specs.CanonicalText.{canonical_text}
@@ -211,7 +211,7 @@ line_says text plan place number spells e =
       after_byte = found.after_byte;
       parsed = said.0;
       command =
-          sym (get_behind head (lines_behind_head plan) place)
+          sym (get_behind head (lines_after_head plan) place)
           ∙ ap (λ (n : ℕ). slice_get (lines_of_script plan) (place + n)) (length-head plan)
           ∙ said.1;
       says = said.2;
@@ -245,7 +245,7 @@ length-with_ending (Some picks) ss = length-append ss (parsed_lines.Crash picks 
 
 -- as many lines are kept as the head, the commands and the crash have
 length-unskipped : (text : List ℕ) (plan : ScriptValue) → IsTextOf text plan
-    → length (unskipped_numbers 1 (lines_of text)) ≡ count_behind_head plan + head_count plan
+    → length (unskipped_numbers 1 (lines_of text)) ≡ count_after_head plan + head_count plan
 length-unskipped text plan spells =
     let numbers = length-unskipped_numbers 1 (lines_of text) in
     let says =
@@ -254,13 +254,13 @@ length-unskipped text plan spells =
     let ending = length-with_ending plan.ending (lines_of_body plan.names 0 plan.commands) in
     let parts =
     length-append (head_of plan.data_disk plan.log_disk plan.log_size)
-    (lines_behind_head plan) in
+    (lines_after_head plan) in
     let head = length-head plan in
     omega arith
 
 -- each command of a script has a line
 pub line_found : (text : List ℕ) (plan : ScriptValue) (place : ℕ) → IsTextOf text plan
-    → place < count_behind_head plan
+    → place < count_after_head plan
     → (number : ℕ) × (command_line text (place + head_count plan) ≡ Some number)
 line_found text plan place spells within =
     let all = length-unskipped text plan spells in (
@@ -271,7 +271,7 @@ line_found text plan place spells within =
 
 -- just the commands of a script have a line
 pub lined : (text : List ℕ) (plan : ScriptValue) (place : ℕ) → IsTextOf text plan
-    → count_behind_head plan ≤ place → command_line text (place + head_count plan) ≡ None
+    → count_after_head plan ≤ place → command_line text (place + head_count plan) ≡ None
 lined text plan place spells past =
     let all = length-unskipped text plan spells in
     slice_get_past (unskipped_numbers 1 (lines_of text)) (place + head_count plan) (omega arith)

@@ -7,7 +7,7 @@ use Rattle.std.proofs.lemmas.List.Concat.{flat_map-append}
 use Rattle.bio.specs.declared.sector_size.SectorSize.{SectorSize}
 use Rattle.dmlw_script.specs.CanonicalText.{ended_line, ending_text, canonical_text}
 use Rattle.dmlw_script.specs.Grammar.{spaced}
-use Rattle.dmlw_script.specs.Plans.{head_of, lines_behind_head, lines_of_body, with_ending, Disk}
+use Rattle.dmlw_script.specs.Plans.{head_of, lines_after_head, lines_of_body, with_ending, Disk}
 use Rattle.dmlw_script.specs.Plans.{ScriptValue}
 use Rattle.dmlw_script.specs.LineMeaning.{LineMeaning}
 use Rattle.dmlw_script.specs.LineMeaning as parsed_lines
@@ -49,4 +49,4 @@ text_in_parts plan d l size start head body whole is_data is_log is_size none is
     ∙ append_assoc front (flat_map ended_line lines) (ending_text plan.ending)
     ∙ ap (λ (x : List ℕ). front ++ x) (sym (ending_spelled plan.ending lines))
     ∙ sym (flat_map-append ended_line (head_of plan.data_disk plan.log_disk plan.log_size)
-    (lines_behind_head plan))
+    (lines_after_head plan))

@@ -19,7 +19,7 @@ use Rattle.dmlw_script.specs.Grammar.{ParsesAs, AreLinesOf}
 use Rattle.dmlw_script.specs.Lines.{is_ascii_line, unskipped, lines_of}
 use Rattle.dmlw_script.specs.Ids.{same_name}
 use Rattle.dmlw_script.specs.Plans.{disk_of, is_disk_size, is_ended, is_log_disk_size, is_within}
-use Rattle.dmlw_script.specs.Plans.{least_sectors, moment_at_step, request_of, step_answer}
+use Rattle.dmlw_script.specs.Plans.{least_sectors, time_at_step, request_of, step_answer}
 use Rattle.dmlw_script.specs.Plans.{submission_answer, top_of, Disk, IsInTime, ScriptValue}
 use Rattle.table_line.specs.declared.layer_spec.LayerSpec.{LayerSpec}
 use Rattle.table_line.specs.TableLines.{table_refusal}
@@ -52,7 +52,7 @@ with_layer disk spec = record disk { layers = disk.layers ++ spec ∷ [] }
 abbrev pub moment_at_line : ℕ → BodyLine → ℕ
 moment_at_line moment (body_lines.Submit name submission) = moment
 moment_at_line moment (body_lines.Complete name) = moment
-moment_at_line moment (body_lines.Step step) = moment_at_step moment step
+moment_at_line moment (body_lines.Step step) = time_at_step moment step
 
 -- how much was read after a line with this meaning; nothing may come after a crash, nor after a
 -- line that may not be there
@@ -85,19 +85,23 @@ ComesInTime moment (body_lines.Step step) = IsInTime moment step
 -- comes the size of the data disk, then that of the log disk, which has room for one of the log's
 -- sectors. Then come up to four layers of the data disk, and then up to four of the log disk. Then
 -- comes the body, in which no time decreases, and nothing after a crash
-abbrev pub StandsAfter : Prefix → LineMeaning → Type 0
-StandsAfter data_due (parsed_lines.Head (head_lines.Data sectors)) = is_disk_size sectors ≡ true
-StandsAfter (log_due data_disk) (parsed_lines.Head (head_lines.Log sectors size)) =
+abbrev pub MayFollowInScript : Prefix → LineMeaning → Type 0
+MayFollowInScript data_due (parsed_lines.Head (head_lines.Data sectors)) = is_disk_size sectors ≡
+    true
+MayFollowInScript (log_due data_disk) (parsed_lines.Head (head_lines.Log sectors size)) =
     is_log_disk_size (bytes_of size) sectors ≡ true
-StandsAfter (in_head data_disk log_disk) (parsed_lines.Head (head_lines.Layer disks.Data asked)) =
+MayFollowInScript (in_head data_disk log_disk) (parsed_lines.Head
+    (head_lines.Layer disks.Data asked)) =
     (length data_disk.layers < 4) × (log_disk.layers ≡ [])
-StandsAfter (in_head data_disk log_disk) (parsed_lines.Head (head_lines.Layer disks.Log asked)) =
+MayFollowInScript (in_head data_disk log_disk) (parsed_lines.Head
+    (head_lines.Layer disks.Log asked)) =
     length log_disk.layers < 4
-StandsAfter (in_head data_disk log_disk) (parsed_lines.Body line) = ComesInTime 0 line
-StandsAfter (in_head data_disk log_disk) (parsed_lines.Crash picks) = Unit {0}
-StandsAfter (in_body data_disk log_disk moment) (parsed_lines.Body line) = ComesInTime moment line
-StandsAfter (in_body data_disk log_disk moment) (parsed_lines.Crash picks) = Unit {0}
-StandsAfter _ _ = ⊥
+MayFollowInScript (in_head data_disk log_disk) (parsed_lines.Body line) = ComesInTime 0 line
+MayFollowInScript (in_head data_disk log_disk) (parsed_lines.Crash picks) = Unit {0}
+MayFollowInScript (in_body data_disk log_disk moment)
+    (parsed_lines.Body line) = ComesInTime moment line
+MayFollowInScript (in_body data_disk log_disk moment) (parsed_lines.Crash picks) = Unit {0}
+MayFollowInScript _ _ = ⊥
 
 -- the line is of the grammar after these lines, and s is its meaning
 pub record IsLineAfter (before : List (List ℕ)) (line : List ℕ) (s : LineMeaning) : Type 0 where
@@ -105,7 +109,7 @@ pub record IsLineAfter (before : List (List ℕ)) (line : List ℕ) (s : LineMea
   pub says : ParsesAs line s
   pub said : List LineMeaning
   pub before_says : AllZip ParsesAs (unskipped before) said
-  pub stands : StandsAfter (prefix_after data_due said) s
+  pub stands : MayFollowInScript (prefix_after data_due said) s
 
 -- the request was submitted and hasn't ended
 abbrev pub is_open : Option ℕ → ScriptValue → Bool

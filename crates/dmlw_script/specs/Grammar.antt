@@ -17,7 +17,7 @@ use Rattle.dmlw_script.specs.declared.command.WriteOptions.{WriteOptions}
 use Rattle.dmlw_script.specs.Lines.{is_ascii_line, is_line_text, unskipped, lines_of}
 use Rattle.dmlw_script.specs.Ids.{is_id, script_id}
 use Rattle.dmlw_script.specs.Options.{option_words}
-use Rattle.dmlw_script.specs.Plans.{head_count, lines_behind_head, lines_of_script, IsPlan}
+use Rattle.dmlw_script.specs.Plans.{head_count, lines_after_head, lines_of_script, IsPlan}
 use Rattle.dmlw_script.specs.Plans.{ScriptValue}
 use Rattle.dmlw_script.specs.Words.{byte_text}
 use Rattle.table_line.specs.declared.layer_spec.LayerSpec.{LayerSpec}
@@ -173,5 +173,5 @@ pub record IsLineOf (lines : List (List ℕ)) (plan : ScriptValue) (place number
   pub number_is : number ≡ length before + 1
   pub after_byte : length (unskipped before) ≡ place + head_count plan
   pub parsed : LineMeaning
-  pub command : slice_get (lines_behind_head plan) place ≡ Some parsed
+  pub command : slice_get (lines_after_head plan) place ≡ Some parsed
   pub says : ParsesAs line parsed

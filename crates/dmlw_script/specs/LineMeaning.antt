@@ -13,6 +13,6 @@ pub data LineMeaning : Type 0 where
   Crash : List ℕ → LineMeaning
 
 -- the meaning of a line that is no crash
-abbrev pub as_said : Line → LineMeaning
-as_said (plain_lines.Head line) = Head line
-as_said (plain_lines.Body line) = Body line
+abbrev pub as_meaning : Line → LineMeaning
+as_meaning (plain_lines.Head line) = Head line
+as_meaning (plain_lines.Body line) = Body line

@@ -24,7 +24,7 @@ use Rattle.dmlw_script.specs.declared.line.BodyLine.{BodyLine}
 use Rattle.dmlw_script.specs.declared.line.BodyLine.TheVariants as body_lines
 use Rattle.dmlw_script.specs.Ids.{is_id, script_id, same_name}
 use Rattle.dmlw_script.specs.Lines.{is_line_text}
-use Rattle.table_line.specs.LayerOrder.{top_sectors, CanStand}
+use Rattle.table_line.specs.LayerOrder.{top_sectors, IsAllowed}
 use Rattle.table_line.specs.declared.layer_spec.LayerSpec.{LayerSpec}
 
 -- a disk of a script: its sectors, and the layers over it, from the lowest up
@@ -70,7 +70,7 @@ is_within layer sectors = nat_le (layer.offset + layer.length) sectors
 pub record IsDisk (disk : Disk) : Type 0 where
   pub size : is_disk_size disk.sectors ≡ true
   pub few : length disk.layers ≤ 4
-  pub stand : CanStand disk.sectors disk.layers
+  pub stand : IsAllowed disk.sectors disk.layers
 
 -- the disk of this name
 abbrev pub disk_of : DiskName → ScriptValue → Disk
@@ -144,28 +144,28 @@ HasLineText (steps.At moment) = moment < 2 ^ 64
 HasLineText (steps.Message over layer text) = (layer < 2 ^ 64) × (is_line_text text ≡ true)
 
 -- the time after a line that names no request, if it was `moment` before
-abbrev pub moment_at_step : ℕ → Step → ℕ
-moment_at_step moment steps.Close = moment
-moment_at_step moment (steps.Read first count) = moment
-moment_at_step moment steps.Turn = moment
-moment_at_step moment (steps.Mark text) = moment
-moment_at_step moment (steps.At later) = later
-moment_at_step moment (steps.Message over layer text) = moment
+abbrev pub time_at_step : ℕ → Step → ℕ
+time_at_step moment steps.Close = moment
+time_at_step moment (steps.Read first count) = moment
+time_at_step moment steps.Turn = moment
+time_at_step moment (steps.Mark text) = moment
+time_at_step moment (steps.At later) = later
+time_at_step moment (steps.Message over layer text) = moment
 
 -- the time after a command, if it was `moment` before
-abbrev pub moment_at : ℕ → Command → ℕ
-moment_at moment (commands.Submit submission) = moment
-moment_at moment (commands.Complete request) = moment
-moment_at moment (commands.Step step) = moment_at_step moment step
+abbrev pub time_at : ℕ → Command → ℕ
+time_at moment (commands.Submit submission) = moment
+time_at moment (commands.Complete request) = moment
+time_at moment (commands.Step step) = time_at_step moment step
 
 -- the time after these commands, if it was `moment` before
-abbrev pub moment_from : ℕ → List Command → ℕ
-moment_from moment [] = moment
-moment_from moment (command ∷ body) = moment_from (moment_at moment command) body
+abbrev pub time_from : ℕ → List Command → ℕ
+time_from moment [] = moment
+time_from moment (command ∷ body) = time_from (time_at moment command) body
 
 -- the time after these commands: that of the last `at`, or 0
-abbrev pub moment_after : List Command → ℕ
-moment_after body = moment_from 0 body
+abbrev pub time_after : List Command → ℕ
+time_after body = time_from 0 body
 
 -- the time of an `at` is no less than the time before it
 abbrev pub IsInTime : ℕ → Step → Type 0
@@ -187,7 +187,7 @@ CanFollow bytes sectors before (commands.Complete request) =
     (request < submissions before) × (is_ended request before ≡ false)
 CanFollow bytes sectors before (commands.Step step) =
     (step_answer bytes sectors step ≡ Ok tt) × HasLineText step
-    × IsInTime (moment_after before) step
+    × IsInTime (time_after before) step
 
 -- each command may come after those before it
 abbrev pub IsWellFormed : (bytes sectors : ℕ) → List Command → List Command → Type 0
@@ -251,12 +251,12 @@ with_ending None lines = lines
 with_ending (Some picks) lines = lines ++ parsed_lines.Crash picks ∷ []
 
 -- the meaning of the lines of a script after its head, in their order
-abbrev pub lines_behind_head : ScriptValue → List LineMeaning
-lines_behind_head plan = with_ending plan.ending (lines_of_body plan.names 0 plan.commands)
+abbrev pub lines_after_head : ScriptValue → List LineMeaning
+lines_after_head plan = with_ending plan.ending (lines_of_body plan.names 0 plan.commands)
 
 -- the number of lines after the head: one for each command, and one for the crash
-abbrev pub count_behind_head : ScriptValue → ℕ
-count_behind_head plan = length plan.commands + (if is_some plan.ending then 1 else 0)
+abbrev pub count_after_head : ScriptValue → ℕ
+count_after_head plan = length plan.commands + (if is_some plan.ending then 1 else 0)
 
 -- the line of a layer over this disk
 abbrev pub layer_line : DiskName → LayerSpec → LineMeaning
@@ -284,4 +284,4 @@ head_count plan = 2 + length plan.data_disk.layers + length plan.log_disk.layers
 
 -- the meaning of the lines of a script, in their order
 abbrev pub lines_of_script : ScriptValue → List LineMeaning
-lines_of_script plan = head_of plan.data_disk plan.log_disk plan.log_size ++ lines_behind_head plan
+lines_of_script plan = head_of plan.data_disk plan.log_disk plan.log_size ++ lines_after_head plan

@@ -14,7 +14,7 @@ use Rattle.dmlw_script.specs.Lines.{is_ascii_line, lines_of, unskipped}
 use Rattle.dmlw_script.specs.Plans.{is_disk_size, is_log_disk_size, is_within, least_sectors}
 use Rattle.dmlw_script.specs.Plans.{top_of, Disk}
 use Rattle.dmlw_script.specs.FirstFault.{bare, is_memory, test_refusal, with_layer}
-use Rattle.dmlw_script.specs.RunGrammar.{AreRunLines, SaysLine}
+use Rattle.dmlw_script.specs.RunGrammar.{AreRunLines, MeansLine}
 use Rattle.dmlw_script.specs.RunPlans.{call_answer, RunPlan}
 use Rattle.dmlw_script.specs.declared.run_line.RunLine.{RunLine}
 use Rattle.dmlw_script.specs.declared.run_line.RunLine.TheVariants as run_lines
@@ -60,27 +60,27 @@ prefix_after prefix (said ∷ more) = prefix_after (next prefix said) more
 -- comes the size of the data disk, then that of the log disk, which has room for one of the log's
 -- sectors. Then come 1 to 64 seats, up to four layers of the data disk, and up to four of the log
 -- disk. Then comes the body, with one of the seats in each line
-abbrev pub StandsBehind : RunPrefix → RunLine → Type 0
-StandsBehind data_due (run_lines.Head (head_lines.Data sectors)) = is_disk_size sectors ≡ true
-StandsBehind (log_due data_disk) (run_lines.Head (head_lines.Log sectors size)) =
+abbrev pub MayFollowInRun : RunPrefix → RunLine → Type 0
+MayFollowInRun data_due (run_lines.Head (head_lines.Data sectors)) = is_disk_size sectors ≡ true
+MayFollowInRun (log_due data_disk) (run_lines.Head (head_lines.Log sectors size)) =
     is_log_disk_size (bytes_of size) sectors ≡ true
-StandsBehind (seats_due data_disk log_disk) (run_lines.Seats count) = (1 ≤ count) × (count ≤ 64)
-StandsBehind (in_head data_disk log_disk count)
+MayFollowInRun (seats_due data_disk log_disk) (run_lines.Seats count) = (1 ≤ count) × (count ≤ 64)
+MayFollowInRun (in_head data_disk log_disk count)
     (run_lines.Head (head_lines.Layer disks.Data asked)) = (length data_disk.layers < 4)
     × (log_disk.layers ≡ [])
-StandsBehind (in_head data_disk log_disk count)
+MayFollowInRun (in_head data_disk log_disk count)
     (run_lines.Head (head_lines.Layer disks.Log asked)) = length log_disk.layers < 4
-StandsBehind (in_head data_disk log_disk count) (run_lines.Body said) = said.seat < count
-StandsBehind (in_body count) (run_lines.Body said) = said.seat < count
-StandsBehind _ _ = ⊥
+MayFollowInRun (in_head data_disk log_disk count) (run_lines.Body said) = said.seat < count
+MayFollowInRun (in_body count) (run_lines.Body said) = said.seat < count
+MayFollowInRun _ _ = ⊥
 
 -- the line is of the grammar after these lines, and s is its meaning
 pub record IsRunLineAfter (before : List (List ℕ)) (line : List ℕ) (s : RunLine) : Type 0 where
   pub plain : is_ascii_line line ≡ true
-  pub says : SaysLine line s
+  pub says : MeansLine line s
   pub said : List RunLine
-  pub before_says : AllZip SaysLine (unskipped before) said
-  pub stands : StandsBehind (prefix_after data_due said) s
+  pub before_says : AllZip MeansLine (unskipped before) said
+  pub stands : MayFollowInRun (prefix_after data_due said) s
 
 -- the disk of this name
 abbrev pub run_disk : DiskName → RunPlan → Disk

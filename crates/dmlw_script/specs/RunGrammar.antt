@@ -18,7 +18,8 @@ use Rattle.refusals.specs.Words.{IsNumber}
 
 -- the words are a write's: its first sector, its number of sectors, its byte, and then its options
 -- in their order
-pub record SaysWrite (words : List ℕ) (first count byte : ℕ) (options : WriteOptions) : Type 0 where
+pub record MeansWrite (words : List ℕ) (first count byte : ℕ)
+    (options : WriteOptions) : Type 0 where
   pub first_word : List ℕ
   pub count_word : List ℕ
   pub first_number : IsNumber first_word first
@@ -28,7 +29,7 @@ pub record SaysWrite (words : List ℕ) (first count byte : ℕ) (options : Writ
       (codes "w" ∷ first_word ∷ count_word ∷ byte_text byte ∷ option_words options)
 
 -- the words are a discard's: its first sector and its number of sectors
-pub record SaysDiscard (words : List ℕ) (first count : ℕ) : Type 0 where
+pub record MeansDiscard (words : List ℕ) (first count : ℕ) : Type 0 where
   pub first_word : List ℕ
   pub count_word : List ℕ
   pub first_number : IsNumber first_word first
@@ -37,33 +38,33 @@ pub record SaysDiscard (words : List ℕ) (first count : ℕ) : Type 0 where
 
 -- the words are this call of a seat; a mark's text is everything after its first word and one
 -- space, and may be empty
-abbrev pub SaysCall : List ℕ → Call → Type 0
-SaysCall words (Submit (submits.Write first count byte options)) =
-    SaysWrite words first count byte options
-SaysCall words (Submit submits.Flush) = words ≡ codes "f"
-SaysCall words (Submit (submits.Discard first count)) = SaysDiscard words first count
-SaysCall words (Mark text) = (is_line_text text ≡ true) × (words ≡ codes "mark " ++ text)
+abbrev pub MeansCall : List ℕ → Call → Type 0
+MeansCall words (Submit (submits.Write first count byte options)) =
+    MeansWrite words first count byte options
+MeansCall words (Submit submits.Flush) = words ≡ codes "f"
+MeansCall words (Submit (submits.Discard first count)) = MeansDiscard words first count
+MeansCall words (Mark text) = (is_line_text text ≡ true) × (words ≡ codes "mark " ++ text)
 
 -- the line is a seat's: `s` and the number of the seat, and its call after one space
-pub record SaysSeatCall (line : List ℕ) (said : SeatCall) : Type 0 where
+pub record MeansSeatCall (line : List ℕ) (said : SeatCall) : Type 0 where
   pub seat_word : List ℕ
   pub words : List ℕ
   pub number : IsNumber seat_word said.seat
-  pub says : SaysCall words said.call
+  pub says : MeansCall words said.call
   pub spelled : line ≡ codes "s" ++ (seat_word ++ 32 ∷ words)
 
 -- the line has this meaning, by its words: a line of the head has its meaning in a recorder's
 -- script
-abbrev pub SaysLine : List ℕ → RunLine → Type 0
-SaysLine line (run_lines.Head said) = ParsesAs line (parsed_lines.Head said)
-SaysLine line (run_lines.Seats count) = ParsesAsNumber (codes "seats") line count
-SaysLine line (run_lines.Body said) = SaysSeatCall line said
+abbrev pub MeansLine : List ℕ → RunLine → Type 0
+MeansLine line (run_lines.Head said) = ParsesAs line (parsed_lines.Head said)
+MeansLine line (run_lines.Seats count) = ParsesAsNumber (codes "seats") line count
+MeansLine line (run_lines.Body said) = MeansSeatCall line said
 
 -- the lines are those of a run's script: they are plain, and those that aren't skipped have the
 -- meanings of the script's lines, in their order
 pub record AreRunLines (lines : List (List ℕ)) (plan : RunPlan) : Type 0 where
   pub plain : AllByRecursion (λ line. is_ascii_line line ≡ true) lines
-  pub says : AllZip SaysLine (unskipped lines) (lines_of_run plan)
+  pub says : AllZip MeansLine (unskipped lines) (lines_of_run plan)
   pub script : IsRunPlan plan
 
 -- the text is one of this script

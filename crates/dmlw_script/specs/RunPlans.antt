@@ -37,7 +37,7 @@ FitsLine (Submit submission) = WritesByte submission
 FitsLine (Mark text) = is_line_text text ≡ true
 
 -- a line of the body: its seat is one of them, and its call passes the test of its sectors
-pub record CanStand (bytes sectors seats : ℕ) (line : SeatCall) : Type 0 where
+pub record IsAllowed (bytes sectors seats : ℕ) (line : SeatCall) : Type 0 where
   pub seat : line.seat < seats
   pub tested : call_answer bytes sectors line.call ≡ Ok tt
   pub spelled : FitsLine line.call
@@ -51,7 +51,7 @@ pub record IsRunPlan (plan : RunPlan) : Type 0 where
   pub some_seat : 1 ≤ plan.seats
   pub few_seats : plan.seats ≤ 64
   pub calls : AllByRecursion
-      (CanStand (bytes_of plan.log_size) (top_of plan.data_disk) plan.seats) plan.calls
+      (IsAllowed (bytes_of plan.log_size) (top_of plan.data_disk) plan.seats) plan.calls
 
 -- the line of a layer over the data disk, and over the log disk
 abbrev pub data_layer : LayerSpec → RunLine

@@ -1,7 +1,7 @@
 //! The body of a script, line by line: which requests were submitted and which of them are open.
 ghost use Rattle.std.specs.Prelude.{◌≡◌, ◌<◌, ℕ, [], Ok, OnOk, false, length, option_map};
 ghost use Rattle.bio.specs.Sizes.{bytes_of};
-ghost use Rattle.dmlw_script.specs.Plans.{moment_at, range_test, submission_answer};
+ghost use Rattle.dmlw_script.specs.Plans.{time_at, range_test, submission_answer};
 ghost use Rattle.dmlw_script.specs.inside.Drafts.{as_refusal, step_test, Follows};
 
 use crate::command::{Command, Step, Submission};
@@ -167,7 +167,7 @@ impl BodyReader {
         ensures step { Follows result (body_of self.new)
             (Ok (with_command (body_of self.old) command)) }
     {
-        let moment = moment_after(self.moment, &command);
+        let moment = time_after(self.moment, &command);
         self.commands.push(command)?;
         self.moment = moment;
         Ok(())
@@ -230,8 +230,8 @@ fn check_step(step: &Step, sectors: u64, log_size: SectorSize, moment: Ms) -> Re
 }
 
 // Returns the time after a command, if it was `moment` before.
-fn moment_after(moment: Ms, command: &Command) -> Ms
-    ensures { result ≡ moment_at moment command.now }
+fn time_after(moment: Ms, command: &Command) -> Ms
+    ensures { result ≡ time_at moment command.now }
 {
     match command {
         Command::Step(Step::At { moment: later }) => *later,

@@ -11,7 +11,7 @@ ghost use Rattle.dmlw_script.specs.Grammar.{IsLineOf, IsTextOf, AreLinesOf};
 ghost use Rattle.dmlw_script.specs.Lines.{command_line, with_line_feeds, is_ascii_line};
 ghost use Rattle.dmlw_script.specs.Lines.{is_skipped};
 ghost use Rattle.dmlw_script.specs.Lines.{IsUnbroken, lines_of};
-ghost use Rattle.dmlw_script.specs.Plans.{IsPlan, CanFollow, ScriptValue, count_behind_head};
+ghost use Rattle.dmlw_script.specs.Plans.{IsPlan, CanFollow, ScriptValue, count_after_head};
 ghost use Rattle.dmlw_script.specs.Plans.{head_count, top_of};
 ghost use Rattle.dmlw_script.specs.FirstFault.{IsFirstFault};
 ghost use Rattle.dmlw_script.specs.CanonicalText.{canonical_text};
@@ -68,12 +68,12 @@ pub fn lines_are_those_of_commands()
         command_line text (place + head_count plan) ≡ Some number
         → IsLineOf (lines_of text) plan place number }
     ensures found { (text : List ℕ) (plan : ScriptValue) (place : ℕ) → IsTextOf text plan →
-        place < count_behind_head plan
+        place < count_after_head plan
         → (number : ℕ) × (command_line text (place + head_count plan) ≡ Some number) }
     ensures one { (lines : List (List ℕ)) (plan : ScriptValue) (place m n : ℕ) →
         IsLineOf lines plan place m → IsLineOf lines plan place n → m ≡ n }
     ensures none { (text : List ℕ) (plan : ScriptValue) (place : ℕ) → IsTextOf text plan →
-        count_behind_head plan ≤ place → command_line text (place + head_count plan) ≡ None }
+        count_after_head plan ≤ place → command_line text (place + head_count plan) ≡ None }
 {}
 
 /// Each command of a script may come after those before it, and no request ends twice.

@@ -1,6 +1,6 @@
 //! The meaning of a line of a script by its words, whatever is before it.
 ghost use Rattle.std.specs.Prelude.{◌≡◌, option_copied, option_map};
-ghost use Rattle.dmlw_script.specs.LineMeaning.{as_said};
+ghost use Rattle.dmlw_script.specs.LineMeaning.{as_meaning};
 ghost use Rattle.dmlw_script.specs.Lines.{is_line_byte as is_a_line_byte};
 ghost use Rattle.dmlw_script.specs.Lines.{is_line_text as is_a_line_text};
 ghost use Rattle.dmlw_script.specs.inside.LineParser.{body_words, discard_of as the_discard};
@@ -73,7 +73,7 @@ pub(crate) enum BodyLine {
 /// Parses a line that was already split into its first word and the other words, if it has any. The
 /// line is no crash, no mark and no message. Returns None if it isn't of the grammar.
 pub(crate) fn parse_parts(verb: &[u8], words: Option<&[u8]>) -> Option<Line>
-    ensures { option_map as_said result ≡ plain_parts verb.now (option_copied words.entry) }
+    ensures { option_map as_meaning result ≡ plain_parts verb.now (option_copied words.entry) }
 {
     match words {
         Some(words) => parse_words(verb, words),
@@ -83,7 +83,7 @@ pub(crate) fn parse_parts(verb: &[u8], words: Option<&[u8]>) -> Option<Line>
 
 // Parses a line of this one word.
 fn lone_word(verb: &[u8]) -> Option<Line>
-    ensures { option_map as_said result ≡ lone_word verb.now }
+    ensures { option_map as_meaning result ≡ lone_word verb.now }
 {
     match verb {
         b"close" => Some(Line::Body(BodyLine::Step(Step::Close))),
@@ -94,7 +94,7 @@ fn lone_word(verb: &[u8]) -> Option<Line>
 
 // Parses a line with this first word and these other words.
 fn parse_words(verb: &[u8], words: &[u8]) -> Option<Line>
-    ensures { option_map as_said result ≡ parse_words verb.now words.now }
+    ensures { option_map as_meaning result ≡ parse_words verb.now words.now }
 {
     match head_words(verb, words) {
         Some(line) => Some(Line::Head(line)),
@@ -156,7 +156,7 @@ fn layer_of(over: DiskName, text: &[u8]) -> HeadLine
 
 // Parses a line of the body with this first word and these other words.
 fn body_words(verb: &[u8], words: &[u8]) -> Option<Line>
-    ensures { option_map as_said result ≡ body_words verb.now words.now }
+    ensures { option_map as_meaning result ≡ body_words verb.now words.now }
 {
     match verb {
         b"w" => write_of(words),
@@ -178,7 +178,7 @@ fn body_words(verb: &[u8], words: &[u8]) -> Option<Line>
 
 // Parses the words of a write: its id, and the other words.
 fn write_of(words: &[u8]) -> Option<Line>
-    ensures { option_map as_said result ≡ the_write words.now }
+    ensures { option_map as_meaning result ≡ the_write words.now }
 {
     let (name, rest) = cut(words, b' ');
     Some(Line::Body(BodyLine::Submit {
@@ -205,7 +205,7 @@ pub(crate) fn write_words(words: &[u8]) -> Option<Submission>
 
 // Parses the words of a discard: its id, and the other words.
 fn discard_of(words: &[u8]) -> Option<Line>
-    ensures { option_map as_said result ≡ the_discard words.now }
+    ensures { option_map as_meaning result ≡ the_discard words.now }
 {
     let (name, rest) = cut(words, b' ');
     Some(Line::Body(BodyLine::Submit {
@@ -225,7 +225,7 @@ pub(crate) fn discard_words(words: &[u8]) -> Option<Submission>
 
 // Parses the words of a read: its first sector and its number of sectors.
 fn read_of(words: &[u8]) -> Option<Line>
-    ensures { option_map as_said result ≡ the_read words.now }
+    ensures { option_map as_meaning result ≡ the_read words.now }
 {
     let (first, count) = sectors_of(words)?;
     Some(Line::Body(BodyLine::Step(Step::Read { first, count })))

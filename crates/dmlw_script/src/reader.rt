@@ -2,7 +2,7 @@
 //! fault.
 ghost use Rattle.std.specs.Prelude.{◌≡◌, ◌<◌, ◌∷◌, [], None, IfErr, IfOk, MatchOption, OnOk};
 ghost use Rattle.std.specs.Prelude.{length, option_copied, option_map};
-ghost use Rattle.dmlw_script.specs.LineMeaning.{as_said};
+ghost use Rattle.dmlw_script.specs.LineMeaning.{as_meaning};
 ghost use Rattle.dmlw_script.specs.LineMeaning as parsed_lines;
 ghost use Rattle.dmlw_script.specs.inside.LineParser.{mark_of, message_of as the_message};
 ghost use Rattle.dmlw_script.specs.inside.LineParser.{parse_parts};
@@ -170,7 +170,7 @@ impl Reader {
         requires { IsReader self.old }
         ensures reader { OnOk result (IsReader self.new) }
         ensures step { Follows result (progress_of self.new)
-            (parsed_step (progress_of self.old) (as_said parsed)) }
+            (parsed_step (progress_of self.old) (as_meaning parsed)) }
     {
         match parsed {
             Line::Head(line) => self.read_head(line),

@@ -9,7 +9,8 @@ use Rattle.std.specs.List.{AllByRecursion}
 use Rattle.blockdev.specs.View.{Place}
 use Rattle.table_line.specs.declared.layer_spec.LayerSpec.{LayerSpec}
 use Rattle.table_line.specs.Ranges.{IsLayerSpec}
-use Rattle.table_line.specs.LayerOrder.{drops_writes, some_drops, top_origin, top_sectors, CanStand}
+use Rattle.table_line.specs.LayerOrder.{drops_writes, some_drops, top_origin, top_sectors}
+use Rattle.table_line.specs.LayerOrder.{IsAllowed}
 use Rattle.layer_table.specs.declared.stack.Stack.{Stack}
 use Rattle.layer_table.specs.Layers.{disk_of, layer_asked, layers_of, layers_under, stack_shown}
 use Rattle.layer_table.specs.Layers.{AreOver, IsPartlyUnder, IsPut, Layer}
@@ -32,7 +33,7 @@ pub record AreUnder (specs rest : List LayerSpec) (load : ℕ) (old stack : Stac
   lies : (stack_shown stack).lies ≡ (stack_shown old).lies
   drops : some_drops specs ≡ false
       → (some_drops rest ≡ false) × ((stack_shown stack).can_lie ≡ (stack_shown old).can_lie)
-  stand : CanStand (stack_shown old).size specs → CanStand (stack_shown stack).size rest
+  stand : IsAllowed (stack_shown old).size specs → IsAllowed (stack_shown stack).size rest
   count : length (layers_of stack) + length rest ≡ length (layers_of old) + length specs
 
 -- at first none does
@@ -101,7 +102,7 @@ one_under specs rest spec above load old stack next is before layers disk put =
             put.can_lie ∙ ap (λ (own : Bool). (stack_shown stack).can_lie || own) parts.0
                 ∙ or-false (stack_shown stack).can_lie ∙ before.1,
           );
-      stand = λ stand. subst (λ (n : ℕ). CanStand n above) (sym put.size) (are.stand stand).2;
+      stand = λ stand. subst (λ (n : ℕ). IsAllowed n above) (sym put.size) (are.stand stand).2;
       count =
           let counted = are.count in
           let grown = ap (λ (ls : List Layer). length ls) layers in omega arith;
@@ -134,7 +135,7 @@ all_under specs (spec ∷ rest) load old stack none are = absurd (omega arith)
 -- where they can stand, none is refused
 pub none_refused : (specs rest : List LayerSpec) (spec : LayerSpec) (above : List LayerSpec)
     (load : ℕ) (old stack : Stack) → rest ≡ spec ∷ above
-    → AreUnder specs rest load old stack → CanStand (stack_shown old).size specs
+    → AreUnder specs rest load old stack → IsAllowed (stack_shown old).size specs
     → length (layers_of old) + length specs ≤ 4
     → ((stack_shown stack).size < spec.offset + spec.length) ⊎ (length (layers_of stack) ≡ 4) → ⊥
 none_refused specs rest spec above load old stack is before stand few (inl past) =

@@ -19,7 +19,7 @@ use Rattle.layer_table.specs.declared.slot.Slot.{Slot}
 use Rattle.layer_table.specs.declared.slot.Slot.TheVariants as slots
 use Rattle.layer_table.specs.AnyRule.{any_may_drop, any_verdict}
 use Rattle.layer_table.specs.Layers.{layers_over, layers_with, shifted, Deciding, Dusting, Layer}
-use Rattle.layer_table.specs.Layers.{LayersDo, SoManyDo, Under}
+use Rattle.layer_table.specs.Layers.{LayersDo, CountedLayersDo, Under}
 use Rattle.layer_table.specs.Slots.{device_of, has_layer, slot_does, slot_shown, IsShifted}
 use Rattle.layer_table.specs.SlotLaws.{decided_keeps, dusted_keeps, slot_kept, IsKept}
 
@@ -127,15 +127,15 @@ does_with {D} {g} layers disk kept below (slots.Dusted layer) call now result
         rule = same_dust layer after does.block does.mode;
         done =
             (done_carried IsShifted (shifted
-            (SoManyDo (length (layers layer.lower.lower))) layer.lower.offset)
+            (CountedLayersDo (length (layers layer.lower.lower))) layer.lower.offset)
             (λ range. (length (layers range.lower) ≡ length (layers layer.lower.lower))
             × (range.offset ≡ layer.lower.offset))
             (λ range. under_of layers disk range.lower)
             (λ range call now result next holds did. (
-              subst (λ (offset : ℕ). SoManyDo (length (layers layer.lower.lower))
+              subst (λ (offset : ℕ). CountedLayersDo (length (layers layer.lower.lower))
                   (under_of layers disk range.lower) (call_from offset call) now result
                   (under_of layers disk next.lower)) holds.1
-                  (subst (λ (count : ℕ). SoManyDo count (under_of layers disk range.lower)
+                  (subst (λ (count : ℕ). CountedLayersDo count (under_of layers disk range.lower)
                   (call_from range.offset call) now result
                   (under_of layers disk next.lower)) holds.0
                   (below range.lower (call_from range.offset call) now result next.lower did.0)),

@@ -281,16 +281,16 @@ DoesAtTop does (layer ∷ layers) disk call now result (after ∷ others) new =
 
 -- The effect of a call on `count` layers over a disk: at the top, then below it shifted by its
 -- offset, and so on down to the disk.
-abbrev pub SoManyDo : ℕ → Under → Call → ℕ → Result ℕ DevError → Under → Type 0
-SoManyDo zero old call now result new =
+abbrev pub CountedLayersDo : ℕ → Under → Call → ℕ → Result ℕ DevError → Under → Type 0
+CountedLayersDo zero old call now result new =
     (old.layers ≡ []) × (new.layers ≡ []) × Does old.disk call now result new.disk
-SoManyDo (suc count) old call now result new =
-    DoesAtTop (SoManyDo count) old.layers old.disk call now result new.layers new.disk
+CountedLayersDo (suc count) old call now result new =
+    DoesAtTop (CountedLayersDo count) old.layers old.disk call now result new.layers new.disk
 
 abbrev pub LayersDo : List Layer → SectorDisk → Call → ℕ → Result ℕ DevError → List Layer
     → SectorDisk → Type 0
 LayersDo layers disk call now result after new =
-    SoManyDo (length layers) (record { layers = layers; disk = disk }) call now result
+    CountedLayersDo (length layers) (record { layers = layers; disk = disk }) call now result
     (record { layers = after; disk = new })
 
 -- The effect of a call by a verdict about it at the top of layers over a disk. `next` is the top
@@ -335,6 +335,7 @@ pub record FollowsBlocks (block : ℕ) (bad : Bad) (mode : Mode) (layer : Layer)
   pub list : Bad
   pub faults : ℕ
   pub stays : after ≡ record layer { rule = Dusting block list mode; faults = faults } ∷ others
-  pub done : IsDoneBy (shifted (SoManyDo (length layers)) layer.offset) mode block call now result
+  pub done : IsDoneBy (shifted (CountedLayersDo (length layers)) layer.offset) mode block call now
+      result
       (record { lower = record { layers = layers; disk = old }; bad = bad; faults = layer.faults })
       (record { lower = record { layers = others; disk = new }; bad = list; faults = faults })

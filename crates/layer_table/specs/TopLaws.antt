@@ -14,7 +14,7 @@ use Rattle.layer_table.specs.declared.any_gate.AnyGate.{AnyGate}
 use Rattle.layer_table.specs.declared.any_gate.AnyGate.TheVariants.{Delay, Open}
 use Rattle.layer_table.specs.AnyRule.{any_after, any_verdict}
 use Rattle.layer_table.specs.Layers.{Deciding, DoesAt, Dusting, Follows, FollowsBlocks}
-use Rattle.layer_table.specs.Layers.{FollowsLater, Layer, LayersDo, Rule, SoManyDo, Under}
+use Rattle.layer_table.specs.Layers.{FollowsLater, Layer, LayersDo, Rule, CountedLayersDo, Under}
 
 -- layers with equal fields are equal
 same_values : (o p l m : ℕ) (g h : Rule) (f e i k : ℕ) → o ≡ p → l ≡ m → g ≡ h → f ≡ e → i ≡ k
@@ -40,11 +40,11 @@ at_top : (layer : Layer) (layers : List Layer) (old : SectorDisk) (call : Call) 
     (result : Result ℕ DevError) (top : Layer)
     (others : List Layer) (new : SectorDisk) (rule : Rule) → layer.rule ≡ rule
     → LayersDo (layer ∷ layers) old call now result (top ∷ others) new
-    → DoesAt (SoManyDo (length layers)) rule
+    → DoesAt (CountedLayersDo (length layers)) rule
     (record { layers = layers; disk = old }) call now result
     (record { layers = others; disk = new }) layer top
 at_top layer layers old call now result top others new rule is does =
-    subst (λ (it : Rule). DoesAt (SoManyDo (length layers)) it
+    subst (λ (it : Rule). DoesAt (CountedLayersDo (length layers)) it
     (record { layers = layers; disk = old }) call now result
     (record { layers = others; disk = new }) layer top)
     is does.0

@@ -17,7 +17,7 @@ use Rattle.lock_state.specs.declared.served.Seen.{Seen}
 use Rattle.lock_state.specs.declared.served.Seen.TheVariants.{Never, Once, Again}
 use Rattle.lock_state.specs.Calls.{done_call}
 use Rattle.lock_state.specs.History.{one_if}
-use Rattle.lock_state.specs.Comparison.{AllTell, IsDoneOnce, IsNoted, IsOkAt, Tells, is_of}
+use Rattle.lock_state.specs.Comparison.{AllNotesMatch, IsDoneOnce, IsNoted, IsOkAt, Tells, is_of}
 use Rattle.lock_state.specs.Comparison.{is_ok_of}
 use Rattle.lock_state.specs.Comparison.{seen_more, times}
 use Rattle.lock_state.proofs.Lists.{get_set_same, get_set_else}
@@ -66,9 +66,9 @@ tells-push calls call id was tells = by_cases (is_ok_of id call) refl was tells
 
 -- one call more is noted
 pub all_tell-push : (calls : List Done) (call : Done) (before after : List Seen) (place : ℕ)
-    → place ≡ length calls → AllTell calls before
+    → place ≡ length calls → AllNotesMatch calls before
     → ((id : ℕ) (seen : Seen) → slice_get after id ≡ Some seen → IsNoted before place call id seen)
-    → AllTell (calls ++ call ∷ []) after
+    → AllNotesMatch (calls ++ call ∷ []) after
 all_tell-push calls call before after place is tells noted id seen e =
     let n = noted id seen e in
     subst (Tells (calls ++ call ∷ []) id)

@@ -11,7 +11,7 @@ use Rattle.refusals.specs.declared.end.End.TheVariants.{Full, Device, Memory}
 use Rattle.lock_state.specs.declared.note.Own.{Own}
 use Rattle.lock_state.specs.declared.note.Told.{Told}
 use Rattle.lock_state.specs.History.{own_at}
-use Rattle.lock_state.specs.Comparison.{AreCauses, MayBeTold, is_of, of, of_from}
+use Rattle.lock_state.specs.Comparison.{AreCauses, MayBeReported, is_of, of, of_from}
 use Rattle.lock_state.proofs.Lists.{take_next}
 
 -- the seat's events from a place on
@@ -122,11 +122,12 @@ take_past (x ∷ xs) (suc n) h = ap (λ ys. x ∷ ys) (take_past xs n (omega ari
 
 -- the causes that a seat was told, one by one
 pub causes_all : (told : Told) (stop end : Option End) (a b c : Bool)
-    → MatchBool a (MayBeTold told.full Full stop end) (MayBeTold told.full Full stop end → ⊥)
-    → MatchBool b (MayBeTold told.device Device stop end)
-    (MayBeTold told.device Device stop end → ⊥)
-    → MatchBool c (MayBeTold told.memory Memory stop end)
-    (MayBeTold told.memory Memory stop end → ⊥)
+    → MatchBool a (MayBeReported told.full Full stop end) (MayBeReported told.full Full stop end
+    → ⊥)
+    → MatchBool b (MayBeReported told.device Device stop end)
+    (MayBeReported told.device Device stop end → ⊥)
+    → MatchBool c (MayBeReported told.memory Memory stop end)
+    (MayBeReported told.memory Memory stop end → ⊥)
     → MatchBool (a && (b && c)) (AreCauses told stop end) (AreCauses told stop end → ⊥)
 causes_all told stop end false b c f d m = λ each. f (each Full)
 causes_all told stop end true false c f d m = λ each. d (each Device)

@@ -42,7 +42,7 @@ impl<R: Run> QueueState<R> {
 
     /// Returns whether each cause that was reported to the seat is that of the first stop, or
     /// `end`.
-    pub fn has_told(&self, seat: &SeatPart<R>, end: Option<End>) -> bool
+    pub fn has_reported_causes(&self, seat: &SeatPart<R>, end: Option<End>) -> bool
         ensures { MatchBool result (AreCauses seat.now.told self.now.stop end)
             (AreCauses seat.now.told self.now.stop end → ⊥) }
     {

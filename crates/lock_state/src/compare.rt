@@ -2,7 +2,8 @@
 ghost use Rattle.std.specs.Prelude.{◌≡◌, ◌≢◌, ◌⊎◌, ◌&&◌, MatchBool, Option, Some, slice_get};
 ghost use Rattle.std.specs.Prelude.{length};
 ghost use Rattle.bio.specs.declared.request.Bio.TheVariants.{Discard, Flush, Read, Write};
-ghost use Rattle.lock_state.specs.Comparison.{AreCauses, Each, Fails, MayBeTold, Names, is_of, of};
+ghost use Rattle.lock_state.specs.Comparison.{AreCauses, Each, Fails, MayBeReported, Names, is_of};
+ghost use Rattle.lock_state.specs.Comparison.{of};
 ghost use Rattle.lock_state.specs.History.{Found, own_at};
 
 use crate::log::Receipt;
@@ -193,7 +194,8 @@ fn is_cause(cause: End, stop: Option<End>, end: Option<End>) -> bool
 
 // Returns whether this cause is one of the two, if it was reported.
 fn may_be_told(told: bool, cause: End, stop: Option<End>, end: Option<End>) -> bool
-    ensures { MatchBool result (MayBeTold told cause stop end) (MayBeTold told cause stop end → ⊥) }
+    ensures { MatchBool result (MayBeReported told cause stop end)
+        (MayBeReported told cause stop end → ⊥) }
 {
     !told || is_cause(cause, stop, end)
 }

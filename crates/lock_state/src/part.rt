@@ -1,6 +1,6 @@
 // The part of a seat: the notes of its own calls.
 ghost use Rattle.std.specs.Prelude.{◌≡◌, ◌==◌, None, is_none, length, true, false};
-ghost use Rattle.lock_state.specs.History.{new_part, told_also, with_calls};
+ghost use Rattle.lock_state.specs.History.{new_part, with_reported_cause, with_calls};
 ghost use Rattle.lock_state.specs.PlacedItems.{awaited_in, settles_hand};
 
 use crate::holders::Holder;
@@ -102,7 +102,7 @@ impl<R: Run> SeatPart<R> {
 
     /// Notes a cause that is reported to the seat. Takes no memory.
     pub fn tell(&mut self, cause: End)
-        ensures { self.new ≡ told_also self.old cause }
+        ensures { self.new ≡ with_reported_cause self.old cause }
     {
         match cause {
             End::Full => self.told.full = true,

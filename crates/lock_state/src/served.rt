@@ -2,7 +2,8 @@
 // and over the events once, with a note for each event.
 ghost use Rattle.std.specs.Prelude.{◌≡◌, ◌≤◌, ℕ, [], MatchBool, Some, length, slice_get};
 ghost use Rattle.lock_state.specs.declared.served.Seen.{Seen as Noted};
-ghost use Rattle.lock_state.specs.Comparison.{AllTell, Each, Fails, IsDoneOnce, IsNoted, IsServed};
+ghost use Rattle.lock_state.specs.Comparison.{AllNotesMatch, Each, Fails, IsDoneOnce, IsNoted};
+ghost use Rattle.lock_state.specs.Comparison.{IsServed};
 ghost use Rattle.lock_state.specs.Comparison.{Tells, seen_more};
 
 use crate::compare::same_bio;
@@ -38,7 +39,7 @@ pub fn is_served(events: &[CoreEvent], calls: &[Done], notes: &mut [Seen]) -> bo
 
 // Notes for each request how often it was done.
 fn note_all(calls: &[Done], notes: &mut [Seen])
-    ensures told { AllTell calls.now notes.new }
+    ensures told { AllNotesMatch calls.now notes.new }
     ensures size { length notes.new ≡ length notes.old }
 {
     clear(notes);
@@ -49,7 +50,7 @@ fn note_all(calls: &[Done], notes: &mut [Seen])
 
 // Clears the notes.
 fn clear(notes: &mut [Seen])
-    ensures told { AllTell [] notes.new }
+    ensures told { AllNotesMatch [] notes.new }
     ensures size { length notes.new ≡ length notes.old }
 {
     for k in 0..notes.len() {
@@ -88,7 +89,7 @@ fn more(seen: Seen, place: usize) -> Seen
 
 // Returns whether the event's request was done exactly once, if the event is an end with success.
 fn is_event_served(events: &[CoreEvent], calls: &[Done], notes: &[Seen], event: &CoreEvent) -> bool
-    requires told { AllTell calls.now notes.now }
+    requires told { AllNotesMatch calls.now notes.now }
     requires size { length events.now ≤ length notes.now }
     ensures { MatchBool result (IsServed events.now calls.now event.now)
         (IsServed events.now calls.now event.now → ⊥) }
@@ -101,7 +102,7 @@ fn is_event_served(events: &[CoreEvent], calls: &[Done], notes: &[Seen], event: 
 
 // Returns whether the request with this id was done exactly once.
 fn is_done_once(events: &[CoreEvent], calls: &[Done], notes: &[Seen], id: u64) -> bool
-    requires told { AllTell calls.now notes.now }
+    requires told { AllNotesMatch calls.now notes.now }
     requires size { length events.now ≤ length notes.now }
     ensures { MatchBool result (IsDoneOnce calls.now id (slice_get events.now id))
         (IsDoneOnce calls.now id (slice_get events.now id) → ⊥) }

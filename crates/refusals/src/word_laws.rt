@@ -14,7 +14,7 @@ pub fn numbers_are_decimal()
 /// words. Bytes that aren't empty and have no space are one word. So more than one space, and
 /// spaces at an end, change nothing.
 #[tactic(auto, using(crate::specs::SplitLaws::words_of_space, crate::specs::SplitLaws::words_of_word))]
-pub fn words_stand_between_spaces()
+pub fn words_are_between_spaces()
     ensures none { words_of [] ≡ [] }
     ensures word { (word : List ℕ) → is_word word ≡ true → words_of word ≡ word ∷ [] }
     ensures space { (before after : List ℕ)

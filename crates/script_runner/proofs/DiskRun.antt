@@ -17,7 +17,7 @@ use Rattle.layer_table.specs.Layers.{IsSeenAs, Layer}
 use Rattle.layer_table.specs.StackLaws.{part_of_disk}
 use Rattle.table_line.specs.declared.layer_spec.LayerSpec.{LayerSpec}
 use Rattle.table_line.specs.Ranges.{IsLayerSpec}
-use Rattle.table_line.specs.LayerOrder.{top_origin, top_sectors, CanStand}
+use Rattle.table_line.specs.LayerOrder.{top_origin, top_sectors, IsAllowed}
 use Rattle.std.specs.List.{AllByRecursion}
 use Rattle.sector_disk.specs.declared.disk.SectorDisk.{SectorDisk}
 use Rattle.sector_disk.specs.CandidateLaws.{is_current}
@@ -47,17 +47,17 @@ use Rattle.script_runner.specs.Runs.{RunsLines}
 use Rattle.script_runner.specs.WholeLog.{IsWritten}
 
 -- layers that may stand are those that lines may ask for
-pub asked : (sectors : ℕ) (layers : List LayerSpec) → CanStand sectors layers
+pub asked : (sectors : ℕ) (layers : List LayerSpec) → IsAllowed sectors layers
     → AllByRecursion IsLayerSpec layers
 asked sectors [] stand = tt
 asked sectors (layer ∷ layers) stand = (stand.0, asked layer.length layers stand.2)
 
 -- a disk's layers may stand over it
 pub stands : (disk : Disk) (layers : List LayerSpec) {sectors : ℕ} → layers ≡ disk.layers
-    → sectors ≡ disk.sectors → IsDisk disk → CanStand sectors layers
+    → sectors ≡ disk.sectors → IsDisk disk → IsAllowed sectors layers
 stands disk layers {sectors} above here is =
-    subst (λ (ls : List LayerSpec). CanStand sectors ls) (sym above)
-    (subst (λ (n : ℕ). CanStand n disk.layers) (sym here) is.stand)
+    subst (λ (ls : List LayerSpec). IsAllowed sectors ls) (sym above)
+    (subst (λ (n : ℕ). IsAllowed n disk.layers) (sym here) is.stand)
 
 -- what is said of a disk, is said of one of the same sectors and layers
 same_stack : (sectors : ℕ) (layers : List LayerSpec) (stack : Stack) {disk : Disk}

@@ -32,7 +32,7 @@ use Rattle.recorder.specs.Calls.{Closes, Completes, Drains, Marks, Stops, Submit
 use Rattle.script_runner.specs.declared.request.Request.{Request}
 use Rattle.script_runner.specs.declared.request.Request.TheVariants as requests
 use Rattle.script_runner.specs.declared.running.Running.{Running}
-use Rattle.script_runner.specs.Lines.{Answering, Asks, EndsRequest, HearsEnd, TakesStep, reply_of}
+use Rattle.script_runner.specs.Lines.{Answering, Asks, EndsRequest, RecordsEnd, TakesStep, reply_of}
 use Rattle.script_runner.specs.DiskRun.{stack_answering, DiskRun, Starts}
 use Rattle.script_runner.specs.Runs.{RunsLines}
 use Rattle.script_runner.specs.Submissions.{bio_of}
@@ -208,7 +208,7 @@ asked_within {L} {l} sectors bio requests.NotAsked old new asks passes within = 
 
 -- a request's end
 heard_within : {L : Type 0} {l : Ghosts L} (sectors : ℕ) (id : Option ℕ) (ok : Bool)
-    (old new : Recorder L l) → HearsEnd id ok old new
+    (old new : Recorder L l) → RecordsEnd id ok old new
     → AreWithin sectors (core_of old).events → AreWithin sectors (core_of new).events
 heard_within {L} {l} sectors (Some id) ok old new hears within =
     completed_within {l = l} sectors id ok hears.0 old new hears.1 within

@@ -21,7 +21,7 @@ use Rattle.recorder.specs.Calls.{Closes, Marks, Submits}
 use Rattle.recorder.specs.Growth.{RecorderFrame}
 use Rattle.recorder.specs.Fields.{core_of, recorder_view}
 use Rattle.dmlw_script.specs.declared.script_id.ScriptId.{ScriptId}
-use Rattle.dmlw_script.specs.Plans.{moment_at_step}
+use Rattle.dmlw_script.specs.Plans.{time_at_step}
 use Rattle.script_runner.specs.declared.running.Running.{Running}
 use Rattle.std.specs.Io.KnownBytes.{Appends}
 use Rattle.std.proofs.lemmas.List.{append-nil}
@@ -152,8 +152,8 @@ pub step_runs : {D L : Type 0} {d : Ghosts D} {l : Ghosts L} (m : Answering D L)
     (names : List ScriptId) (command : Command) (step : Step) (before after : Option (List ℕ))
     (text : List ℕ)
     (old new : Running D L d l) → command ≡ commands.Step step → TakesStep m step text old new
-    → new.moment ≡ moment_at_step old.moment step
-    → new.recorder.store.moment ≡ moment_at_step old.recorder.store.moment step
+    → new.moment ≡ time_at_step old.moment step
+    → new.recorder.store.moment ≡ time_at_step old.recorder.store.moment step
     → RecorderFrame (recorder_view old.recorder) (recorder_view new.recorder)
     → Appends before after text → PrintsLine m names command before after old new
 step_runs m names command step before after text old new is takes moment log_moment goes printed =

@@ -11,7 +11,7 @@ use Rattle.dmlw_script.specs.Plans.{name_at}
 use Rattle.recorder.specs.declared.reply.Reply.TheVariants as replies
 use Rattle.script_runner.specs.declared.request.Request.{Request}
 use Rattle.script_runner.specs.declared.request.Request.TheVariants as requests
-use Rattle.script_runner.specs.Lines.{Answering, Asks, EndsRequest, HearsEnd, RunsLine, reply_of}
+use Rattle.script_runner.specs.Lines.{Answering, Asks, EndsRequest, RecordsEnd, RunsLine, reply_of}
 use Rattle.script_runner.specs.Submissions.{bio_of}
 use Rattle.script_runner.specs.WholeLog.{IsWritten}
 use Rattle.bio.specs.Lawful.{has_no_close}
@@ -64,7 +64,7 @@ asked_written {L} {l} bio requests.NotAsked old new asks written = elim asks [
 
 -- so does a request's end
 ended_written : {L : Type 0} {l : Ghosts L} (id : Option ℕ) (ok : Bool) (old new : Recorder L l)
-    → HearsEnd id ok old new → IsWritten old → IsWritten new
+    → RecordsEnd id ok old new → IsWritten old → IsWritten new
 ended_written {L} {l} (Some id) ok old new hears written =
     kept_complete {l = l} id ok hears.0 old new hears.1 written
 ended_written {L} {l} None ok old new hears written =

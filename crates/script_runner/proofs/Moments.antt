@@ -3,7 +3,7 @@ use Rattle.std.proofs.Common.{◌≡◌, ◌∙◌, ℕ, List, [], ◌∷◌, ap
 use Rattle.blockdev.specs.declared.device.BlockDev.{Ghosts}
 use Rattle.dmlw_script.specs.declared.command.Command.{Command}
 use Rattle.dmlw_script.specs.declared.script_id.ScriptId.{ScriptId}
-use Rattle.dmlw_script.specs.Plans.{ScriptValue, moment_at}
+use Rattle.dmlw_script.specs.Plans.{ScriptValue, time_at}
 use Rattle.script_runner.specs.declared.running.Running.{Running}
 use Rattle.script_runner.specs.Lines.{Answering}
 use Rattle.script_runner.specs.DiskRun.{DiskRun, Starts}
@@ -24,4 +24,4 @@ lines_together {D} {L} {d} {l} m names [] text old new ran same =
 lines_together {D} {L} {d} {l} m names (command ∷ body) text old new ran same =
     let line = ran.4 in
     lines_together {d = d} {l = l} m names body ran.2 ran.0 new ran.5
-    (line.log_moment ∙ ap (λ (moment : ℕ). moment_at moment command) same ∙ sym line.moment)
+    (line.log_moment ∙ ap (λ (moment : ℕ). time_at moment command) same ∙ sym line.moment)

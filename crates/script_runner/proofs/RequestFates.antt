@@ -29,7 +29,7 @@ use Rattle.recorder.specs.RecorderView.{EventsGrow}
 use Rattle.script_runner.specs.declared.request.Request.{Request}
 use Rattle.script_runner.specs.declared.request.Request.TheVariants as requests
 use Rattle.script_runner.specs.declared.running.Running.{Running}
-use Rattle.script_runner.specs.RequestEvents.{IsFollowed, StandsFor, submissions_of}
+use Rattle.script_runner.specs.RequestEvents.{IsFollowed, IsRequestOf, submissions_of}
 use Rattle.script_runner.specs.Lines.{Answering, Asks, EndsRequest, RunsLine, TakesStep, reply_of}
 use Rattle.script_runner.specs.Runs.{RunsLines}
 use Rattle.script_runner.specs.Submissions.{bio_of}
@@ -38,7 +38,7 @@ use Rattle.recorder.specs.Fields.{core_of}
 -- what is asked is what the line says
 asks_stands : {L : Type 0} {l : Ghosts L} (submission : Submission) (request : Request)
     (old new : Recorder L l) → Asks (bio_of submission) request old new
-    → StandsFor submission request
+    → IsRequestOf submission request
 asks_stands submission (requests.Asked bio id) old new asks = asks.0
 asks_stands submission requests.NotAsked old new asks = tt
 
@@ -67,7 +67,7 @@ abbrev Adds : {D L : Type 0} {d : Ghosts D} {l : Ghosts L} → List Submission �
     → Running D L d l → Type 0
 Adds asked old new =
     (more : List Request) × (new.requests.items ≡ old.requests.items ++ more)
-    × AllZip StandsFor asked more
+    × AllZip IsRequestOf asked more
 
 -- those of more lines, where the first adds none
 adds_later : {D L : Type 0} {d : Ghosts D} {l : Ghosts L} (asked : List Submission)

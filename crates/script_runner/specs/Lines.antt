@@ -34,7 +34,7 @@ use Rattle.recorder.specs.Calls.{Turns, Closes, Completes, Drains, Marks, Submit
 use Rattle.recorder.specs.Growth.{RecorderFrame}
 use Rattle.recorder.specs.Fields.{core_of, recorder_view}
 use Rattle.log_store.specs.Calls.{Same}
-use Rattle.dmlw_script.specs.Plans.{moment_at}
+use Rattle.dmlw_script.specs.Plans.{time_at}
 use Rattle.script_runner.specs.declared.request.Request.{Request}
 use Rattle.script_runner.specs.declared.request.Request.TheVariants as requests
 use Rattle.script_runner.specs.declared.running.Running.{Running}
@@ -99,10 +99,10 @@ pub record SubmitsNext {D L : Type 0} {d : Ghosts D} {l : Ghosts L} (names : Lis
   pub prints : text ≡ submission_text (name_at names (length old.requests.items)) request
 
 -- how the end of a request is recorded that the recorder follows by this id, or passed
-abbrev pub HearsEnd : {L : Type 0} {l : Ghosts L} → Option ℕ → Bool → Recorder L l → Recorder L l
+abbrev pub RecordsEnd : {L : Type 0} {l : Ghosts L} → Option ℕ → Bool → Recorder L l → Recorder L l
     → Type 0
-HearsEnd (Some id) ok old new = (reply : Reply) × Completes id ok reply old new
-HearsEnd None ok old new = new ≡ old
+RecordsEnd (Some id) ok old new = (reply : Reply) × Completes id ok reply old new
+RecordsEnd None ok old new = new ≡ old
 
 -- A request that was asked is passed on to the data device, and ends
 -- with that result, which is printed. Memory may run out in the device.
@@ -110,7 +110,7 @@ pub record EndsAsked {D L : Type 0} {d : Ghosts D} {l : Ghosts L} (bio : Bio) (i
     (name : ScriptId) (text : List ℕ) (old new : Running D L d l) : Type 0 where
   pub answer : Result ℕ DevError
   pub hands_over : HandsOver d.does old.moment bio answer old.disk new.disk
-  pub hears : HearsEnd id (is_ok answer) old.recorder new.recorder
+  pub hears : RecordsEnd id (is_ok answer) old.recorder new.recorder
   pub kept : new.requests.items ≡ old.requests.items
   pub short : new.short ≡ (old.short || is_starved answer)
   pub prints : text ≡ outcome_line name (is_ok answer)
@@ -170,7 +170,7 @@ PrintsMark _ printed = ⊥
 
 -- A line sets the time at which the calls of both devices
 -- begin from then on; nothing is recorded.
-pub record SetsMoment {D L : Type 0} {d : Ghosts D} {l : Ghosts L} (moment : ℕ) (text : List ℕ)
+pub record SetsTime {D L : Type 0} {d : Ghosts D} {l : Ghosts L} (moment : ℕ) (text : List ℕ)
     (old new : Running D L d l) : Type 0 where
   pub keeps : KeepsData text old new
   pub core : core_of new.recorder ≡ core_of old.recorder
@@ -182,7 +182,7 @@ pub record SetsMoment {D L : Type 0} {d : Ghosts D} {l : Ghosts L} (moment : ℕ
 
 -- A line records a mark; the data device isn't called. A mark
 -- is refused only for lack of memory.
-pub record TellsMark {D L : Type 0} {d : Ghosts D} {l : Ghosts L} (mark text : List ℕ)
+pub record RecordsMark {D L : Type 0} {d : Ghosts D} {l : Ghosts L} (mark text : List ℕ)
     (old new : Running D L d l) : Type 0 where
   pub device : new.disk ≡ old.disk
   pub kept : new.requests.items ≡ old.requests.items
@@ -205,7 +205,7 @@ answering data_device log_device = record { data_device = data_device; log_devic
 
 -- A line hands a message to a layer of the data device, which
 -- takes it; nothing that contracts see of the device changes.
-pub record TellsData {D L : Type 0} {d : Ghosts D} {l : Ghosts L} (m : Answering D L) (layer : ℕ)
+pub record SendsToData {D L : Type 0} {d : Ghosts D} {l : Ghosts L} (m : Answering D L) (layer : ℕ)
     (asked text : List ℕ) (old new : Running D L d l) : Type 0 where
   pub log : new.recorder ≡ old.recorder
   pub kept : new.requests.items ≡ old.requests.items
@@ -216,7 +216,7 @@ pub record TellsData {D L : Type 0} {d : Ghosts D} {l : Ghosts L} (m : Answering
 
 -- A line hands a message to a layer of the log's device, which
 -- takes it; nothing of the recorder and its log changes.
-pub record TellsLog {D L : Type 0} {d : Ghosts D} {l : Ghosts L} (m : Answering D L) (layer : ℕ)
+pub record SendsToLog {D L : Type 0} {d : Ghosts D} {l : Ghosts L} (m : Answering D L) (layer : ℕ)
     (asked text : List ℕ) (old new : Running D L d l) : Type 0 where
   pub keeps : KeepsData text old new
   pub short : new.short ≡ old.short
@@ -228,10 +228,11 @@ pub record TellsLog {D L : Type 0} {d : Ghosts D} {l : Ghosts L} (m : Answering 
   pub log_moment : new.recorder.store.moment ≡ old.recorder.store.moment
 
 -- A line hands a message to a layer of this disk.
-abbrev pub TellsLayer : {D L : Type 0} {d : Ghosts D} {l : Ghosts L} → Answering D L → DiskName → ℕ
+abbrev pub SendsToLayer : {D L : Type 0} {d : Ghosts D} {l : Ghosts L} → Answering D L
+    → DiskName → ℕ
     → List ℕ → List ℕ → Running D L d l → Running D L d l → Type 0
-TellsLayer m disks.Data layer asked text old new = TellsData m layer asked text old new
-TellsLayer m disks.Log layer asked text old new = TellsLog m layer asked text old new
+SendsToLayer m disks.Data layer asked text old new = SendsToData m layer asked text old new
+SendsToLayer m disks.Log layer asked text old new = SendsToLog m layer asked text old new
 
 -- A message to a layer of this disk is refused by this.
 abbrev pub RefusesMessage : {D L : Type 0} {d : Ghosts D} {l : Ghosts L} → Answering D L → DiskName
@@ -247,10 +248,10 @@ abbrev pub TakesStep : {D L : Type 0} {d : Ghosts D} {l : Ghosts L} → Answerin
 TakesStep m steps.Close text old new = EndsRecording text old new
 TakesStep m (steps.Read first count) text old new = ReadsData first count text old new
 TakesStep m steps.Turn text old new = GivesTurn text old new
-TakesStep m (steps.Mark mark) text old new = TellsMark mark text old new
-TakesStep m (steps.At moment) text old new = SetsMoment moment text old new
+TakesStep m (steps.Mark mark) text old new = RecordsMark mark text old new
+TakesStep m (steps.At moment) text old new = SetsTime moment text old new
 TakesStep m (steps.Message over layer asked) text old new =
-    TellsLayer m over layer asked text old new
+    SendsToLayer m over layer asked text old new
 
 -- What a line does, by its kind.
 abbrev pub Does : {D L : Type 0} {d : Ghosts D} {l : Ghosts L} → Answering D L → List ScriptId
@@ -267,8 +268,8 @@ pub record RunsLine {D L : Type 0} {d : Ghosts D} {l : Ghosts L} (m : Answering 
     (names : List ScriptId) (command : Command) (text : List ℕ)
     (old new : Running D L d l) : Type 0 where
   pub does : Does m names command text old new
-  pub moment : new.moment ≡ moment_at old.moment command
-  pub log_moment : new.recorder.store.moment ≡ moment_at old.recorder.store.moment command
+  pub moment : new.moment ≡ time_at old.moment command
+  pub log_moment : new.recorder.store.moment ≡ time_at old.recorder.store.moment command
   pub goes : RecorderFrame (recorder_view old.recorder) (recorder_view new.recorder)
 
 -- A line is run, and what it prints is added to what a writer holds.

@@ -36,7 +36,7 @@ pub record IsRehearsed (plan : ScriptValue) (events : List CoreEvent) : Type 0 w
 
 -- A script's lines ran, whatever they print, and memory ran out on the way:
 -- in a line, for a request as it was submitted, or so that logging ended.
-pub record CameShort (plan : ScriptValue) : Type 0 where
+pub record RanOutOfMemory (plan : ScriptValue) : Type 0 where
   pub start : DiskRun
   pub starts : Starts plan start
   pub text : List ℕ
@@ -49,4 +49,4 @@ pub record CameShort (plan : ScriptValue) : Type 0 where
 -- which nothing is known; and if its lines ran but came short, with Memory, at no line
 abbrev pub FailsRehearsal : List ℕ → ScriptValue → RunError → Type 0
 FailsRehearsal text plan fault =
-    FailsOnDisks text plan None None fault ⊎ (CameShort plan × (fault ≡ memory_error))
+    FailsOnDisks text plan None None fault ⊎ (RanOutOfMemory plan × (fault ≡ memory_error))

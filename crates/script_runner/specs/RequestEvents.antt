@@ -21,9 +21,9 @@ IsFollowed run =
 
 -- what became of a line that submits: the request that it
 -- says was asked; or there was no memory for it
-abbrev pub StandsFor : Submission → Request → Type 0
-StandsFor submission (requests.Asked bio id) = bio ≡ bio_of submission
-StandsFor submission requests.NotAsked = Unit {0}
+abbrev pub IsRequestOf : Submission → Request → Type 0
+IsRequestOf submission (requests.Asked bio id) = bio ≡ bio_of submission
+IsRequestOf submission requests.NotAsked = Unit {0}
 
 -- what the lines submit, in their order
 abbrev pub submissions_of : List Command → List Submission

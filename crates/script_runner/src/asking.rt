@@ -3,7 +3,7 @@ ghost use Rattle.std.specs.Prelude.{◌≡◌, Ok};
 ghost use Rattle.dmlw_script.specs.Plans.{submission_answer};
 ghost use Rattle.recorder.specs.Growth.{RecorderFrame};
 ghost use Rattle.recorder.specs.Fields.{core_of, recorder_view};
-ghost use Rattle.script_runner.specs.Lines.{Asks, HearsEnd};
+ghost use Rattle.script_runner.specs.Lines.{Asks, RecordsEnd};
 ghost use Rattle.script_runner.specs.Submissions.{bio_of};
 
 use crate::request::{Request, bio_of};
@@ -43,7 +43,7 @@ pub(crate) fn complete_request<L: BlockDev + Drop>(
     id: Option<Id>,
     ok: bool,
 )
-    ensures hears { HearsEnd id ok recorder.old recorder.new }
+    ensures hears { RecordsEnd id ok recorder.old recorder.new }
     ensures goes { RecorderFrame (recorder_view recorder.old) (recorder_view recorder.new) }
     ensures log_moment { recorder.new.store.moment ≡ recorder.old.store.moment }
 {

@@ -21,8 +21,8 @@ ghost use Rattle.recorder.specs.Fields.{core_of, recorder_view};
 ghost use Rattle.bio.specs.Content.{Content};
 ghost use Rattle.std.specs.List.{AllZip};
 ghost use Rattle.script_runner.specs.declared.request.Request.{Request};
-ghost use Rattle.script_runner.specs.RequestEvents.{IsFollowed, StandsFor, submissions_of};
-ghost use Rattle.script_runner.specs.Lines.{answering, TellsMark};
+ghost use Rattle.script_runner.specs.RequestEvents.{IsFollowed, IsRequestOf, submissions_of};
+ghost use Rattle.script_runner.specs.Lines.{answering, RecordsMark};
 ghost use Rattle.script_runner.specs.Runs.{RunsLines};
 ghost use Rattle.script_runner.specs.WholeLog.{IsWritten};
 
@@ -55,7 +55,7 @@ pub fn headline()
 
 /// A log on a disk under no layers can always be made, of
 /// either sector size, unless there is no memory for it.
-pub fn bare_logs_fail_by_memory_alone()
+pub fn bare_logs_fail_only_by_memory()
     ensures { (bytes : ℕ) (disk : Disk) (fault : RunError) → disk.layers ≡ []
         → IsUnmade bytes disk fault → fault ≡ LoggingEnded ends.Memory }
 {
@@ -76,7 +76,7 @@ pub fn lines_go_as_one_call<D: Message + Drop, L: Message + Drop>()
 /// The calls of both devices begin at one time: at 0 before the first
 /// line of a script, and after some lines if they did before them. So
 /// each line calls its device at the time that the last `at` set.
-pub fn both_devices_are_called_at_one_moment<D: Message + Drop, L: Message + Drop>()
+pub fn both_devices_are_called_at_one_time<D: Message + Drop, L: Message + Drop>()
     ensures start { (plan : ScriptValue) (run : DiskRun) → Starts plan run
         → run.recorder.store.moment ≡ run.moment }
     ensures lines { (names : List ScriptId) (body : List Command) (text : List ℕ)
@@ -89,12 +89,12 @@ pub fn both_devices_are_called_at_one_moment<D: Message + Drop, L: Message + Dro
 /// Each line that submits passes its request to the recorder, in the order of the lines, unless
 /// there is no memory for it. And each request that the recorder follows is in its events, at its
 /// id, as it was asked.
-pub fn requests_stand_in_the_events<D: Message + Drop, L: Message + Drop>()
+pub fn requests_are_in_the_events<D: Message + Drop, L: Message + Drop>()
     ensures asked { (names : List ScriptId) (body : List Command) (text : List ℕ)
         (old new : Running D L D.BlockDev L.BlockDev) →
         RunsLines (answering D.answers L.answers) names body text old new
         → (more : List Request) × (new.requests.items ≡ old.requests.items ++ more)
-        × AllZip StandsFor (submissions_of body) more }
+        × AllZip IsRequestOf (submissions_of body) more }
     ensures recorded { (names : List ScriptId) (body : List Command) (text : List ℕ)
         (old new : Running D L D.BlockDev L.BlockDev) →
         RunsLines (answering D.answers L.answers) names body text old new → IsFollowed old
@@ -103,10 +103,10 @@ pub fn requests_stand_in_the_events<D: Message + Drop, L: Message + Drop>()
 
 /// A mark that a line has queued is in the recorder's events, at its place and with its text,
 /// whatever lines run after it.
-pub fn marks_stand_in_the_events<D: Message + Drop, L: Message + Drop>()
+pub fn marks_are_in_the_events<D: Message + Drop, L: Message + Drop>()
     ensures { (names : List ScriptId) (body : List Command) (mark text more : List ℕ) (id : ℕ)
         (old mid new : Running D L D.BlockDev L.BlockDev) →
-        (line : TellsMark mark text old mid) → line.reply ≡ Queued id
+        (line : RecordsMark mark text old mid) → line.reply ≡ Queued id
         → RunsLines (answering D.answers L.answers) names body more mid new →
         slice_get (core_of new.recorder).events id ≡ Some (Mark mark) }
 {
@@ -116,7 +116,7 @@ pub fn marks_stand_in_the_events<D: Message + Drop, L: Message + Drop>()
 /// If the log's device didn't lie: whatever a crash at any moment of a script's run may have
 /// left has a log, and that is a prefix of the completion list of the recorder's events, with
 /// all that was settled when the run began.
-pub fn crashes_of_a_run_leave_beginnings<D: Message + Drop, L: Message + Drop>()
+pub fn crashes_of_a_run_leave_prefixes<D: Message + Drop, L: Message + Drop>()
     ensures { (names : List ScriptId) (body : List Command) (text : List ℕ)
         (old new : Running D L D.BlockDev L.BlockDev) (left : Content) →
         RunsLines (answering D.answers L.answers) names body text old new
@@ -129,7 +129,7 @@ pub fn crashes_of_a_run_leave_beginnings<D: Message + Drop, L: Message + Drop>()
         (core_of new.recorder).sector_bytes (take count (log_of (core_of new.recorder))) }
 {
     lines_go_as_one_call::<D, L>();
-    recorder::laws::crashes_leave_beginnings::<L>();
+    recorder::laws::crashes_leave_prefixes::<L>();
 }
 
 /// If a script's run ends with recording closed and logging going on, also with lines after the

@@ -104,8 +104,8 @@ impl<D: Message + Drop, L: Message + Drop> Running<D, L> {
     ghost use Rattle.script_runner.specs.declared.step_error.StepError.TheVariants.{AtLine};
     ghost use Rattle.script_runner.specs.Lines.{EndsRecording, EndsSubmitted, FitsDevice};
     ghost use Rattle.script_runner.specs.Lines.{GivesTurn, HasScriptText, PrintsLine, ReadsData};
-    ghost use Rattle.script_runner.specs.Lines.{RefusesMessage, SetsMoment, StopsForFile};
-    ghost use Rattle.script_runner.specs.Lines.{StopsLine, TellsLayer, TellsMark, answering};
+    ghost use Rattle.script_runner.specs.Lines.{RefusesMessage, SetsTime, StopsForFile};
+    ghost use Rattle.script_runner.specs.Lines.{StopsLine, SendsToLayer, RecordsMark, answering};
     ghost use Rattle.script_runner.specs.Lines.{count_of};
     ghost use Rattle.script_runner.specs.inside.Steps.{StepKeeps};
 
@@ -199,7 +199,7 @@ impl<D: Message + Drop, L: Message + Drop> Running<D, L> {
         requires { is_line_text text.now ≡ true }
         ensures keeps { StepKeeps self.old self.new }
         ensures runs { OnOk result
-            ((printed : List ℕ) × TellsMark text.now printed self.old self.new
+            ((printed : List ℕ) × RecordsMark text.now printed self.old self.new
             × Appends (O.contents out.old) (O.contents out.new) printed) }
         ensures faults { IfErr result StopsForFile }
         ensures goes { OnOk result
@@ -212,7 +212,7 @@ impl<D: Message + Drop, L: Message + Drop> Running<D, L> {
 
     // Sets the time at which the calls of both devices begin from then on.
     fn set_moment(&mut self, moment: Ms)
-        ensures sets { SetsMoment moment [] self.old self.new }
+        ensures sets { SetsTime moment [] self.old self.new }
         ensures moment { self.new.moment ≡ moment }
         ensures log_moment { self.new.recorder.store.moment ≡ moment }
         ensures goes { RecorderFrame (recorder_view self.old.recorder)
@@ -249,7 +249,8 @@ impl<D: Message + Drop, L: Message + Drop> Running<D, L> {
         requires { is_line_text text.now ≡ true }
         ensures keeps { StepKeeps self.old self.new }
         ensures tells { OnOk result
-            (TellsLayer (answering D.answers L.answers) over layer text.now [] self.old self.new) }
+            (SendsToLayer (answering D.answers L.answers) over layer text.now [] self.old
+            self.new) }
         ensures refused { IfErr result
             (λ stop. (error : MessageError) × (stop ≡ AtLine (message_refusal error))
             × RefusesMessage (answering D.answers L.answers) over layer text.now error self.old) }

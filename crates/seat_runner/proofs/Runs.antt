@@ -15,7 +15,7 @@ use Rattle.layer_table.specs.Layers.{disk_of, stack_shown}
 use Rattle.layer_table.specs.StackLaws.{part_of_disk}
 use Rattle.lock_state.specs.Comparison.{Receipt}
 use Rattle.lock_state.specs.History.{Part}
-use Rattle.lock_state.specs.PlacedItems.{Ground, StandsOn, ground_of}
+use Rattle.lock_state.specs.PlacedItems.{Ground, KeepsGround, ground_of}
 use Rattle.log_format.specs.declared.entry.Entry.{Entry}
 use Rattle.log_format.specs.LogLaws.{log_within}
 use Rattle.log_format.specs.LogOf.{IsLogOf, log_sectors}
@@ -204,7 +204,7 @@ image_agrees disk image sectors is size sector below =
 pub record IsLogStack (plan : RunPlan) (log device : Stack) (image : List ℕ) : Type 0 where
   pub room : bytes_of plan.log_size / 512 ≤ top_of plan.log_disk
   pub blank : IsStackOf plan.log_disk log
-  pub stands : StandsOn (ground_of (stack_shown log)) (stack_shown device)
+  pub stands : KeepsGround (ground_of (stack_shown log)) (stack_shown device)
   pub bytes : image ≡ gather (shown_of (disk_of device)).content 0 (shown_of (disk_of device)).size
 
 -- its disk has the sectors that the script says

@@ -23,7 +23,7 @@ use Rattle.seat_runner.specs.inside.SeatWork.{DoesLine, DoesLines, Makes}
 use Rattle.seat_runner.specs.inside.SeatWork.{Player}
 use Rattle.seat_runner.specs.SeatRuns.{AreMade, IsMade, IsSeatRun, calls_of}
 use Rattle.script_runner.specs.Submissions.{bio_of}
-use Rattle.seat_runner.specs.Tallies.{Came, HasRoom, and_kept, counted, how_many, is_done}
+use Rattle.seat_runner.specs.Tallies.{CallResult, HasRoom, and_kept, counted, how_many, is_done}
 use Rattle.seat_runner.specs.Tallies.{is_failed, is_logged, is_not_logged, is_refused, mark_outcome}
 use Rattle.seat_runner.specs.Tallies.{mark_receipt_in, outcome_of, receipt_in, receipts_of}
 use Rattle.seat_runner.specs.Tallies.{tally_of}
@@ -77,8 +77,8 @@ own_few number (line ∷ lines) = also (line.seat == number) (own_few number lin
     also false few = omega (arith, few)
 
 -- calls, and then one call more
-made_more : (old between new : Part) (calls : List Call) (comes : List Came) (call : Call)
-    (came : Came)
+made_more : (old between new : Part) (calls : List Call) (comes : List CallResult) (call : Call)
+    (came : CallResult)
     → AreMade old calls comes between → IsMade between call came new
     → AreMade old (calls ++ call ∷ []) (comes ++ came ∷ []) new
 made_more old between new [] [] call came made one =
@@ -89,7 +89,8 @@ made_more old between new (first ∷ calls) (one_came ∷ comes) call came made 
     (made.0, made.1, made_more made.0 between new calls comes call came made.2 one)
 
 -- as many came of as many calls
-made_length : (old new : Part) (calls : List Call) (comes : List Came) → AreMade old calls comes new
+made_length : (old new : Part) (calls : List Call) (comes : List CallResult)
+    → AreMade old calls comes new
     → length comes ≡ length calls
 made_length old new [] [] made = refl
 made_length old new [] (came ∷ comes) made = absurd made
@@ -98,13 +99,15 @@ made_length old new (call ∷ calls) (came ∷ comes) made =
     ap suc (made_length made.0 new calls comes made.2)
 
 -- one call more is counted where it comes to this, and isn't where it doesn't
-many_yes : (test : Outcome → Bool) (comes : List Came) (came : Came) → test came.outcome ≡ true
+many_yes : (test : Outcome → Bool) (comes : List CallResult) (came : CallResult)
+    → test came.outcome ≡ true
     → how_many test (comes ++ came ∷ []) ≡ how_many test comes + 1
 many_yes test [] came is = let one = ap one_if is in omega (arith, one)
 many_yes test (first ∷ comes) came is =
     let rest = many_yes test comes came is in omega (arith, rest)
 
-many_no : (test : Outcome → Bool) (comes : List Came) (came : Came) → test came.outcome ≡ false
+many_no : (test : Outcome → Bool) (comes : List CallResult) (came : CallResult)
+    → test came.outcome ≡ false
     → how_many test (comes ++ came ∷ []) ≡ how_many test comes
 many_no test [] came is = let none = ap one_if is in omega (arith, none)
 many_no test (first ∷ comes) came is =
@@ -114,17 +117,17 @@ at_most_one : (b : Bool) → one_if b ≤ 1
 at_most_one true = omega arith
 at_most_one false = omega arith
 
-many_few : (test : Outcome → Bool) (comes : List Came) → how_many test comes ≤ length comes
+many_few : (test : Outcome → Bool) (comes : List CallResult) → how_many test comes ≤ length comes
 many_few test [] = omega arith
 many_few test (first ∷ comes) =
     let rest = many_few test comes in
     let one = at_most_one (test first.outcome) in omega (arith, rest, one)
 
 -- a call that came to this, with this receipt
-abbrev came_to : Outcome → Option Receipt → Came
+abbrev came_to : Outcome → Option Receipt → CallResult
 came_to outcome receipt = record { outcome = outcome; receipt = receipt }
 
-tally_more : (comes : List Came) (outcome : Outcome) (receipt : Option Receipt)
+tally_more : (comes : List CallResult) (outcome : Outcome) (receipt : Option Receipt)
     → tally_of (comes ++ came_to outcome receipt ∷ []) ≡ counted (tally_of comes) outcome
 tally_more comes Done receipt =
     rw (
@@ -168,7 +171,7 @@ tally_more comes Refused receipt =
     ) refl
 
 -- few calls leave room for one more
-has_room : (comes : List Came) → length comes < 2 ^ 64 - 1 → HasRoom (tally_of comes)
+has_room : (comes : List CallResult) → length comes < 2 ^ 64 - 1 → HasRoom (tally_of comes)
 has_room comes few = record {
   done = let most = many_few is_done comes in omega (arith, most, few);
   logged = let most = many_few is_logged comes in omega (arith, most, few);
@@ -187,7 +190,7 @@ kept_alone : (receipt : Option Receipt) → and_kept [] receipt ++ [] ≡ and_ke
 kept_alone None = refl
 kept_alone (Some receipt) = refl
 
-kept_more : (comes : List Came) (came : Came)
+kept_more : (comes : List CallResult) (came : CallResult)
     → receipts_of (comes ++ came ∷ []) ≡ and_kept (receipts_of comes) came.receipt
 kept_more [] came = kept_alone came.receipt
 kept_more (first ∷ comes) came =

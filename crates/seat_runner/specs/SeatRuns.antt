@@ -20,7 +20,7 @@ use Rattle.lock_state.specs.Calls.{Holds}
 use Rattle.lock_state.specs.Comparison.{Each}
 use Rattle.lock_state.specs.History.{KeepsCause, Part, first_cause, named, new_part, owned}
 use Rattle.lock_state.specs.LegalHistory.{LegalHistory}
-use Rattle.lock_state.specs.PlacedItems.{Ground, HasCause, StandsOn, entries_in, ground_of}
+use Rattle.lock_state.specs.PlacedItems.{Ground, HasCause, KeepsGround, entries_in, ground_of}
 use Rattle.log_format.specs.LogOf.{status_of}
 use Rattle.log_store.specs.Calls.{HasFaulted}
 use Rattle.refusals.specs.declared.run_error.RunError.{RunError}
@@ -32,7 +32,7 @@ use Rattle.script_runner.specs.declared.recording.Lies.{Lies}
 use Rattle.script_runner.specs.DiskRun.{IsStackOf, seen_on}
 use Rattle.script_runner.specs.Submissions.{bio_of}
 use Rattle.seat_runner.specs.declared.tally.Tally.{Tally}
-use Rattle.seat_runner.specs.Tallies.{Came, joined, mark_outcome, mark_receipt_in, outcome_of}
+use Rattle.seat_runner.specs.Tallies.{CallResult, joined, mark_outcome, mark_receipt_in, outcome_of}
 use Rattle.seat_runner.specs.Tallies.{receipt_in, receipts_of, tally_of}
 use Rattle.shared.specs.Answers.{Answered, Marked}
 use Rattle.shared.specs.Close.{Agrees, Differs, IsReceipt, LeavesLog}
@@ -43,7 +43,7 @@ use Rattle.table_line.specs.LayerOrder.{some_drops}
 
 -- a seat made a call, which came to this: the recorder answered
 -- it so, and the seat's list has what goes with that answer
-abbrev pub IsMade : Part → Call → Came → Part → Type 0
+abbrev pub IsMade : Part → Call → CallResult → Part → Type 0
 IsMade old (Submit submission) came new =
     (answer : Answer Receipt) × Answered old (bio_of submission) answer new
     × (came ≡ record { outcome = outcome_of answer; receipt = receipt_in answer })
@@ -52,7 +52,7 @@ IsMade old (Mark text) came new =
     × (came ≡ record { outcome = mark_outcome answer; receipt = mark_receipt_in answer })
 
 -- a seat made these calls one after the other, which came to these
-abbrev pub AreMade : Part → List Call → List Came → Part → Type 0
+abbrev pub AreMade : Part → List Call → List CallResult → Part → Type 0
 AreMade old [] [] new = new ≡ old
 AreMade old [] (came ∷ others) new = ⊥
 AreMade old (call ∷ calls) [] new = ⊥
@@ -69,7 +69,7 @@ calls_of number (line ∷ lines) =
 -- their answers, and these are the receipts that it was given.
 pub record IsSeatRun (lines : List SeatCall) (number : ℕ) (seat : Part) (tally : Tally)
     (receipts : List Receipt) : Type 0 where
-  pub calls : List Came
+  pub calls : List CallResult
   pub made : AreMade (new_part number) (calls_of number lines) calls seat
   pub told : tally ≡ tally_of calls
   pub kept : receipts ≡ receipts_of calls
@@ -109,7 +109,7 @@ pub record IsClosed (ground : Ground) (bytes sectors : ℕ) (seats : List Part)
       → (stack_shown closed.log).crash left →
       LeavesLog bytes (stack_shown closed.log).size closed.settled closed.core.state closed.end left
   -- the log's device is the one that it was
-  pub stands : StandsOn ground (stack_shown closed.log)
+  pub stands : KeepsGround ground (stack_shown closed.log)
   -- logging ended by the first Stop, which is the history's or came after the Close, else by the
   -- end of the log itself
   pub end : closed.end ≡ first_cause closed.stop closed.store_end

@@ -43,7 +43,7 @@ mark_receipt_in (marks.NotLogged cause) = None
 mark_receipt_in (marks.Refused refusal) = None
 
 -- what a call came to: its outcome, and the receipt that its seat was given, if there is one
-pub record Came : Type 0 where
+pub record CallResult : Type 0 where
   pub outcome : Outcome
   pub receipt : Option Receipt
 
@@ -53,7 +53,7 @@ and_kept receipts None = receipts
 and_kept receipts (Some receipt) = receipts ++ receipt ∷ []
 
 -- the receipts that calls were answered with, in their order
-abbrev pub receipts_of : List Came → List Receipt
+abbrev pub receipts_of : List CallResult → List Receipt
 receipts_of [] = []
 receipts_of (came ∷ others) = and_kept [] came.receipt ++ receipts_of others
 
@@ -84,12 +84,12 @@ is_refused Refused = true
 is_refused _ = false
 
 -- how many of these came to this
-abbrev pub how_many : (Outcome → Bool) → List Came → ℕ
+abbrev pub how_many : (Outcome → Bool) → List CallResult → ℕ
 how_many comes [] = 0
 how_many comes (came ∷ others) = one_if (comes came.outcome) + how_many comes others
 
 -- how many of these came to what
-abbrev pub tally_of : List Came → Tally
+abbrev pub tally_of : List CallResult → Tally
 tally_of calls = record {
   done = how_many is_done calls;
   logged = how_many is_logged calls;

@@ -19,7 +19,8 @@ use Rattle.lock_state.specs.PlacedItems.{Log}
 use Rattle.pending.specs.CoreState.{sized_state}
 use Rattle.shared.specs.Answers.{Answered, Marked}
 use Rattle.shared.specs.Admission.{Enters, MarkEnters}
-use Rattle.shared.specs.Posts.{IsCurrent, IsLatest, IsOfPrefix, KeepsCauses, PostsNext, TellsCause}
+use Rattle.shared.specs.Posts.{IsCurrent, IsLatest, IsOfPrefix, KeepsCauses, PostsNext}
+use Rattle.shared.specs.Posts.{StatusHasCause}
 use Rattle.shared.specs.Search.{Finds}
 use Rattle.shared.specs.NextItem.{FindsNext}
 use Rattle.shared.specs.declared.answer.Answer.TheVariants.{Done, Logged}
@@ -140,10 +141,10 @@ third_awaited finds = let cause = finds.1 in absurd (cc cause)
 abbrev full : Status
 full = record { entries = 2; sector = 2; end = Some Full }
 
-stop_told : TellsCause None (Some Full) full
+stop_told : StatusHasCause None (Some Full) full
 stop_told cause is other = is
 
-none_told : TellsCause None None full → ⊥
+none_told : StatusHasCause None None full → ⊥
 none_told tells = let is = tells Full refl (λ none. absurd (cc none)) in absurd (cc is)
 
 -- a cause that a log's lock knew isn't forgotten
@@ -200,7 +201,7 @@ two_current = record {
         subst (IsOfPrefix 512 two) is (record { within = omega arith; sector = refl })
     counted (suc (suc k)) status there = absurd (cc there)
 
-    ends : Each (TellsCause None None)
+    ends : Each (StatusHasCause None None)
         (opening ∷ record { entries = 2; sector = 2; end = None } ∷ [])
     ends zero status there cause is other =
         let same : opening ≡ status = cc in

@@ -12,10 +12,10 @@ ghost use Rattle.lock_state.specs.Comparison.{BeginsTaken, Each, Receipt as Nami
 ghost use Rattle.lock_state.specs.FirstStop.{HasStopCause};
 ghost use Rattle.lock_state.specs.History.{KeepsCause, Part, first_cause, named, owned};
 ghost use Rattle.lock_state.specs.LegalHistory.{LegalHistory};
-ghost use Rattle.lock_state.specs.PlacedItems.{HasCause, LeavesBeginning, StandsOn, Stay};
+ghost use Rattle.lock_state.specs.PlacedItems.{HasCause, LeavesPrefix, KeepsGround, Stay};
 ghost use Rattle.lock_state.specs.PlacedItems.{entries_in};
 ghost use Rattle.shared.specs.Close.{Agrees, Differs, IfBusy, IfForeign, IsReceipt, LeavesLog};
-ghost use Rattle.shared.specs.Posts.{ArePosted, IsCurrent, IsLatest, TellsCause, end_before};
+ghost use Rattle.shared.specs.Posts.{ArePosted, IsCurrent, IsLatest, StatusHasCause, end_before};
 
 use crate::desk::Desk;
 use crate::log_desk::LogDesk;
@@ -146,7 +146,7 @@ impl<D: BlockDev + Drop, L: BlockDev + Drop, R: Run + Names> Shared<D, L, R> {
             LeavesLog R.sector_bytes
             (L.shown c.closed.log).size c.closed.settled c.closed.core.state c.closed.end
             (L.shown c.closed.log).content) }
-        ensures stands { IfOk result (λ c. StandsOn R.log (L.shown c.closed.log)) }
+        ensures stands { IfOk result (λ c. KeepsGround R.log (L.shown c.closed.log)) }
         ensures status { IfOk result
             (λ c. c.closed.status ≡ status_of R.sector_bytes
             (entries_in c.closed.placed.items) c.closed.end) }
@@ -176,7 +176,7 @@ impl<D: BlockDev + Drop, L: BlockDev + Drop, R: Run + Names> Shared<D, L, R> {
         ensures causes { IfOk result (λ c.
             HasCause L.does R.log (L.shown c.closed.log).faults c.closed.store_end) }
         ensures ends { IfOk result
-            (λ c. Each (TellsCause c.closed.store_end c.released) c.posts) }
+            (λ c. Each (StatusHasCause c.closed.store_end c.released) c.posts) }
         ensures foreign { IfErr result
             (λ e. IfForeign e (λ f. Differs
             (record { core = f.closed.core.state; by = f.closed.by.items; stop = f.closed.stop })
@@ -187,11 +187,11 @@ impl<D: BlockDev + Drop, L: BlockDev + Drop, R: Run + Names> Shared<D, L, R> {
             × LegalHistory R.sector_bytes R.sectors f.closed.core.state.events f.closed.by.items
             [])) }
         ensures foreign_stands { IfErr result
-            (λ e. IfForeign e (λ f. StandsOn R.log (L.shown f.closed.log))) }
+            (λ e. IfForeign e (λ f. KeepsGround R.log (L.shown f.closed.log))) }
         ensures foreign_crash { IfErr result (λ e. IfForeign e (λ f.
             (L.shown f.closed.log).lies ≡ 0 → (left : Content)
             → (L.shown f.closed.log).crash left →
-            LeavesBeginning R.sector_bytes (L.shown f.closed.log).size f.closed.settled
+            LeavesPrefix R.sector_bytes (L.shown f.closed.log).size f.closed.settled
             (entries_in f.closed.placed.items) left)) }
         ensures foreign_status { IfErr result (λ e. IfForeign e (λ f.
             f.closed.status ≡ status_of R.sector_bytes
@@ -227,7 +227,7 @@ impl<D: BlockDev + Drop, L: BlockDev + Drop, R: Run + Names> Shared<D, L, R> {
         ensures foreign_posted { IfErr result
             (λ e. IfForeign e (λ f. ArePosted R.sector_bytes f.closed.placed.items f.posts)) }
         ensures foreign_ends { IfErr result
-            (λ e. IfForeign e (λ f. Each (TellsCause f.closed.store_end f.released) f.posts)) }
+            (λ e. IfForeign e (λ f. Each (StatusHasCause f.closed.store_end f.released) f.posts)) }
         ensures foreign_counts { IfErr result (λ e. IfForeign e (λ f.
             length seats.items ≡ R.parts → 0 < R.parts
             → named f.closed.by.items ≡ owned seats.items)) }
@@ -298,7 +298,7 @@ impl<D: BlockDev + Drop, L: BlockDev + Drop, R: Run + Names> Shared<D, L, R> {
         ensures posted { IfOk result (λ held. ArePosted R.sector_bytes held.log.placed held.posts) }
         ensures latest { IfOk result (λ held. IsLatest R.sector_bytes held.log held.posts) }
         ensures ends { IfOk result
-            (λ held. Each (TellsCause held.log.end held.log.released) held.posts) }
+            (λ held. Each (StatusHasCause held.log.end held.log.released) held.posts) }
         ensures closed { IfOk result (λ held. (has_no_close held.desk.queue.core.events ≡ false)
             × (length held.desk.queue.core.events ≤ length held.desk.notes.items)) }
     {
@@ -414,7 +414,7 @@ fn finish<D: BlockDev + Drop, L: BlockDev + Drop, R: Run>(
         → (L.shown result.log).crash left →
         LeavesLog R.sector_bytes
         (L.shown result.log).size result.settled result.core.state result.end left }
-    ensures stands { StandsOn R.log (L.shown result.log) }
+    ensures stands { KeepsGround R.log (L.shown result.log) }
     ensures status { result.status
         ≡ status_of R.sector_bytes (entries_in result.placed.items) result.end }
     ensures holds { (D.shown result.device).lies ≡ 0
@@ -455,9 +455,9 @@ fn take_apart<D: BlockDev + Drop, L: BlockDev + Drop, R: Run>(
         [] }
     ensures leaves { (L.shown result.log).lies ≡ 0 → (left : Content)
         → (L.shown result.log).crash left →
-        LeavesBeginning R.sector_bytes (L.shown result.log).size result.settled
+        LeavesPrefix R.sector_bytes (L.shown result.log).size result.settled
         (entries_in result.placed.items) left }
-    ensures stands { StandsOn R.log (L.shown result.log) }
+    ensures stands { KeepsGround R.log (L.shown result.log) }
     ensures status { result.status
         ≡ status_of R.sector_bytes (entries_in result.placed.items) result.end }
     ensures holds { (D.shown result.device).lies ≡ 0

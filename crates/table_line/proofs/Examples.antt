@@ -12,7 +12,7 @@ use Rattle.table_line.specs.declared.table_error.TableError.TheVariants.{BadFeat
 use Rattle.table_line.specs.declared.table_error.TableError.TheVariants.{OutOfRange, UnknownTarget}
 use Rattle.table_line.specs.declared.table_error.TableError.TheVariants.{WrongCount}
 use Rattle.table_line.specs.Ranges.{IsBlockSize, IsCycle, IsLayerSpec}
-use Rattle.table_line.specs.LayerOrder.{drops_writes, top_origin, top_sectors, CanStand}
+use Rattle.table_line.specs.LayerOrder.{drops_writes, top_origin, top_sectors, IsAllowed}
 use Rattle.table_line.specs.TableLines.{line_answer}
 use Rattle.table_line.specs.Texts.{line_text}
 
@@ -186,7 +186,7 @@ their-origin = refl
 no-layers : top_sectors 16 [] ≡ 16
 no-layers = refl
 
-they-stand : CanStand 12 (eight ∷ three ∷ [])
+they-stand : IsAllowed 12 (eight ∷ three ∷ [])
 they-stand = (
   record {
     sectors = record { some = omega arith; few = omega arith };
@@ -206,15 +206,15 @@ they-stand = (
 )
 
 -- past the device's end, and past the end of the layer beneath
-not-on-eleven : CanStand 11 (eight ∷ three ∷ []) → ⊥
+not-on-eleven : IsAllowed 11 (eight ∷ three ∷ []) → ⊥
 not-on-eleven stand = let within = stand.1 in omega arith
 
-not-on-three : CanStand 16 (three ∷ eight ∷ []) → ⊥
+not-on-three : IsAllowed 16 (three ∷ eight ∷ []) → ⊥
 not-on-three stand = let within = stand.2.1 in omega arith
 
 -- each is one that a line may ask for
 each-is-asked : (sectors : ℕ) (layer : LayerSpec) (layers : List LayerSpec)
-    → CanStand sectors (layer ∷ layers) → IsLayerSpec layer
+    → IsAllowed sectors (layer ∷ layers) → IsLayerSpec layer
 each-is-asked sectors layer layers stand = stand.0
 
 -- ---- which layers may drop writes: a flakey one with that feature, and no other

@@ -21,10 +21,10 @@ top_origin origin (layer ∷ layers) = top_origin (origin + layer.offset) layers
 
 -- The layers can lie over one another, over a device of `sectors` sectors. A line may ask for each,
 -- and each lies within what is below it.
-abbrev pub CanStand : ℕ → List LayerSpec → Type 0
-CanStand sectors [] = Unit {0}
-CanStand sectors (layer ∷ layers) =
-    IsLayerSpec layer × (layer.offset + layer.length ≤ sectors) × CanStand layer.length layers
+abbrev pub IsAllowed : ℕ → List LayerSpec → Type 0
+IsAllowed sectors [] = Unit {0}
+IsAllowed sectors (layer ∷ layers) =
+    IsLayerSpec layer × (layer.offset + layer.length ≤ sectors) × IsAllowed layer.length layers
 
 -- with this feature a flakey layer that is down answers Ok to writes, discards and flushes, and
 -- drops them

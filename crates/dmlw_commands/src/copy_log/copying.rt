@@ -4,7 +4,7 @@ ghost use Rattle.std.specs.Io.KnownBytes.{Appends};
 ghost use Rattle.refusals.specs.Errors.{IsFileError, refused_by};
 ghost use Rattle.dmlw_commands.specs.declared.exit.Exit.{Exit};
 ghost use Rattle.refusals.specs.declared.refusal.Refusal.TheVariants as refusals;
-ghost use Rattle.dmlw_commands.specs.Ends.{TellsLine, err_stream};
+ghost use Rattle.dmlw_commands.specs.Ends.{ReportsLine, err_stream};
 ghost use Rattle.dmlw_commands.specs.Exits.{IsRefusal, fault_line};
 ghost use Rattle.dmlw_files.specs.Files.{KeepsFiles, MatchesContents, one_more};
 ghost use Rattle.dmlw_files.specs.Images.{image_of};
@@ -54,7 +54,7 @@ pub fn copy<F: Files, O: Write, E: Write>(
     ensures apart { names.entry.log.now ≡ names.entry.out.now
         → F.writes session.new.files ≡ F.writes session.old.files }
     ensures same { names.entry.log.now ≡ names.entry.out.now →
-        TellsLine (err_stream session.old.explains (E.contents session.old.err)
+        ReportsLine (err_stream session.old.explains (E.contents session.old.err)
         (E.contents session.new.err)) Exit.Refused
         (fault_line (refused_by refusals.File)) result }
 {

@@ -10,7 +10,7 @@ ghost use Rattle.refusals.specs.declared.refusal.Refusal.TheVariants.{BadMoment}
 ghost use Rattle.dmlw_script.specs.Grammar.{IsTextOf};
 ghost use Rattle.refusals.specs.Errors.{IsFileError, memory_error, refused_by};
 ghost use Rattle.dmlw_commands.specs.Ends.{err_stream};
-ghost use Rattle.dmlw_commands.specs.Exits.{told_line};
+ghost use Rattle.dmlw_commands.specs.Exits.{reported_line};
 ghost use Rattle.dmlw_files.specs.Files.{KeepsFiles, MatchesContents};
 ghost use Rattle.dmlw_files.specs.Images.{HoldsImage, IsImage};
 ghost use Rattle.dmlw_commands.specs.Judgements.{Answers, CanJudge, CannotJudge, EndsAnswering};
@@ -119,10 +119,11 @@ fn end_answering<A: Answer, O: Write, E: Write>(
 ) -> Ended
     ensures exit { result.exit ≡ exit_answered A.meaning answered.now }
     ensures kept { Keeps (O.contents out.old) (O.contents out.new) }
-    ensures quiet { told_line answered.now ≡ [] → more.now ≡ []
+    ensures quiet { reported_line answered.now ≡ [] → more.now ≡ []
         → E.contents err.new ≡ E.contents err.old }
     ensures told { result.err_taken ≡ true
-        → Appends (E.contents err.old) (E.contents err.new) (told_line answered.now ++ more.now) }
+        → Appends (E.contents err.old) (E.contents err.new)
+        (reported_line answered.now ++ more.now) }
 {
     match answered {
         Ok(answer) => end_well(answer.exit(), more, err),

@@ -16,14 +16,14 @@ ghost use Rattle.dmlw_commands.specs.Judgements.{HasVerdict, IsJudged, Question,
 ghost use Rattle.dmlw_commands.specs.Paths.{IsFound, verdict_of};
 
 use judge::laws::verdicts_differ;
-use pending::laws::beginnings_are_possible;
+use pending::laws::prefixes_are_possible;
 use world::laws::possible_is_exact;
 
 /// What replaying a prefix of a script's log over zeroes leaves is judged possible. Each number of
 /// entries that belongs to a moment up to which logging goes on leaves a content on which the
 /// verdict at that moment is yes. Whoever judges an image of that content, by those events and at
 /// that moment, gets yes and never no. The log has sectors of any size that a log may have.
-pub fn replayed_beginnings_are_judged_possible()
+pub fn replayed_prefixes_are_judged_possible()
     ensures content { (size : ℕ) (events : List CoreEvent) (moment count bytes : ℕ)
         → IsTrue (is_sector_size size) →
         IsTrue (all_aligned size events) → is_well_formed events ≡ true
@@ -38,7 +38,7 @@ pub fn replayed_beginnings_are_judged_possible()
         IsReplayedTo (bytes_of has.plan.log_size) has.judged.events asked.moment count has.image
         → verdict ≡ Yes }
 {
-    beginnings_are_possible();
+    prefixes_are_possible();
 }
 
 /// `path` and `judge` agree on an image. After the same events there is a run exactly if the

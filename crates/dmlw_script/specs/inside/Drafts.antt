@@ -16,7 +16,7 @@ use Rattle.dmlw_script.specs.declared.line.BodyLine.{BodyLine}
 use Rattle.dmlw_script.specs.declared.line.BodyLine.TheVariants as body_lines
 use Rattle.dmlw_script.specs.declared.line_error.LineError.{LineError}
 use Rattle.dmlw_script.specs.declared.line_error.LineError.TheVariants as line_errors
-use Rattle.dmlw_script.specs.Plans.{is_ended, moment_after, request_of, step_answer}
+use Rattle.dmlw_script.specs.Plans.{is_ended, time_after, request_of, step_answer}
 use Rattle.dmlw_script.specs.Plans.{submission_answer}
 
 -- a script's body, as far as it was read: the ids that were submitted, and the commands
@@ -36,7 +36,7 @@ pub record IsFlags (n : ℕ) (flags : List Bool) (body : List Command) : Type 0 
 -- a draft's flags are those of its requests, and its time is the one after its commands
 pub record IsDraft (d : BodyReader) : Type 0 where
   pub flags : IsFlags (length d.names.keys) d.has_ended.items d.commands.items
-  pub in_time : d.moment ≡ moment_after d.commands.items
+  pub in_time : d.moment ≡ time_after d.commands.items
 
 -- goes on with a value that is there
 infixl 10 ◌>>=◌
@@ -88,7 +88,7 @@ body_step bytes sectors b (body_lines.Submit name submission) = do
   Ok (with_command submitted (commands.Submit submission))
 body_step bytes sectors b (body_lines.Complete name) = ended_next (request_of name b.names) b
 body_step bytes sectors b (body_lines.Step step) = do
-  fine ← step_test bytes sectors (moment_after b.body) step
+  fine ← step_test bytes sectors (time_after b.body) step
   Ok (with_command b (commands.Step step))
 
 -- the result of a call that leaves this value is that of this step

@@ -6,7 +6,7 @@ ghost use Rattle.refusals.specs.declared.refusal.Refusal.TheVariants as refusals
 ghost use Rattle.blockdev.specs.Calls.{IsRange};
 ghost use Rattle.sector_disk.specs.DiskView.{shown_of};
 ghost use Rattle.table_line.specs.Ranges.{IsLayerSpec};
-ghost use Rattle.table_line.specs.LayerOrder.{CanStand};
+ghost use Rattle.table_line.specs.LayerOrder.{IsAllowed};
 ghost use Rattle.std.specs.List.{AllByRecursion};
 ghost use Rattle.layer_table.specs.Layers.{disk_of, layer_asked, layers_of, layers_three};
 ghost use Rattle.layer_table.specs.Layers.{layers_under, layers_with, stack_shown, AreOver};
@@ -85,7 +85,7 @@ impl Stack {
         ensures disk { IfOk result (λ stack. disk_of stack ≡ disk_of self) }
         ensures shown { IfOk result
             (λ stack. AreOver specs.now (stack_shown self) (stack_shown stack)) }
-        ensures stand { CanStand (stack_shown self).size specs.now
+        ensures stand { IsAllowed (stack_shown self).size specs.now
             → length (layers_of self) + length specs.now ≤ 4 → IsOk result }
         ensures refused { IfErr result (λ back. back.1 ≡ refusals.OutOfRange) }
         ensures back { IfErr result (λ back. IsPartlyUnder specs.now load self back.0) }

@@ -11,7 +11,7 @@ use Rattle.lock_state.specs.History.{Part, new_part}
 use Rattle.seat_runner.specs.declared.tally.Outcome.{Outcome}
 use Rattle.seat_runner.specs.declared.tally.Tally.{Tally}
 use Rattle.seat_runner.specs.SeatRuns.{IsMade, IsSeatRun}
-use Rattle.seat_runner.specs.Tallies.{Came, and_kept, no_calls}
+use Rattle.seat_runner.specs.Tallies.{CallResult, and_kept, no_calls}
 
 -- what contracts see of a seat at work: its number, its part, what its calls came to so far, and
 -- the receipts that it has
@@ -40,7 +40,7 @@ pub record CanMake (bytes sectors : ℕ) (call : Call) : Type 0 where
 -- A seat makes a call with this outcome; it keeps the
 -- receipt that it was given, if there is one.
 pub record Makes (call : Call) (old : Player) (outcome : Outcome) (new : Player) : Type 0 where
-  pub came : Came
+  pub came : CallResult
   pub made : IsMade old.part call came new.part
   pub told : came.outcome ≡ outcome
   pub kept : new.receipts ≡ and_kept old.receipts came.receipt

@@ -4,8 +4,8 @@ use Rattle.refusals.specs.declared.refusal.Refusal.TheVariants as refusals
 use Rattle.refusals.specs.declared.run_error.RunError.{RunError}
 use Rattle.refusals.specs.Errors.{refused_by}
 use Rattle.dmlw_commands.specs.EndLaws.{ends_told}
-use Rattle.dmlw_commands.specs.Ends.{ErrStream, TellsLine}
-use Rattle.dmlw_commands.specs.Exits.{exit_after, fault_line, told_line}
+use Rattle.dmlw_commands.specs.Ends.{ErrStream, ReportsLine}
+use Rattle.dmlw_commands.specs.Exits.{exit_after, fault_line, reported_line}
 use Rattle.dmlw_commands.specs.declared.ending.Ended.{Ended}
 use Rattle.dmlw_commands.specs.declared.exit.Exit.TheVariants as exits
 use Rattle.dmlw_commands.proofs.RunEnds.{done_holds, ended_holds, keeps_or_asks, running_ends, runs_all}
@@ -52,10 +52,11 @@ returns-clause-kept g c refused =
 -- what is printed for that refusal
 told_of_same : (t : ErrStream) (ended : Ended) (done : Result Status RunError)
     → done ≡ Err (refused_by refusals.File)
-    → TellsLine t (exit_after done) (told_line done) ended
-    → TellsLine t exits.Refused (fault_line (refused_by refusals.File)) ended
+    → ReportsLine t (exit_after done) (reported_line done) ended
+    → ReportsLine t exits.Refused (fault_line (refused_by refusals.File)) ended
 told_of_same t ended done is told =
-    subst (λ (d : Result Status RunError). TellsLine t (exit_after d) (told_line d) ended) is told
+    subst (λ (d : Result Status RunError). ReportsLine t (exit_after d)
+    (reported_line d) ended) is told
 
 pub returns-clause-same : goal.returns-clause-same
 returns-clause-same g c = λ named.

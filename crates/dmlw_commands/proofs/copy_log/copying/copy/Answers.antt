@@ -3,7 +3,7 @@ use Rattle.refusals.specs.declared.refusal.Refusal.TheVariants as refusals
 use Rattle.refusals.specs.declared.run_error.RunError.{RunError}
 use Rattle.refusals.specs.Errors.{refused_by}
 use Rattle.dmlw_commands.specs.EndLaws.{ends_told}
-use Rattle.dmlw_commands.specs.Ends.{ErrStream, Tells, TellsLine}
+use Rattle.dmlw_commands.specs.Ends.{ErrStream, Tells, ReportsLine}
 use Rattle.dmlw_commands.specs.Exits.{fault_line}
 use Rattle.dmlw_commands.specs.declared.ending.Ended.{Ended}
 use Rattle.dmlw_commands.specs.declared.exit.Exit.TheVariants as exits
@@ -24,7 +24,7 @@ returns-clause-ends g c =
 told_of_same : (t : ErrStream) (ended : Ended) (done : Result ℕ RunError)
     → done ≡ Err (refused_by refusals.File)
     → Tells t done ended
-    → TellsLine t exits.Refused (fault_line (refused_by refusals.File)) ended
+    → ReportsLine t exits.Refused (fault_line (refused_by refusals.File)) ended
 told_of_same t ended done is told =
     subst (λ (d : Result ℕ RunError). Tells t d ended) is told
 

@@ -9,7 +9,8 @@ use Rattle.recorder.specs.Fields.{recorder_view}
 use Rattle.script_runner.specs.declared.running.Running.{Running}
 use Rattle.script_runner.specs.declared.step_error.StepError.TheVariants.{AtLine}
 use Rattle.script_runner.specs.Submissions.{fits_device}
-use Rattle.script_runner.specs.Lines.{RefusesMessage, TellsData, TellsLog, TellsLayer, answering}
+use Rattle.script_runner.specs.Lines.{RefusesMessage, SendsToData, SendsToLog, SendsToLayer}
+use Rattle.script_runner.specs.Lines.{answering}
 use Rattle.script_runner.specs.inside.Steps.{StepKeeps}
 use Rattle.script_runner.proofs.running.Running.message.Goals.{in-Data, in-Log}
 use Rattle.script_runner.proofs.running.Running.message.Goals as goal
@@ -36,9 +37,10 @@ returns-in-Ok-clause-tells g c =
           subst (λ (answer : Result (Unit {0}) MessageError). g.D.Message.answers run.disk
           c.args.layer c.ascii_text-text.result.now answer w.message-answer.new.self)
           (sym w.answer-is ∙ c.in-Ok.is) w.message-answer.ensures.answers in
-          subst (λ (over : DiskName). TellsLayer m over c.args.layer c.args.text.now [] run
+          subst (λ (over : DiskName). SendsToLayer m over c.args.layer c.args.text.now [] run
           c.match-over.self) (sym w.in-Data.is)
-          (subst (λ (now : Running g.row.D.Denot g.row.L.Denot g.D.BlockDev g.L.BlockDev). TellsData
+          (subst (λ (now : Running g.row.D.Denot g.row.L.Denot g.D.BlockDev g.L.BlockDev).
+          SendsToData
           m c.args.layer c.args.text.now [] run now) (sym w.self-is) (record {
             log = refl;
             kept = refl;
@@ -57,9 +59,10 @@ returns-in-Ok-clause-tells g c =
           run.recorder.store.device c.args.layer c.ascii_text-text.result.now answer
           last.store.device)
           (sym w.answer-is ∙ c.in-Ok.is) told.answers in
-          subst (λ (over : DiskName). TellsLayer m over c.args.layer c.args.text.now [] run
+          subst (λ (over : DiskName). SendsToLayer m over c.args.layer c.args.text.now [] run
           c.match-over.self) (sym w.in-Log.is)
-          (subst (λ (now : Running g.row.D.Denot g.row.L.Denot g.D.BlockDev g.L.BlockDev). TellsLog
+          (subst (λ (now : Running g.row.D.Denot g.row.L.Denot g.D.BlockDev g.L.BlockDev).
+          SendsToLog
           m c.args.layer c.args.text.now [] run now) (sym w.self-is) (record {
             keeps = record { device = refl; kept = refl; prints = refl };
             short = refl;

@@ -3,7 +3,7 @@ use Rattle.std.specs.Prelude.{OnOk}
 use Rattle.dmlw_script.specs.declared.command.Command.{Command}
 use Rattle.dmlw_script.specs.declared.command.Step.TheVariants as steps
 use Rattle.script_runner.specs.CallLaws.{keeps_same}
-use Rattle.script_runner.specs.Lines.{PrintsLine, TellsLayer, answering}
+use Rattle.script_runner.specs.Lines.{PrintsLine, SendsToLayer, answering}
 use Rattle.script_runner.proofs.LineSteps.{appends_none, both_ok, if_err, is_close_step, is_step}
 use Rattle.script_runner.proofs.LineSteps.{on_ok, step_runs}
 use Rattle.script_runner.proofs.running.Running.run_line.Goals as goal
@@ -73,7 +73,7 @@ returns-in-Mark-clause-runs g c =
 
 pub returns-in-Message-clause-runs : goal.returns-in-Message-clause-runs
 returns-in-Message-clause-runs g c =
-    on_ok {A = TellsLayer (answering g.D.Message.answers g.L.Message.answers) c.in-Message.over
+    on_ok {A = SendsToLayer (answering g.D.Message.answers g.L.Message.answers) c.in-Message.over
     c.in-Message.layer c.in-Message.text [] c.args.self.now c.message.new.self} c.message.result
     c.message.ensures.tells (λ tells.
     step_runs (answering g.D.Message.answers g.L.Message.answers) c.args.names.now

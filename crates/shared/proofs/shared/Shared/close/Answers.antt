@@ -7,7 +7,8 @@ use Rattle.lock_state.specs.declared.note.Item.{Item}
 use Rattle.shared.proofs.ClosedLog.{agrees_of, differs_apart, differs_of, receipts_there, stop_same}
 use Rattle.shared.proofs.PostedStatus.{current_of, ended_of, found_of, none_of_both, posted_stays}
 use Rattle.shared.proofs.PostedStatus.{told_within}
-use Rattle.shared.specs.Posts.{ArePosted, IsCurrent, IsLatest, IsOfPrefix, TellsCause, end_before}
+use Rattle.shared.specs.Posts.{ArePosted, IsCurrent, IsLatest, IsOfPrefix, StatusHasCause}
+use Rattle.shared.specs.Posts.{end_before}
 use Rattle.shared.proofs.shared.Shared.close.Goals as goal
 
 pub returns-then-agrees-clause-agrees : goal.returns-then-agrees-clause-agrees
@@ -118,7 +119,7 @@ returns-then-agrees-clause-current g c =
     c.args.receipts.items c.in-Ok.held.posts c.finish-closed.ensures.stay
     (subst (λ (l : Log). Each (IsOfPrefix bytes l.placed) c.in-Ok.held.posts) same
     c.in-Ok.ensures.posted.each)
-    (subst (λ (l : Log). Each (TellsCause l.end l.released) c.in-Ok.held.posts) same
+    (subst (λ (l : Log). Each (StatusHasCause l.end l.released) c.in-Ok.held.posts) same
     c.in-Ok.ensures.ends)
     (told_within _ _ _ before.named)
     (subst (λ (l : Log). IsLatest bytes l c.in-Ok.held.posts) same c.in-Ok.ensures.latest)

@@ -1,7 +1,7 @@
 use Rattle.std.proofs.Common.{List, subst, sym}
 use Rattle.bio.specs.declared.outcome.Status.{Status}
 use Rattle.lock_state.specs.Comparison.{Each}
-use Rattle.shared.specs.Posts.{ArePosted, IsLatest, TellsCause}
+use Rattle.shared.specs.Posts.{ArePosted, IsLatest, StatusHasCause}
 use Rattle.shared.proofs.shared.Shared.leave_locks.Goals as goal
 
 pub returns-then-is_ready-clause-posted : goal.returns-then-is_ready-clause-posted
@@ -19,5 +19,5 @@ returns-then-is_ready-clause-latest g c =
 pub returns-then-is_ready-clause-ends : goal.returns-then-is_ready-clause-ends
 returns-then-is_ready-clause-ends g c =
     let desk = c.into_inner-log.result in
-    subst (λ (posts : List Status). Each (TellsCause desk.log.end desk.log.released) posts)
+    subst (λ (posts : List Status). Each (StatusHasCause desk.log.end desk.log.released) posts)
     (sym c.new-posts.ensures) desk.ends

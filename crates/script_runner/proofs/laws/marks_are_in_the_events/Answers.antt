@@ -1,5 +1,5 @@
 use Rattle.script_runner.proofs.RequestFates.{queued_stands, stays}
-use Rattle.script_runner.proofs.laws.marks_stand_in_the_events.Goals as goal
+use Rattle.script_runner.proofs.laws.marks_are_in_the_events.Goals as goal
 use Rattle.recorder.specs.Fields.{core_of}
 
 pub returns : goal.returns

@@ -1,5 +1,4 @@
--- For each clause of what a copy comes to, stores that
--- break it and nothing else, and are refused by it.
+-- For each clause about a copy: stores that break only this clause, and that the clause refuses.
 use Rattle.std.proofs.Common.{◌≡◌, ℕ, ◌+◌, true, false, List, [], ◌∷◌, ◌++◌, drop, length, None}
 use Rattle.std.proofs.Common.{replicate, slice_index_or, take, refl, sym, ap, ◌∙◌, inl, inr}
 use Rattle.std.proofs.Common.{arith}

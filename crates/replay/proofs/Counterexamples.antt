@@ -1,5 +1,5 @@
--- For each clause of what a replay leaves and calls, and of the
--- cause of a refusal, what breaks it, and is refused by it.
+-- For each clause about the content after a replay, its calls, or the cause of a refusal: an
+-- example that the clause refuses.
 use Rattle.std.proofs.Common.{◌≡◌, ℕ, zero, suc, ◌<◌, ◌≤◌, true, false, Option, Some, None, Result}
 use Rattle.std.proofs.Common.{Ok, Err, List, [], ◌∷◌, replicate, slice_index_or, refl, ap}
 use Rattle.std.proofs.Common.{sym, ◌∙◌, inl, inr, arith}

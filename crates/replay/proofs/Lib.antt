@@ -1,4 +1,4 @@
--- The lemmas of `replay`; the proof of a function stands in the folder of its source file.
+-- The lemmas of `replay`. The proof of a function is in the folder of its source file.
 pub mod UpToCount
 pub mod TargetContent
 pub mod Loops

@@ -1,4 +1,5 @@
--- What a replay reads of its log, and what it doesn't.
+-- Examples for the clauses about the reads of a replay: one that satisfies them, and others that
+-- they refuse.
 use Rattle.std.proofs.Common.{◌≡◌, ℕ, ◌+◌, List, [], ◌∷◌, Result, Ok, Err, replicate, refl, inl}
 use Rattle.std.proofs.Common.{inr, arith}
 use Rattle.bio.specs.declared.outcome.DevError.{DevError}

@@ -1,4 +1,5 @@
--- A log is replayed alike on disks that have the same sectors.
+-- If two disks have the same sectors, they have the same sectors after the same log is replayed on
+-- them.
 use Rattle.std.proofs.Common.{ℕ, List, [], ◌∷◌, ap}
 use Rattle.std.specs.Prelude.{unwrap_or}
 use Rattle.bio.specs.Content.{AgreeBelow, Content, put}
@@ -6,7 +7,7 @@ use Rattle.log_format.specs.declared.entry.Entry.{Entry}
 use Rattle.log_format.specs.Entries.{kind_of}
 use Rattle.log_format.specs.Replay.{kind_values, replay}
 
--- entries are replayed alike
+-- If two contents agree below `end`, they agree there after the same entries are replayed.
 pub replay_alike : (size : ℕ) (es : List Entry) (end : ℕ) (c d : Content) → AgreeBelow end c d
     → AgreeBelow end (replay size es c) (replay size es d)
 replay_alike size [] end c d agree = agree

@@ -1,4 +1,4 @@
-// Why a copy of a log stopped, and by which refusal that is shown.
+// Why a copy of a log stopped, and the refusal that reports it.
 ghost use Rattle.std.specs.Prelude.{◌≡◌};
 ghost use Rattle.replay.specs.CopyRefusals.{copy_refusal};
 
@@ -13,7 +13,7 @@ pub enum CopyError {
     /// The reader of the log that is copied refused.
     #[error("{0}")]
     Log(ReadDeviceError),
-    /// The next entry's place or length in bytes is no multiple of the new log's sector size.
+    /// The next entry's place or length in bytes isn't a multiple of the new log's sector size.
     #[error("an entry isn't whole sectors of the new log")]
     Unaligned,
     /// The new log ended.
@@ -21,7 +21,7 @@ pub enum CopyError {
     Store(End),
 }
 
-/// Why a copy of a log stopped, and after how many entries in the new log.
+/// Why a copy of a log stopped, and the number of entries that it copied before.
 #[derive(Clone, Copy, Debug, PartialEq, Eq)]
 pub struct CopyFault {
     pub applied: u64,

@@ -1,4 +1,4 @@
--- The lemmas of `headline`; the proof of a function stands in the folder of its source file.
+-- The lemmas of `headline`. The proof of a function is in the folder of its source file.
 mod Counts
 mod HeadlineHolds
 mod OpenLog

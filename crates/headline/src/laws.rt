@@ -1,5 +1,5 @@
-//! Laws about the headline, apart from the code: what it promises is never empty, and a crash
-//! leaves what `reopen_and_replay` asks for. Each function does nothing: its contract is the law.
+//! Laws about the headline. Each function does nothing; its contract is the law. The headline's
+//! promise is never empty, and a crash leaves what `reopen_and_replay` asks for.
 ghost use Rattle.std.specs.Prelude.{◌≡◌, ◌≤◌, ℕ, List, length};
 ghost use Rattle.bio.specs.Content.{AgreeBelow, Content};
 ghost use Rattle.bio.specs.declared.event.CoreEvent.{CoreEvent};
@@ -14,8 +14,8 @@ ghost use Rattle.recorder.specs.declared.recorder.Recorder.{Recorder};
 use blockdev::BlockDev;
 use pending::laws::stopped_lists_stay;
 
-/// Each prefix of the completion list belongs to some moment up to the last one. So what the
-/// headline says of the moments to which `count` entries belong, it says of one at least.
+/// Each prefix of the completion list belongs to some moment up to the last one. So the headline's
+/// promise about the moments to which `count` entries belong is about at least one moment.
 pub fn each_count_belongs_to_a_moment()
     ensures { (size : ℕ) (events : List CoreEvent) (count : ℕ)
         → count ≤ length (completion_list (dm_log_writes size) events) →
@@ -25,9 +25,9 @@ pub fn each_count_belongs_to_a_moment()
     stopped_lists_stay();
 }
 
-/// A device of the same size that holds what a crash left of a recorder's log holds the log that
-/// `reopen_and_replay` asks for: the first `count` entries. By the recorder's clause `crash` all
-/// that was acknowledged is among them.
+/// If a device has the size of a recorder's log device, and the content that a crash left there, it
+/// holds the log that `reopen_and_replay` asks for: the first `count` entries. By the recorder's
+/// clause `crash`, all acknowledged entries are among them.
 pub fn crashed_logs_are_held<L: BlockDev + Drop, D: BlockDev>()
     ensures { (old new : Recorder L L.BlockDev) (left : Content) (log : D)
         → (plain : LeavesPlainLog (recorder_view old) (recorder_view new) left)

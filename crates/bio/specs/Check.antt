@@ -8,7 +8,8 @@ use Rattle.bio.specs.declared.request.BadBio.{BadBio}
 use Rattle.bio.specs.declared.request.BadBio.TheVariants.{NotWhole, TooLong, PastEnd, Unaligned}
 use Rattle.bio.specs.Requests.{is_aligned}
 
--- the result for whole sectors: at least one, at most 2,048, and all within the device
+-- the result for the `count` sectors from `first` on: at least one, at most 2,048, and all within
+-- the device
 abbrev pub range_answer : ℕ → ℕ → ℕ → Result (Unit {0}) BadBio
 range_answer first count sectors =
     if count == 0 then Err NotWhole

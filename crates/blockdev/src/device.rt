@@ -79,7 +79,7 @@ pub trait BlockDev {
 
     /// Makes durable what was written: after an Ok a crash leaves the content.
     fn flush(&mut self, now: Ms) -> Result<Ms, DevError>
-        // Whatever the result, the content stays, and a crash may leave nothing new.
+        // Whatever the result, the content is unchanged, and a crash may leave nothing new.
         ensures goes { DeviceFrame nothing (shown self.old) (shown self.new) }
 
         // After an Ok, a crash leaves the content.

@@ -9,7 +9,7 @@ use Rattle.bio.specs.declared.outcome.Status.{Status}
 use Rattle.board.specs.Posts.{last_of, word_of, IsFit, IsRising, Begins}
 use Rattle.board.specs.declared.rule.Knows.{Knows}
 
--- a name for no table
+-- a placeholder: the id of no table
 abbrev pub no_table : TableId
 no_table =
     record {

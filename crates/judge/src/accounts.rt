@@ -31,9 +31,9 @@ pub struct Account {
 }
 
 impl Account {
-    /// Makes the account of an image, had power failed after these events. Takes memory of 32 bytes
-    /// for each sector of the image and 16 for each event. Takes time by the sum of the sectors
-    /// that the requests cover. Lack of memory is the only error.
+    /// Makes the account of an image, had power failed after these events. Takes 32 bytes of memory
+    /// for each sector of the image and 16 for each event. Takes time proportional to the sum of
+    /// the sectors that the requests cover. Lack of memory is the only error.
     pub fn of(alloc: Global, events: &[CoreEvent], image: &[u8]) -> Result<Account, AllocError>
         ensures { IfOk result (IsAccount events.now (sector_of image.now)
             (length image.now / 512)) }

@@ -1,4 +1,4 @@
-// The content of a device before the first event.
+// `First`: the content that the judge assumes before the first event.
 
 /// The content of a device before the first event.
 #[derive(Clone, Copy, Debug)]

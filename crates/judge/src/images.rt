@@ -22,8 +22,8 @@ use std::cmp;
 /// submitted. A request is durable if it ended with success, and either has FUA or ended before the
 /// submission of a flush that ended with success.
 ///
-/// Takes memory of 32 bytes for each sector and 16 for each event. Takes time by the sum of the
-/// sectors that the requests cover. Lack of memory is the only error.
+/// Takes 32 bytes of memory for each sector and 16 for each event. Takes time proportional to the
+/// sum of the sectors that the requests cover. Lack of memory is the only error.
 pub fn could_hold(
     alloc: Global,
     events: &[CoreEvent],

@@ -9,7 +9,8 @@ ghost use Rattle.bio.specs.Places.{all_below};
 use bio::{CoreEvent, check};
 
 /// Returns whether the events are a list that a recorder of a device of `sectors` sectors of 512
-/// bytes may have recorded. Takes no memory. Takes time by the square of the list's length.
+/// bytes may have recorded. Takes no memory. Takes time proportional to the square of the list's
+/// length.
 pub fn is_lawful(events: &[CoreEvent], sectors: u64) -> bool
     ensures { result ≡ is_lawful sectors events.now }
 {

@@ -251,8 +251,8 @@ pub fn add_call(
     Ok(())
 }
 
-/// Returns whether the call at index `place` isn't durable: it came after the last flush, and
-/// without FUA.
+/// Returns whether the call at index `place` isn't durable: it came after the last flush or crash,
+/// and without FUA.
 pub fn is_open(calls: &[Call], synced: usize, place: usize) -> bool
     ensures { result ≡ is_open calls.now synced place }
 {

@@ -33,9 +33,9 @@ pub struct SectorDisk {
     base: Vec<usize>,
     // The number of calls when the past began.
     begun: usize,
-    // The number of calls at the last flush.
+    // The number of calls at the last flush or crash.
     synced: usize,
-    // Whether that flush came after the last call.
+    // Whether a flush came after the last call or crash.
     flushed: bool,
     ghost room: { length newest.items ≤ vec_capacity base },
     ghost kept: { IsKept sectors calls.items newest.items base.items begun synced flushed } by { Prim.hlevel props },

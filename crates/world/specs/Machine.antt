@@ -88,9 +88,9 @@ abbrev pub settled_if_ended : List CoreEvent → Machine → Step → Bool
 settled_if_ended events m (End id ok) = not ok || has_settled events m id
 settled_if_ended events m _ = true
 
--- The request `id` may end with success. It has landed on all its sectors. If it has FUA, each of
--- these sectors was destaged after that. If it has a flush, each request that ended with success
--- before its submission is settled (`settled_if_ended`).
+-- The request `id` may end with success if it has landed on all its sectors. If it has FUA, each of
+-- these must have been destaged after that. If it has a flush, each request that ended with success
+-- before the flush's submission must be settled (`settled_if_ended`).
 abbrev pub may_succeed : List CoreEvent → Machine → ℕ → Bool
 may_succeed events m id =
     has_landed events m id
@@ -98,10 +98,10 @@ may_succeed events m id =
     && (not (is_flush_submit (slice_get events id))
     || list_all (settled_if_ended events m) (before_submit id m.calls))
 
--- The machine may take the step, if power hasn't failed. A request is submitted once. A pending
--- request lands once on each of its sectors. A sector is destaged if some request landed there. A
--- pending request may end; it ends with success only if `may_succeed` holds. Power may fail at any
--- time.
+-- The step may be taken, if power hasn't failed. Submit: the request wasn't submitted before. Land:
+-- the request is pending, covers the sector, and hasn't landed there. Destage: some request landed
+-- in the sector. End: the request is pending, and if the end is one with success, `may_succeed`
+-- holds. Power: always.
 abbrev pub may_take : List CoreEvent → Machine → Step → Bool
 may_take events m (Submit id) =
     is_request (slice_get events id) && not (list_any (is_submit id) m.calls)

@@ -77,9 +77,9 @@ impl World {
     /// (`is_lawful`), the same for all steps. Returns `BadStep` exactly if the device can't take
     /// the step (`has_step`). After an error nothing has changed.
     ///
-    /// Takes 24 bytes of memory for a submission or an end, and 8 for a landing. Takes time by the
-    /// calls so far. For an end with success, it also takes time by the sectors of the requests
-    /// that have to be settled, and by the landings there.
+    /// Takes 24 bytes of memory for a submission or an end, and 8 for a landing. Takes time
+    /// proportional to the number of calls so far. An end with success takes time also for the
+    /// sectors of each request that has to be settled, and for the landings there.
     pub fn step(&mut self, events: &[CoreEvent], step: &Step) -> Result<(), StepError>
         requires { is_lawful (length self.old.image / 512) events.now ≡ true }
         ensures taken { OnOk result (Steps events.now step.now self.old self.new) }

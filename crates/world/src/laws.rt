@@ -1,5 +1,5 @@
 //! Laws of the cache machine: its runs leave exactly the contents that a device could hold. They
-//! don't mention the code. The judge's laws call `possible_is_exact`.
+//! don't mention the code. The laws of `dmlw_commands` call `possible_is_exact`.
 ghost use Rattle.std.specs.Prelude.{◌≡◌, List, take, true, ℕ};
 ghost use Rattle.bio.specs.declared.event.CoreEvent.{CoreEvent};
 ghost use Rattle.bio.specs.Lawful.{is_well_formed};

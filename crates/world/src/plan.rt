@@ -1,7 +1,7 @@
 //! The plan's steps for one request, sector by sector.
 //!
-//! If a request's value is wanted in a sector, the request lands there at its end. Else it lands
-//! there at its submission, if it ends with success.
+//! If a request's value is wanted in a sector, the request lands there at its end, or after all
+//! events if it has no end. Else it lands there at its submission, if it ends with success.
 ghost use Rattle.std.specs.Prelude.{◌≡◌, ◌+◌, ◌^◌, ◌<◌, ◌++◌, OnOk, Some};
 ghost use Rattle.bio.specs.declared.event.CoreEvent.TheVariants as core_events;
 ghost use Rattle.bio.specs.Requests.{first_sector, sector_count};

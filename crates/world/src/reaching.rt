@@ -28,9 +28,10 @@ use std::alloc::{AllocError, Global};
 /// a recorder of the device may have recorded (`is_lawful`). A `moment` past the last event counts
 /// as all of them. The image has the device's length in bytes, whole sectors of 512.
 ///
-/// Takes memory of 32 bytes for each sector and 16 for each event, and memory for the run's steps.
-/// These are at most two for each sector of each request, and one for each submission and end.
-/// Takes time by the sum of these. Lack of memory is the only error.
+/// Takes 32 bytes of memory for each sector, 16 for each event, and memory for the run's steps. A
+/// run has at most two steps for each sector of each request, one for each submission and end, and
+/// one for the power failure. Takes time proportional to the sum of these. Lack of memory is the
+/// only error.
 pub fn reach(
     alloc: Global,
     events: &[CoreEvent],

@@ -41,8 +41,8 @@ abbrev pub is_plain : Option Call → Bool
 is_plain None = false
 is_plain (Some call) = not call.fua
 
--- The call at index `place` isn't durable: it came after the last flush, and without FUA. `synced`
--- is the number of calls at that flush.
+-- The call at index `place` isn't durable: it came after the last flush or crash, and without FUA.
+-- `synced` is the number of calls at that flush or crash.
 abbrev pub is_open : List Call → ℕ → ℕ → Bool
 is_open calls synced place = nat_le synced place && is_plain (slice_get calls place)
 

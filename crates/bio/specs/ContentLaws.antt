@@ -204,10 +204,10 @@ put-outside first count value content sector outside =
       | inr after ↦ over-after first count value sector after
     ])
 
--- a content is patched by a call if it gets none of the call's values
+-- If a content gets none of the patch's values, it is patched.
 pub patched-same : (patch : Patch) (content : Content) → Patched patch content content
 patched-same patch content = λ sector. inl refl
 
--- a content is patched by a call if it gets all of the call's values
+-- If a content gets all of the patch's values, it is patched.
 pub patched-whole : (patch : Patch) (content : Content) → Patched patch content (put patch content)
 patched-whole patch content = λ sector. inr refl

@@ -23,7 +23,7 @@ IsTorn patch before left = (old : Content) × before old
 
 -- The frame of a call, whatever its result: at most, it puts its values in some of their sectors.
 pub record DeviceFrame (patch : Patch) (v w : View) : Type 0 where
-  -- the device keeps its size, and its place on the disk below it
+  -- the device keeps its size and its position on the disk
   pub size : w.size ≡ v.size
   pub place : w.place ≡ v.place
   -- the content is the old one, patched
@@ -32,7 +32,8 @@ pub record DeviceFrame (patch : Patch) (v w : View) : Type 0 where
   pub crash : (left : Content) → w.crash left → AfterPatch patch v.crash left
   -- the clock doesn't go back
   pub moment : v.moment ≤ w.moment
-  -- if a crash comes during the call, it leaves a content that it could leave before, patched
+  -- a content that a crash since an earlier reading may have left, it may have left before the
+  -- call; or the crash came during the call, and left a content that it could leave before, patched
   pub gains : (moment : ℕ) (left : Content) → moment ≤ v.moment → w.since moment left →
       v.since moment left ⊎ AfterPatch patch v.crash left
   -- a content that a crash may have left before, it may still have left after the call
@@ -64,8 +65,8 @@ pub record NoLie (v w : View) : Type 0 where
   pub same : w.lies ≡ v.lies
   pub counted : w.lies < last_count
 
--- A result has its cause: 'Io' is returned only if the device failed, and the end isn't before the
--- call.
+-- A result has its cause. `Io` is returned only if the count of faults grows or is at its maximum.
+-- An Ok's end isn't before the call.
 pub record HasCause (now : ℕ) (v w : View) (result : Result ℕ DevError) : Type 0 where
   pub failed : result ≡ Err Io → (v.faults < w.faults) ⊎ (w.faults ≡ last_count)
   pub ends : (end : ℕ) → result ≡ Ok end → now ≤ end

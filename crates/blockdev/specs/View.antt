@@ -9,12 +9,12 @@ pub record Place : Type 0 where
   pub origin : ℕ
   pub disk : ℕ
 
--- The view of a device in contracts. Its moments are readings of a clock of the device's own, which
--- only contracts see.
+-- The view of a device in contracts. `moment` is the reading of the device's own clock, which only
+-- contracts see.
 pub record View : Type 1 where
   -- its number of sectors
   pub size : ℕ
-  -- its place on the disk below it
+  -- its position on the disk below all layers
   pub place : Place
   -- the content that a read returns
   pub content : Content

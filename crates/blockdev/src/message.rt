@@ -57,9 +57,9 @@ pub trait Message: BlockDev {
     /// result.
     ghost answers: { Self → ℕ → List ℕ → Result (Unit {0}) MessageError → Self → Type 0 };
 
-    /// Passes a message to a layer, counted from 1. Whatever the result, the content, the contents
-    /// that a crash may leave, and the counts of faults and lies stay as they are. The errors are
-    /// BadMessage, AlreadyBad, NotBad and Memory.
+    /// Passes a message to a layer; the layers are numbered from 1. Whatever the result, the
+    /// content, the contents that a crash may leave, and the counts of faults and lies are
+    /// unchanged. The errors are BadMessage, AlreadyBad, NotBad and Memory.
     fn message(&mut self, layer: u64, text: &str) -> Result<(), MessageError>
         ensures same { Unchanged (Self.shown self.old) (Self.shown self.new) }
         ensures answers { answers self.old layer text.now result self.new };

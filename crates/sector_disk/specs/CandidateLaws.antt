@@ -96,7 +96,7 @@ pub left-kept : (patch : Patch) (cache : Cache) (left : Content) → MayLeave ca
 left-kept patch cache left may =
     λ sector. candidate_kept (patch sector) (cache.may sector) (left sector) (may sector)
 
--- a crash of a synced disk leaves its content
+-- If all values are durable, a crash leaves exactly them.
 pub left-settled : (content left : Content) → MayLeave (settled content) left → (sector : ℕ)
     → left sector ≡ content sector
 left-settled content left may sector = one_contains (content sector) (left sector) (may sector)

@@ -55,7 +55,7 @@ steps-whole calls begun (suc n) = at (slice_get calls (begun + n)) (steps-whole 
     at (Some call) earlier =
         (values-whole call, flushed-whole call.after_flush (steps_of calls begun n) earlier)
 
--- the disk is lawful
+-- The view of each disk is lawful.
 pub disk_lawful : (disk : SectorDisk) → IsLawful (shown_of disk)
 disk_lawful disk =
     view-lawful disk.sectors (start_of disk) (shown.steps_of disk) disk.kept.some disk.kept.few

@@ -33,8 +33,8 @@ abbrev pub unless_unaligned : Bool → Result (Unit {0}) BadBio → Result (Unit
 unless_unaligned aligned (Ok tt) = if aligned then Ok tt else Err Unaligned
 unless_unaligned aligned (Err bad) = Err bad
 
--- whether a request may be sent to a device of `sectors` sectors, and recorded in log sectors of
--- `size` bytes, or else the first reason against it
+-- The result of `check_sized` for a device of `sectors` sectors and a log with sectors of `size`
+-- bytes: the tests of `check`, and then that of alignment.
 abbrev pub check_sized_answer : ℕ → Bio → ℕ → Result (Unit {0}) BadBio
 check_sized_answer size bio sectors =
     unless_unaligned (is_aligned size bio) (check_answer bio sectors)

@@ -56,8 +56,8 @@ pub fn larger_devices_take_more()
         check_answer bio more ≡ Ok tt }
 {}
 
-/// A request may be recorded in a log with sectors of `size` bytes exactly if it may be sent to the
-/// device and is aligned to that size.
+/// A request may be recorded in a log with sectors of `size` bytes exactly if it passes two tests:
+/// it may be sent to the device, and is aligned to that size.
 pub fn sized_requests_pass_both()
     ensures { (size : ℕ) (bio : Bio) (sectors : ℕ) → (check_sized_answer size bio sectors ≡ Ok tt)
         ↔ ((check_answer bio sectors ≡ Ok tt) × IsTrue (is_aligned size bio)) }

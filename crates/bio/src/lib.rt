@@ -8,9 +8,11 @@
 //! A request is a `Bio`. `check` decides whether it may be sent to a device, and `check_sized`
 //! whether it also suits a log with sectors of a given `SectorSize`. The events of requests are a
 //! list of `CoreEvent`s. An `Id` is the index of a request's submission, or of a mark, in that
-//! list. The definitions in `specs/` state which sectors a request covers (`Requests`), at which
-//! indices of an event list requests end (`Events`), and which lists are lawful (`Lawful`). `laws`
-//! has their laws.
+//! list.
+//!
+//! `specs/Requests` defines which sectors a request covers. `specs/Events` defines where in an
+//! event list requests end, and `specs/Lawful` which lists are lawful. `laws` has the laws of these
+//! definitions.
 #![tactic(auto)]
 
 pub use bytes::Bytes;

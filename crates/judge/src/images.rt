@@ -13,9 +13,9 @@ use std::alloc::{AllocError, Global};
 use std::cmp;
 
 /// Judges whether a device could have held the image, had power failed after the first `moment`
-/// events, if `first` was on the device before the first event. `events` is a list that a recorder
-/// of the device may have recorded (`is_lawful`). A `moment` past the last event counts as all of
-/// them. The image has the device's length in bytes, whole sectors of 512.
+/// events. `first` is the content before the first event. `events` is a list that a recorder of the
+/// device may have recorded (`is_lawful`). A `moment` past the last event counts as all of them.
+/// The image has the device's length in bytes, whole sectors of 512.
 ///
 /// A sector could hold its first value if no durable request covers it. It could hold the value of
 /// a submitted request, unless that request ended before a durable request over the sector was

@@ -23,7 +23,7 @@ pub fn verdicts_differ()
         → verdict ≡ other }
 {}
 
-/// If `flush` is the last submitted flush that ended with success, a request is durable exactly if
+/// Let `flush` be the last submitted flush that ended with success. A request is durable exactly if
 /// it ended with success, and has FUA or ended before the submission of `flush`.
 pub fn the_last_flush_decides()
     ensures { (events : List CoreEvent) (flush id : ℕ) → IsLastFlush events flush

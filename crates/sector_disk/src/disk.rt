@@ -16,8 +16,8 @@ mod power;
 /// The disk keeps its past for as long as it lives. A call takes 64 bytes, and the bytes of a
 /// write, except those at its end that are all the same. If its sectors' previous writes differ, a
 /// call also takes 16 bytes for each run of sectors with the same previous write. From the first
-/// call on, the disk has a table of 8 bytes for each sector, and room for a second one, which the
-/// first crash fills.
+/// call on, the disk has a table of 8 bytes for each sector. It also has room for a second table,
+/// which the first crash fills.
 #[derive(Debug, Drop)]
 pub struct SectorDisk {
     alloc: Global,

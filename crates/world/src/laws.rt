@@ -9,7 +9,7 @@ ghost use Rattle.world.specs.declared.step.Step.{Step};
 ghost use Rattle.world.specs.Cells.{AllSteps, IsFresh, IsRun, WorldState};
 ghost use Rattle.world.specs.Runs.{IsReachable};
 
-/// If the events are well formed, a device could hold a content after the first `moment` of them
+/// Let the events be well formed. A device could hold a content after the first `moment` of them
 /// exactly if some run of the machine fits these and leaves the content. For any events, a run
 /// leaves only contents that the device could hold.
 pub fn possible_is_exact()
@@ -20,8 +20,8 @@ pub fn possible_is_exact()
         IsReachable (take moment events) first now → Possible (take moment events) first now }
 {}
 
-/// If a fresh world takes steps, all with the same events, these are a run of the machine, and the
-/// world's image is the durable content after that run.
+/// Let a fresh world take steps, all with the same events. The steps are a run of the machine, and
+/// the world's image is the durable content after that run.
 pub fn steps_are_a_run()
     ensures { (events : List CoreEvent) (first : List ℕ) (steps : List Step)
         (fresh world : WorldState) →

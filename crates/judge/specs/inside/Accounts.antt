@@ -10,8 +10,8 @@ use Rattle.judge.specs.inside.Last.{is_below_last}
 use Rattle.judge.specs.declared.verdict.Verdict.{Verdict}
 use Rattle.judge.specs.declared.verdict.Verdict.TheVariants.{Yes, No}
 
--- The sector has the value of the event's request, and this request didn't end (at index `end`)
--- before the request that `last` has for the sector was submitted.
+-- The sector has the value of the event's request. That request didn't end, at index `end`, before
+-- the submission of the request that `last` has for the sector.
 abbrev pub is_fit : Option CoreEvent → Option ℕ → List (Option ℕ) → Content → ℕ → Bool
 is_fit event end last now sector =
     not (is_below_last end (place_at last sector)) && is_value (values_at event sector) (now sector)

@@ -8,8 +8,7 @@ use Rattle.bio.specs.declared.request.BadBio.{BadBio}
 use Rattle.bio.specs.declared.request.BadBio.TheVariants.{NotWhole, TooLong, PastEnd, Unaligned}
 use Rattle.bio.specs.Requests.{is_aligned}
 
--- the result for the `count` sectors from `first` on: at least one, at most 2,048, and all within
--- the device
+-- the result for `count` sectors from `first` on: 1 to 2,048, all of them within the device
 abbrev pub range_answer : ℕ → ℕ → ℕ → Result (Unit {0}) BadBio
 range_answer first count sectors =
     if count == 0 then Err NotWhole
@@ -17,8 +16,7 @@ range_answer first count sectors =
     else if nat_lt sectors (first + count) then Err PastEnd
     else Ok tt
 
--- whether a request may be sent to a device of `sectors` sectors, or else the first reason against
--- it
+-- the first reason against sending a request to a device of `sectors` sectors; Ok if there is none
 abbrev pub check_answer : Bio → ℕ → Result (Unit {0}) BadBio
 check_answer (Write first bytes flush fua meta) sectors =
     if length bytes % 512 == 0 then range_answer first

@@ -1,5 +1,4 @@
--- The values of a patch over a range, which is the interface of `over`, and the content after a
--- patch.
+-- The values of a patch over a range (the interface of `over`), and the content after a patch.
 use Rattle.std.proofs.Common.{◌≡◌, ℕ, ◌+◌, ◌-◌, ◌*◌, ◌/◌, ◌<◌, ◌≤◌, false, ◌&&◌, Option, Some, None}
 use Rattle.std.proofs.Common.{List, length, drop, replicate, refl, ap, sym, ◌∙◌, inl, inr, arith}
 use Rattle.std.proofs.lemmas.Bool.{cases_lt, lt-ltb, le-ltb, le-leb, leb-true}

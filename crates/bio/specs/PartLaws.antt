@@ -86,8 +86,7 @@ between-part from to patch = λ sector. elim (cases_lt sector from) [
   ]
 ]
 
--- A patch's values below `from`, and then those from `from` to before `to`, join to its values
--- below `to`.
+-- A patch's values below `from`, and then those from there to `to`, join to its values below `to`.
 pub below-joins : (from to : ℕ) (patch : Patch) → from ≤ to
     → Joins (below from patch) (between from to patch) (below to patch)
 below-joins from to patch h = λ sector. elim (cases_lt sector from) [
@@ -169,8 +168,7 @@ pub put-same : (patch other : Patch) (content : Content) → SameValues patch ot
 put-same patch other content same sector =
     ap (λ (o : Option (List ℕ)). unwrap_or o (content sector)) (same sector)
 
--- If two patches join to a whole, the content after one and then the other is the content after the
--- whole.
+-- If two patches join to a whole, to put one and then the other is to put the whole.
 pub put-joined : (first second whole : Patch) (old mid : Content) (sector : ℕ)
     → Joins first second whole → mid sector ≡ put first old sector
     → put second mid sector ≡ put whole old sector

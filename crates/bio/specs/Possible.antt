@@ -74,7 +74,6 @@ PossibleAt events first now sector =
     ⊎ ((id : ℕ) × (values_at (slice_get events id) sector ≡ Some (now sector))
     × (is_replaced events sector id ≡ false))
 
--- the device could hold the content `now`: each sector could hold its value, whatever the others
--- hold
+-- the device could hold the content `now`: each sector could hold its value
 abbrev pub Possible : List CoreEvent → Content → Content → Type 0
 Possible events first now = (sector : ℕ) → PossibleAt events first now sector

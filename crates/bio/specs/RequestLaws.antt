@@ -147,8 +147,7 @@ is_below-found (Some place) limit = (
       let is = some.1 in cc in let less = some.2 in lt-ltb place limit (omega arith),
 )
 
--- One request ended before another was submitted exactly if its end has a lower index than that
--- submission.
+-- One request ended before another was submitted exactly if its end has the lower index.
 pub is_before-end : (events : List CoreEvent) (earlier later : ℕ)
     → (is_before events earlier later ≡ true)
     ↔ ((end : ℕ) × (end_of events earlier ≡ Some end) × (end < later))

@@ -40,8 +40,7 @@ pub fn discards_put_zeroes()
         put (discards first count) content sector ≡ content sector }
 {}
 
-/// After a patch is put, a sector for which it has a value has this value. Each other sector is
-/// unchanged.
+/// After a patch is put, a sector has its value in the patch, or is unchanged if there is none.
 pub fn values_are_put()
     ensures value { (patch : Patch) (content : Content) (sector : ℕ) (value : List ℕ) →
         patch sector ≡ Some value → put patch content sector ≡ value }

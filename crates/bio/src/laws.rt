@@ -36,8 +36,7 @@ pub fn overlaps_are_common_sectors()
         ↔ ((sector : ℕ) × IsTrue (covers a sector) × IsTrue (covers b sector)) }
 {}
 
-/// One request ended before another was submitted exactly if its end has a lower index than that
-/// submission.
+/// One request ended before another was submitted exactly if its end has the lower index.
 pub fn ends_come_before()
     ensures { (events : List CoreEvent) (earlier later : ℕ)
         → IsTrue (is_before events earlier later)

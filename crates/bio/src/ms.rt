@@ -1,5 +1,4 @@
-//! A time in milliseconds. A device's call receives a time and returns a time; layers that delay
-//! add a time.
+//! A time in milliseconds. Device calls receive and return a time; layers that delay add a time.
 ghost use Rattle.std.specs.Prelude.{◌≡◌, ℕ};
 ghost use Rattle.bio.specs.Moments.{later_by};
 

@@ -79,8 +79,7 @@ goes_both patch u v w first second = record {
   honest = λ none. second.honest (first.can_lie ∙ none) ∙ first.honest none;
 }
 
--- If two calls in turn each do a part of a whole call, together they satisfy the frame of the
--- whole.
+-- If two calls in turn each do a part of a whole call, together they satisfy its frame.
 pub goes_joined : (first second whole : Patch) (u v w : View) → IsPart first whole
     → IsPart second whole → DeviceFrame first u v → DeviceFrame second v w
     → DeviceFrame whole u w
@@ -92,8 +91,7 @@ goes_joined first second whole u v w is_first is_second before after =
 pub nothing-part : (patch : Patch) → IsPart nothing patch
 nothing-part patch = λ sector. inl refl
 
--- If a device satisfies the frame of a call's part below a sector, it satisfies the frame of the
--- whole call.
+-- If a device satisfies the frame of a call's part below a sector, it satisfies the call's frame.
 pub goes_cut : (end : ℕ) (patch : Patch) (v w : View) → DeviceFrame (below end patch) v w
     → DeviceFrame patch v w
 goes_cut end patch v w = goes_part (below end patch) patch v w (below-part end patch)

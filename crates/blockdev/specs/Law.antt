@@ -5,18 +5,16 @@ use Rattle.bio.specs.declared.outcome.DevError.TheVariants.{Io}
 use Rattle.bio.specs.Content.{Content, Patch, Patched, put}
 use Rattle.blockdev.specs.View.{View, last_count}
 
--- `left` is a content of the set `before`, with the patch's values in some of their sectors, in
--- none or in all
+-- `left` is one of `before`, with the patch's values in some of their sectors, in none or in all
 abbrev pub AfterPatch : Patch → (Content → Type 0) → Content → Type 0
 AfterPatch patch before left = (old : Content) × before old × Patched patch old left
 
--- `left` is a content of the set `before`, with all of the patch's values
+-- `left` is one of `before`, with all of the patch's values
 abbrev pub AfterWhole : Patch → (Content → Type 0) → Content → Type 0
 AfterWhole patch before left =
     (old : Content) × before old × ((sector : ℕ) → left sector ≡ put patch old sector)
 
--- `left` is a content of the set `before`, of which each sector is unchanged or has the patch's
--- value
+-- `left` is one of `before`, of which each sector is unchanged or has the patch's value
 abbrev pub IsTorn : Patch → (Content → Type 0) → Content → Type 0
 IsTorn patch before left = (old : Content) × before old
     × ((sector : ℕ) → (left sector ≡ old sector) ⊎ (patch sector ≡ Some (left sector)))

@@ -1,5 +1,4 @@
--- The view of a layer that counts faults and lies of its own, in addition to those of the device
--- below it.
+-- The view of a layer that adds faults and lies of its own to those of the device below it.
 use Rattle.std.proofs.Common.{◌≡◌, ℕ, ◌+◌, ◌<◌, ◌≤◌, Bool, false, Err, ap, ◌∙◌, inl, inr, arith}
 use Rattle.std.proofs.lemmas.Bool.{cases_lt, or_parts}
 use Rattle.std.specs.Prelude.{◌⊎◌, ◌||◌, Result, min}

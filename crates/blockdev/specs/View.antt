@@ -25,8 +25,7 @@ pub record View : Type 1 where
   -- the contents that a crash may have left since the clock had this reading: between two calls, or
   -- during one
   pub since : ℕ → Content → Type 0
-  -- the number of failed calls, and of calls that were reported done but weren't; both stop at 2^64
-  -- - 1
+  -- the number of failed calls, and of calls reported done that weren't; both stop at 2^64 - 1
   pub faults : ℕ
   pub lies : ℕ
   -- whether it, or a device below it, may ever report a call done that wasn't

@@ -89,13 +89,12 @@ pub trait BlockDev {
         ensures cause { HasCause now (shown self.old) (shown self.new) result }
         ensures does { does self.old Flushes now result self.new };
 
-    /// Returns how many calls of the device, or of a device below it, failed; the count stops at
-    /// 2^64 - 1.
+    /// Returns how many calls of the device, or of a device below, failed; at most 2^64 - 1.
     fn faults(&self) -> u64
         ensures { result ≡ (shown self.now).faults };
 
     /// Returns how many calls of the device, or of a device below it, were reported done but
-    /// weren't; the count stops at 2^64 - 1.
+    /// weren't; at most 2^64 - 1.
     fn lies(&self) -> u64
         ensures { result ≡ (shown self.now).lies };
 

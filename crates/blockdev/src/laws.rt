@@ -49,8 +49,7 @@ pub fn calls_tear_their_own_sectors_at_any_moment<D: BlockDev>()
         IsTorn patch (D.shown before).crash left }
 {}
 
-/// Each content that a crash may leave has whole sectors of 512 bytes. The device's content has
-/// them too.
+/// Each content that a crash may leave has whole sectors of 512 bytes, and so has the content.
 pub fn crashes_leave_whole_sectors<D: BlockDev>()
     ensures crash { (device : D) (left : Content) → (D.shown device).crash left →
         HasWholeSectors (D.shown device).size left }

@@ -11,8 +11,8 @@ use thiserror::Error;
 /// Why a message is refused.
 #[derive(Clone, Copy, Debug, PartialEq, Eq, Error)]
 pub enum MessageError {
-    /// The layer takes no such message, the message's block isn't within the layer, or there is no
-    /// such layer.
+    /// The layer takes no such message, the block isn't within the layer, or there is no such
+    /// layer.
     #[error("no such message")]
     BadMessage,
     /// The block is already listed as bad.

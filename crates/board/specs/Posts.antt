@@ -24,8 +24,7 @@ pub record IsFit (status : Status) : Type 0 where
 abbrev pub Stays : Option End → Option End → Type 0
 Stays last end = (cause : End) → last ≡ Some cause → end ≡ Some cause
 
--- `next` may follow `status`: it has at least as many entries, and if `status` has an end, it has
--- the same end.
+-- `next` may follow `status`: it has at least as many entries, and keeps the end if there is one.
 pub record MayFollow (status next : Status) : Type 0 where
   pub entries : status.entries ≤ next.entries
   pub end : Stays status.end next.end

@@ -52,14 +52,12 @@ Looks step before found after =
     Begins before.0.seen after.0.seen × IsRising after.0.seen
     × (after ≡ (reader_of after.0.seen, [])) × (found ≡ word_of (last_of after.0.seen))
 
--- The writer compares: what it has learned is a prefix of what it posted. Then it forgets what it
--- has learned.
+-- The writer compares: what it has learned is a prefix of what it posted. Then it forgets it.
 abbrev pub Compares : Step (Unit {0}) → Me (Unit {0}) Knows → ℕ → Me (Unit {0}) Knows → Type 0
 Compares step before found after =
     Begins before.0.told before.0.seen × (after ≡ (writer_of before.0.seen, []))
 
--- The rule for the pass at index `by`, if the writer's pass is at index `place`, and `statuses`
--- were posted.
+-- The rule for the pass at index `by`; the writer's is at `place`, and `statuses` were posted.
 pub record Fits (place : ℕ) (statuses : List Status) (by : ℕ) (pass : Knows) : Type 0 where
   -- only the pass at `place` can be the writer's, which has seen all that was posted
   pub writes : pass.writes ≡ true → (by ≡ place) × (pass.seen ≡ statuses)

@@ -1,5 +1,4 @@
-//! A board on which one writer posts the status of a log, and readers look at it. No call waits for
-//! another.
+//! A board on which one writer posts the status of a log, and readers look at it. No call waits.
 //!
 //! A status is one number in one shared word, so a reader never sees a part of one. The clauses
 //! about readers are about lists. Each reader has seen a prefix of the statuses that the writer
@@ -111,8 +110,7 @@ impl<N: Names> Model for StatusSeat<N> {
 }
 
 impl Blank {
-    /// Makes a board with no reader, which has the status of an empty log. Lack of memory is an
-    /// error.
+    /// Makes a board with no reader and the status of an empty log. Lack of memory is an error.
     pub fn new(alloc: Global) -> Result<Blank, AllocError> {
         let (post, pass) = Post::of_words(alloc, &[0], &())?;
         Ok(Blank { post, pass })
@@ -208,8 +206,7 @@ impl<N: Names> Board<N> {
         status_of(self.post.shared.load::<Look>(&mut mine.pass, 0))
     }
 
-    /// Shows to contracts that the reader has seen a prefix of what the writer posted. Changes no
-    /// seat.
+    /// Shows to contracts that the reader has seen a prefix of what the writer posted.
     pub fn agree(&self, writer: &mut WriterSeat<N>, mine: &mut StatusSeat<N>)
         ensures same { (writer.new ≡ writer.old) × (mine.new ≡ mine.old) }
         ensures begins { Begins mine.old writer.old }

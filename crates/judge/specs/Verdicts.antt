@@ -17,8 +17,7 @@ abbrev pub IsRuledOutBy : List CoreEvent → ℕ → Option ℕ → Type 0
 IsRuledOutBy events sector None = has_kept events sector ≡ false
 IsRuledOutBy events sector (Some id) = IsLastKept events sector id
 
--- `sector` is the lowest whose value the device could not hold, and `by` is what rules this value
--- out
+-- `sector` is the lowest whose value the device could not hold, and `by` rules this value out
 pub record FailsAt (events : List CoreEvent) (first now : Content) (sectors sector : ℕ)
     (by : Option ℕ) : Type 0 where
   pub within : sector < sectors

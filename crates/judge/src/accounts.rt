@@ -18,8 +18,7 @@ use crate::verdict::Verdict;
 use bio::{CoreEvent, Id};
 use std::alloc::{AllocError, Global};
 
-/// The account of a list of events and an image. Events are named by their index in the list, from
-/// 0.
+/// The account of a list of events and an image. An event is named by its index, from 0.
 #[derive(Debug, Drop)]
 pub struct Account {
     /// For each request, by the index of its submission: the index of its end.
@@ -131,8 +130,7 @@ fn last_over(last: &[Option<usize>], sector: usize) -> Option<Id>
     }
 }
 
-// Returns no with the lowest sector that isn't fine and what rules it out, or yes if all sectors
-// are fine.
+// Returns no with the lowest sector that isn't fine, or yes if all sectors are fine.
 fn lowest_failing(
     held: &[Option<usize>],
     last: &[Option<usize>],

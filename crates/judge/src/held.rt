@@ -28,8 +28,7 @@ pub fn sector_bytes(image: &[u8], sector: usize) -> &[u8]
     &image[from..from + SECTOR]
 }
 
-/// Returns the index of a sector in the `count` sectors from `first` on; none if it isn't one of
-/// them.
+/// Returns the index of a sector among the `count` sectors from `first` on; none if it isn't there.
 pub fn place_in(first: u64, count: u64, sector: usize) -> Option<usize>
     ensures { MatchOption result ((sector < first) ⊎ (first + count ≤ sector))
         (λ place. (sector ≡ first + place) × (place < count)) }

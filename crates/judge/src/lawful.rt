@@ -1,5 +1,4 @@
-//! Decides whether a recorder may have recorded a list of events (`is_lawful`). `could_hold`
-//! requires this.
+//! Decides whether a recorder may have recorded a list of events. `could_hold` requires this.
 ghost use Rattle.std.specs.Prelude.{◌≡◌, ◌<◌, Some, is_none, length, slice_get};
 ghost use Rattle.bio.specs.Events.{end_of, is_close, is_end_of, is_open_at, is_request, is_stop};
 ghost use Rattle.bio.specs.Lawful.{can_follow, has_no_close, has_no_stop, is_lawful, is_recording};

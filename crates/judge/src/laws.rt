@@ -1,5 +1,4 @@
-//! Laws of verdicts: an image has only one, and the last flush and the last durable request decide
-//! it.
+//! Laws of verdicts: an image has only one, which the last flush and durable request decide.
 ghost use Rattle.std.specs.Prelude.{◌≡◌, ◌&&◌, ◌||◌, List, Option, slice_get, ℕ};
 ghost use Rattle.bio.specs.declared.event.CoreEvent.{CoreEvent};
 ghost use Rattle.bio.specs.Events.{is_before, submits};

@@ -1,5 +1,4 @@
-//! Parses a word as a number below 2^64. Scripts, table lines, messages and command lines use
-//! `number_of`.
+//! Parses a word as a number below 2^64, in scripts, table lines, messages and command lines.
 ghost use Rattle.std.specs.Prelude.{◌≡◌};
 ghost use Rattle.refusals.specs.Words.{number_of as the_number, with_digit};
 

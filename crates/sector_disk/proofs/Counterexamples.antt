@@ -1,5 +1,4 @@
--- For each clause of `Begins` and of the effect of a call: an example that breaks the clause, and
--- so is refused.
+-- For each clause of `Begins` and of a call's effect: an example that breaks it, and so is refused.
 use Rattle.std.proofs.Common.{◌≡◌, ℕ, suc, List, [], ◌∷◌, length, Ok, Err, replicate}
 use Rattle.std.proofs.Common.{slice_index_or, refl, sym, ap, ◌∙◌, arith}
 use Rattle.std.specs.Prelude.{Result}

@@ -160,7 +160,7 @@ since-now start (step ∷ past) left may =
     (LeftSince start past (suc (length past)) left ⊎ LeftDuring step (cache_after start past) left)
     (lt-ltb (length past) (suc (length past)) (omega arith)) may
 
--- Whatever a crash since a reading before a step may have left, it may have left before the step or
+-- Whatever a crash since an earlier reading may have left, it may have left before the step or
 -- during it.
 pub since-step : (start : Content) (step : Step) (past : List Step) (moment : ℕ) (left : Content)
     → moment ≤ length past
@@ -180,8 +180,7 @@ since-kept start step past moment left h may =
     (LeftSince start past moment left ⊎ LeftDuring step (cache_after start past) left)
     (λ after. let before = le-ltb (length past) moment h in cc) (λ before. inl may)
 
--- Whatever a crash during a step may leave, a crash since the reading at which the step began may
--- have left.
+-- Whatever a crash during a step may leave, a crash since the step's start may have left.
 pub since-during : (start : Content) (step : Step) (past : List Step) (left : Content)
     → LeftDuring step (cache_after start past) left
     → LeftSince start (step ∷ past) (length past) left
@@ -332,8 +331,8 @@ since-whole size start (step ∷ past) whole steps moment left may =
       ]
     ]
 
--- If its size is that of a disk, and the first content and all values are whole sectors, the view
--- is lawful.
+-- If the size is a disk's, and the first content and all values have whole sectors, the view is
+-- lawful.
 pub view-lawful : (size : ℕ) (start : Content) (past : List Step) → 0 < size → size ≤ 1048576
     → HasWholeSectors size start
     → HasWholeSteps past → IsLawful (view_of size start past)

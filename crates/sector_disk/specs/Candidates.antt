@@ -15,8 +15,7 @@ pub record Cache : Type 0 where
   -- the values written since, in order
   pub may : ℕ → List (List ℕ)
 
--- A step of a disk's past: a write or a discard puts values, with FUA or without; a flush makes all
--- values durable.
+-- A step of a disk's past: a write or a discard puts values, or a flush makes all values durable.
 pub data Step : Type 0 where
   Puts : (patch : Patch) (fua : Bool) → Step
   Flushes : Step
@@ -46,8 +45,7 @@ abbrev pub cache_after : Content → List Step → Cache
 cache_after start [] = settled start
 cache_after start (step ∷ past) = after_step step (cache_after start past)
 
--- A crash may leave the content `left`: each sector has one of its candidates, whatever the others
--- have.
+-- A crash may leave the content `left`: each sector has one of its candidates.
 abbrev pub MayLeave : Cache → Content → Type 0
 MayLeave cache left = (sector : ℕ) → Contains (cache.may sector) (left sector)
 

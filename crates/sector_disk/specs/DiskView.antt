@@ -1,5 +1,4 @@
--- The view of a `SectorDisk` in contracts: its first content, its past, and the exact effect of
--- each call.
+-- The view of a `SectorDisk`: its first content, its past, and the exact effect of each call.
 use Rattle.std.specs.Prelude.{◌≡◌, ℕ, ◌/◌, false, Result, Ok, Err, List, [], ◌∷◌, length}
 use Rattle.bio.specs.declared.outcome.DevError.{DevError}
 use Rattle.bio.specs.declared.outcome.DevError.TheVariants.{Io, Memory}

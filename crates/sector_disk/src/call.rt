@@ -1,5 +1,4 @@
-//! The writes and discards that a disk keeps, and the values of its sectors that are read from
-//! them.
+//! The writes and discards that a disk keeps, and the sectors' values that are read from them.
 ghost use Rattle.std.specs.Prelude.{true, ◌∷◌, ◌++◌, ◌≡◌, ◌%◌, ◌*◌, ◌+◌, ◌/◌, ◌≤◌, IfOk};
 ghost use Rattle.std.specs.Prelude.{None, OnErr, OnOk, Some, [], drop, length};
 ghost use Rattle.std.specs.Prelude.{replicate, slice_get, take, unwrap_or};
@@ -229,8 +228,7 @@ fn fill_places(places: &mut Vec<usize>, first: usize, count: usize, place: usize
     places[first..first + count].fill(place);
 }
 
-/// Adds a call, and makes it the newest one of its sectors. If an allocation fails, nothing is
-/// changed.
+/// Adds a call as the newest of its sectors. If an allocation fails, nothing is changed.
 pub fn add_call(
     calls: &mut Vec<Call>,
     newest: &mut Vec<usize>,

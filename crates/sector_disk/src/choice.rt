@@ -6,8 +6,7 @@ ghost use Rattle.sector_disk.specs.inside.Storage.{ArePlaced, is_chain, walk};
 
 use crate::call::{Call, before, is_open};
 
-// Returns the number of a sector's candidates: its calls from the newest back to the first that is
-// durable.
+// Returns the number of a sector's candidates: its calls from the newest back to a durable one.
 fn count_candidates(calls: &[Call], synced: usize, sector: usize, newest: usize) -> usize
     ensures some { 0 < result }
     ensures count { (count : ℕ) → count ≤ length calls.now →

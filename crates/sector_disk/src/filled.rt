@@ -148,8 +148,7 @@ impl FilledBytes {
         rest.fill(self.fill);
     }
 
-    /// Appends the bytes to a vector. If an allocation fails, a prefix of them may have been
-    /// appended.
+    /// Appends the bytes to a vector. If an allocation fails, it may have a prefix of them.
     ///
     /// # Errors
     ///

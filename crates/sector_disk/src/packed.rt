@@ -17,8 +17,7 @@ pub struct PackedSectors {
     // For each sector in turn, its bytes up to and including the first of those at its end that are
     // all the same.
     bytes: Vec<u8>,
-    // For each sector, the index in `bytes` at which it begins; then the index at which the last
-    // one ends.
+    // For each sector, the index in `bytes` of its first byte; then the index after the last byte.
     bounds: Vec<u32>,
 }
 
@@ -34,8 +33,7 @@ impl Model for PackedSectors {
     ghost invariant = { λ s. ArePacked s.bytes.items s.bounds.items };
 }
 
-// Returns the number of a sector's first bytes to store. The last of them fills the rest of the
-// sector.
+// Returns how many of a sector's first bytes to store. The last of them fills the rest.
 fn count_held(sector: &[u8]) -> usize
     requires { length sector.now ≡ 512 }
     ensures within { result ≤ 512 }
@@ -136,8 +134,7 @@ impl PackedSectors {
         refill(part, buffer);
     }
 
-    /// Appends the bytes to a vector. If an allocation fails, a prefix of them may have been
-    /// appended.
+    /// Appends the bytes to a vector. If an allocation fails, it may have a prefix of them.
     ///
     /// # Errors
     ///

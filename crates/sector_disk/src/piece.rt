@@ -62,8 +62,7 @@ impl Piece {
         }
     }
 
-    /// Appends the bytes to a vector. If an allocation fails, a prefix of them may have been
-    /// appended.
+    /// Appends the bytes to a vector. If an allocation fails, it may have a prefix of them.
     ///
     /// # Errors
     ///

@@ -64,8 +64,7 @@ pub record IsFresh (first : List ℕ) (world : WorldState) : Type 0 where
   pub off : world.off ≡ false
   pub image : world.image ≡ first
 
--- `a` and `b` have the same lists in each sector, the same calls, and both have power or neither
--- has
+-- `a` and `b` have the same lists in each sector, the same calls, and the same power
 pub record IsLike (a b : Machine) : Type 0 where
   pub landed : (sector : ℕ) → a.landed sector ≡ b.landed sector
   pub settled : (sector : ℕ) → a.settled sector ≡ b.settled sector

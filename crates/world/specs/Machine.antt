@@ -61,8 +61,7 @@ abbrev pub newest : List ℕ → Option ℕ
 newest [] = None
 newest (id ∷ ids) = Some id
 
--- each sector of the request that the event submits passes `test`; true if the event is no
--- submission
+-- each sector of the request that the event submits passes `test`; true for any other event
 abbrev pub each_sector : (ℕ → Bool) → Option CoreEvent → Bool
 each_sector test (Some (core_events.Submit bio)) =
     all_below (λ place. test (first_sector bio + place)) (sector_count bio)
@@ -82,8 +81,7 @@ abbrev pub before_submit : ℕ → List Step → List Step
 before_submit id [] = []
 before_submit id (call ∷ calls) = if is_submit id call then calls else before_submit id calls
 
--- If the step is an end with success, each sector of its request was destaged after the request had
--- landed there.
+-- If the step is an end with success, its request is settled in each of its sectors.
 abbrev pub settled_if_ended : List CoreEvent → Machine → Step → Bool
 settled_if_ended events m (End id ok) = not ok || has_settled events m id
 settled_if_ended events m _ = true

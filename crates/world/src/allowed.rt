@@ -218,8 +218,7 @@ fn is_landed(cells: &[Cell], events: &[CoreEvent], event: &CoreEvent, id: u64) -
     }
 }
 
-// Returns whether each sector of the event's request was destaged after the request had landed
-// there.
+// Returns whether the event's request is settled in each of its sectors.
 fn is_settled(cells: &[Cell], events: &[CoreEvent], event: &CoreEvent, id: u64) -> bool
     requires within { AllEnd events.now }
     requires there { slice_get events.now id ≡ Some event.now }

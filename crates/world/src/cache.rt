@@ -1,7 +1,6 @@
 //! A device with a cache that takes steps.
 //!
-//! It keeps a cell for each sector, the calls so far (oldest first), and the bytes of the durable
-//! content.
+//! It keeps a cell for each sector, the calls so far (oldest first), and the durable bytes.
 ghost use Rattle.std.specs.Prelude.{◌≡◌, ◌∷◌, ◌*◌, ◌/◌, ◌%◌, ◌<◌, Err, IfOk, OnErr, OnOk};
 ghost use Rattle.std.specs.Prelude.{false, true, length, replicate, get_or, reverse, slice_get};
 ghost use Rattle.std.specs.Prelude.{slice_set};

@@ -34,8 +34,7 @@ fn is_upto(id: usize, last: Option<usize>) -> bool
     }
 }
 
-// If `lands`, adds a landing of the request on the sector, and then, if `settles`, a destage of the
-// sector.
+// If `lands`, adds a landing of the request on the sector; if also `settles`, a destage follows.
 fn touch(
     run: &mut Vec<Step>,
     lands: bool,

@@ -16,8 +16,7 @@ abbrev pub is_fit : Option CoreEvent → Option ℕ → List (Option ℕ) → Co
 is_fit event end last now sector =
     not (is_below_last end (place_at last sector)) && is_value (values_at event sector) (now sector)
 
--- `new` is `old`, except that each sector from `from` to before `to` that passes `is_fit` has
--- `place`
+-- `new` is `old`, but with `place` for the sectors from `from` to before `to` that pass `is_fit`
 pub record AreFit (event : Option CoreEvent) (end : Option ℕ) (last : List (Option ℕ))
     (now : Content) (place from to : ℕ) (old new : List (Option ℕ)) : Type 0 where
   pub size : length new ≡ length old

@@ -26,16 +26,14 @@ is_below_last end (Some last) = is_below end last
 abbrev pub is_sure_flush : List CoreEvent → ℕ → Bool
 is_sure_flush events flush = is_flush_submit (slice_get events flush) && ended_ok events flush
 
--- `last` has, for each sector, the last durable request over it that was submitted before index
--- `below`
+-- `last` has, for each sector, the last durable request over it with an index below `below`
 pub record AreLastKept (events : List CoreEvent) (sectors below : ℕ)
     (last : List (Option ℕ)) : Type 0 where
   pub size : length last ≡ sectors
   pub each : (sector : ℕ) → sector < sectors
       → place_at last sector ≡ last_below (is_kept events sector) below
 
--- of the first `sectors` sectors, the event puts a value exactly in those from `from` to before
--- `to`
+-- of the first `sectors` sectors, the event puts a value in those from `from` to before `to` only
 pub record AreCovered (event : Option CoreEvent) (sectors from to : ℕ) : Type 0 where
   pub order : from ≤ to
   pub within : to ≤ sectors

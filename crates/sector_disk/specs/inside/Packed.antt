@@ -1,5 +1,4 @@
--- Whole sectors of bytes, each stored without the bytes at its end that repeat the byte before
--- them.
+-- Whole sectors, each stored without the bytes at its end that repeat the byte before them.
 use Rattle.std.specs.Prelude.{◌≡◌, ℕ, ◌+◌, ◌-◌, ◌*◌, ◌<◌, ◌≤◌, List, ◌++◌, length, replicate}
 use Rattle.std.specs.Prelude.{slice_index, slice_range}
 use Rattle.bio.specs.Content.{AgreeBelow, Content, gather, sector_of}

@@ -89,8 +89,7 @@ back calls sector zero place = []
 back calls sector (suc n) place =
     back calls sector n (before_at calls place sector) ++ value_at calls place sector ∷ []
 
--- of the sector's last `n` calls up to the one at `place`, the oldest is durable, and all others
--- are open
+-- of the sector's last `n` calls up to the one at `place`, the oldest is durable, the others open
 abbrev pub is_chain : List Call → ℕ → ℕ → ℕ → ℕ → Bool
 is_chain calls synced sector zero place = false
 is_chain calls synced sector (suc zero) place =

@@ -29,8 +29,7 @@ impl SectorDisk {
         Ok(())
     }
 
-    // Does a write or a discard, and adds it to the past. If an allocation fails, nothing is
-    // changed.
+    // Does a write or a discard, and keeps it. If an allocation fails, nothing is changed.
     fn put(&mut self, first: u64, change: Change, fua: bool) -> Result<(), AllocError>
         requires { first + count_of change ≤ self.old.sectors }
         ensures ok { OnOk result

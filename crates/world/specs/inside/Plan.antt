@@ -20,8 +20,7 @@ abbrev pub is_wanted : Option ℕ → ℕ → Bool
 is_wanted None id = false
 is_wanted (Some wanted) id = wanted == id
 
--- the steps of `id` for `sector`: if `lands`, it lands there; if `settles` too, the sector is then
--- destaged
+-- the steps of `id` for `sector`: if `lands`, it lands there; if also `settles`, a destage follows
 abbrev pub touch : Bool → Bool → ℕ → ℕ → List Step
 touch lands settles id sector =
     if lands then Land id sector ∷ (if settles then Destage sector ∷ [] else []) else []
@@ -72,8 +71,7 @@ abbrev pub is_upto : ℕ → Option ℕ → Bool
 is_upto id None = false
 is_upto id (Some last) = nat_le id last
 
--- `sure`, if `last` lists for each sector the last durable request over it: `id` isn't past that
--- request
+-- `sure`, from the last durable request that `last` has for each sector: `id` isn't past it
 abbrev pub sure_by : List (Option ℕ) → ℕ → ℕ → Bool
 sure_by last id sector = is_upto id (place_at last sector)
 

@@ -8,7 +8,7 @@ use Rattle.bio.specs.declared.request.BadBio.{BadBio}
 use Rattle.bio.specs.declared.request.BadBio.TheVariants.{NotWhole, TooLong, PastEnd, Unaligned}
 use Rattle.bio.specs.Requests.{is_aligned}
 
--- the result for whole sectors: at least one, at most 2,048, and all within the device
+-- the result for `count` sectors from `first` on: 1 to 2,048, all of them within the device
 abbrev pub range_answer : ℕ → ℕ → ℕ → Result (Unit {0}) BadBio
 range_answer first count sectors =
     if count == 0 then Err NotWhole
@@ -16,8 +16,7 @@ range_answer first count sectors =
     else if nat_lt sectors (first + count) then Err PastEnd
     else Ok tt
 
--- whether a request may be sent to a device of `sectors` sectors, or else the first reason against
--- it
+-- the first reason against sending a request to a device of `sectors` sectors; Ok if there is none
 abbrev pub check_answer : Bio → ℕ → Result (Unit {0}) BadBio
 check_answer (Write first bytes flush fua meta) sectors =
     if length bytes % 512 == 0 then range_answer first
@@ -32,8 +31,8 @@ abbrev pub unless_unaligned : Bool → Result (Unit {0}) BadBio → Result (Unit
 unless_unaligned aligned (Ok tt) = if aligned then Ok tt else Err Unaligned
 unless_unaligned aligned (Err bad) = Err bad
 
--- whether a request may be sent to a device of `sectors` sectors, and recorded in log sectors of
--- `size` bytes, or else the first reason against it
+-- The result of `check_sized` for a device of `sectors` sectors and a log with sectors of `size`
+-- bytes: the tests of `check`, and then that of alignment.
 abbrev pub check_sized_answer : ℕ → Bio → ℕ → Result (Unit {0}) BadBio
 check_sized_answer size bio sectors =
     unless_unaligned (is_aligned size bio) (check_answer bio sectors)

@@ -5,76 +5,75 @@ use Rattle.std.specs.Prelude.{Some, None, unwrap_or, List, length, take, drop, r
 use Rattle.std.specs.Prelude.{if◌then◌else◌}
 use Rattle.bio.specs.Places.{collect}
 
--- the content of each sector of 512 bytes of a device
+-- the bytes of each sector of a device
 abbrev pub Content : Type 0
 Content = ℕ → List ℕ
 
--- the bytes of one sector of an image
+-- the content of an image, with 512 bytes for each sector
 abbrev pub sector_of : List ℕ → Content
 sector_of bytes sector = take 512 (drop (512 * sector) bytes)
 
--- the bytes of a range of sectors, one after another
+-- the bytes of the `count` sectors from `first` on, one after another
 abbrev pub gather : Content → ℕ → ℕ → List ℕ
 gather content first count = collect (λ place. content (first + place)) count
 
--- the content has the whole sectors of these bytes from this sector on
+-- the content has the whole sectors of `bytes` from sector `first` on
 abbrev pub HasBytes : Content → ℕ → List ℕ → Type 0
 HasBytes content first bytes =
     (sector : ℕ) → sector < length bytes / 512 → content (first + sector) ≡ sector_of bytes sector
 
--- the contents are equal below this sector
+-- `old` and `new` are equal below sector `end`
 abbrev pub AgreeBelow : ℕ → Content → Content → Type 0
 AgreeBelow end old new = (sector : ℕ) → sector < end → new sector ≡ old sector
 
--- the contents are equal from the first of these sectors to before the second
+-- `old` and `new` are equal from sector `from` to before `to`
 abbrev pub AgreeWithin : ℕ → ℕ → Content → Content → Type 0
 AgreeWithin from to old new = (sector : ℕ) → from ≤ sector → sector < to → new sector ≡ old sector
 
--- the content from a sector on, its sectors counted from 0
+-- the content from sector `offset` on, counted from 0
 abbrev pub moved : ℕ → Content → Content
 moved offset content sector = content (offset + sector)
 
--- each sector of a disk has 512 bytes
+-- each sector of a disk of `disk` sectors has 512 bytes
 abbrev pub HasWholeSectors : ℕ → Content → Type 0
 HasWholeSectors disk content = (sector : ℕ) → sector < disk → length (content sector) ≡ 512
 
--- the values that a call has for some of the sectors
+-- the values that a call puts: for each sector a value, or none
 abbrev pub Patch : Type 0
 Patch = ℕ → Option (List ℕ)
 
--- the call has no values for the sectors below this one
+-- the patch has no values below sector `end`
 abbrev pub HasNoneBelow : ℕ → Patch → Type 0
 HasNoneBelow end patch = (sector : ℕ) → sector < end → patch sector ≡ None
 
--- each value of a call has 512 bytes
+-- each value of the patch has 512 bytes
 abbrev pub HasWholeValues : Patch → Type 0
 HasWholeValues patch =
     (sector : ℕ) (value : List ℕ) → patch sector ≡ Some value → length value ≡ 512
 
--- the values for a range of sectors, the first of them counted as 0
+-- the patch that has `value k` for the sector `first + k`, for each `k` below `count`
 unfoldable pub over : ℕ → ℕ → (ℕ → List ℕ) → Patch
 over first count value sector =
     if nat_le first sector && nat_lt sector (first + count) then Some
     (value (sector - first)) else None
 
--- the values that a write has for its sectors
+-- the values that a write puts: the whole sectors of `bytes`
 abbrev pub writes : ℕ → List ℕ → Patch
 writes first bytes = over first (length bytes / 512) (sector_of bytes)
 
--- the values that a discard has for its sectors: zeroes
+-- the values that a discard puts: zeroes
 abbrev pub discards : ℕ → ℕ → Patch
 discards first count = over first count (λ _. replicate 512 0)
 
--- the values of a call that changes nothing
+-- the patch of a call that changes nothing
 abbrev pub nothing : Patch
 nothing sector = None
 
--- the content with all of a call's values
+-- the content after all values of the patch are put
 abbrev pub put : Patch → Content → Content
 put patch content sector = unwrap_or (patch sector) (content sector)
 
--- the new content is the old one with the call's values in
--- some of their sectors, none or all included
+-- `new` is `old` with the patch's values in some of their sectors, in none or in all
 abbrev pub Patched : Patch → Content → Content → Type 0
 Patched patch old new =
     (sector : ℕ) → (new sector ≡ old sector) ⊎ (new sector ≡ put patch old sector)

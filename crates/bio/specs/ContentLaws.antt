@@ -1,5 +1,4 @@
--- The values of a patch over a range, which is the interface of `over`, and the content after a
--- patch.
+-- The values of a patch over a range (the interface of `over`), and the content after a patch.
 use Rattle.std.proofs.Common.{◌≡◌, ℕ, ◌+◌, ◌-◌, ◌*◌, ◌/◌, ◌<◌, ◌≤◌, false, ◌&&◌, Option, Some, None}
 use Rattle.std.proofs.Common.{List, length, drop, replicate, refl, ap, sym, ◌∙◌, inl, inr, arith}
 use Rattle.std.proofs.lemmas.Bool.{cases_lt, lt-ltb, le-ltb, le-leb, leb-true}
@@ -11,7 +10,7 @@ use Rattle.bio.specs.Content.{AgreeBelow, Content, HasBytes, HasNoneBelow, HasWh
 use Rattle.bio.specs.Content.{HasWholeValues, Patch, Patched, discards, nothing, over, put}
 use Rattle.bio.specs.Content.{sector_of, writes}
 
--- a sector of the range has its value
+-- The `k`th sector of the range has its value.
 pub over-in : (first count : ℕ) (value : ℕ → List ℕ) (k : ℕ) → k < count
     → over first count value (first + k) ≡ Some (value k)
 unfolding over
@@ -56,7 +55,7 @@ over_cases first count value sector = elim (cases_lt sector first) [
   ]
 ]
 
--- the value of a sector, by one test
+-- The definition of `over`, for proofs that don't unfold it.
 pub over-at : (first count : ℕ) (value : ℕ → List ℕ) (sector : ℕ)
     → over first count value sector
     ≡ (if nat_le first sector
@@ -75,7 +74,7 @@ range_cases first count sector = elim (cases_lt sector first) [
   ]
 ]
 
--- a moved range has the same values at its moved sectors
+-- If a range is moved by `offset`, its values move with it.
 pub over-shift : (offset first count : ℕ) (value : ℕ → List ℕ) (sector : ℕ)
     → over (offset + first) count value (offset + sector) ≡ over first count value sector
 over-shift offset first count value sector = elim (range_cases first count sector) [
@@ -95,18 +94,18 @@ over-shift offset first count value sector = elim (range_cases first count secto
   ]
 ]
 
--- a sector for which the call has a value gets it
+-- A sector for which the patch has a value gets it.
 pub put-some : (patch : Patch) (content : Content) (sector : ℕ) (value : List ℕ)
     → patch sector ≡ Some value → put patch content sector ≡ value
 put-some patch content sector value is =
     ap (λ (o : Option (List ℕ)). unwrap_or o (content sector)) is
 
--- a sector for which the call has no value stays as it was
+-- A sector for which the patch has no value is unchanged.
 pub put-none : (patch : Patch) (content : Content) (sector : ℕ) → patch sector ≡ None
     → put patch content sector ≡ content sector
 put-none patch content sector is = ap (λ (o : Option (List ℕ)). unwrap_or o (content sector)) is
 
--- a sector of a range has the range's value
+-- After the values of a range are put, each sector of the range has its value.
 pub put-in : (first count : ℕ) (value : ℕ → List ℕ) (content : Content) (k : ℕ) → k < count
     → put (over first count value) content (first + k) ≡ value k
 put-in first count value content k h =
@@ -128,7 +127,7 @@ pub over-below : (end first count : ℕ) (value : ℕ → List ℕ) → end ≤ 
 over-below end first count value h =
     λ sector below. over-before first count value sector (omega arith)
 
--- contents agree below a patch
+-- If a patch has no values below `end`, the contents before and after it agree there.
 pub below-patched : (end : ℕ) (patch : Patch) (old new : Content) → HasNoneBelow end patch
     → Patched patch old new → AgreeBelow end old new
 below-patched end patch old new none patched = λ sector below. elim (patched sector) [
@@ -194,7 +193,7 @@ put-discards first count content sector low high =
     ap (put (discards first count) content) (omega arith)
     ∙ discards-zeroes first count content (sector - first) (omega arith)
 
--- a call over a range leaves a sector outside it as it was
+-- A patch over a range leaves each sector outside it unchanged.
 pub put-outside : (first count : ℕ) (value : ℕ → List ℕ) (content : Content) (sector : ℕ)
     → (sector < first) ⊎ (first + count ≤ sector)
     → put (over first count value) content sector ≡ content sector
@@ -204,10 +203,10 @@ put-outside first count value content sector outside =
       | inr after ↦ over-after first count value sector after
     ])
 
--- a content is patched by a call if it gets none of the call's values
+-- If a content gets none of the patch's values, it is patched.
 pub patched-same : (patch : Patch) (content : Content) → Patched patch content content
 patched-same patch content = λ sector. inl refl
 
--- a content is patched by a call if it gets all of the call's values
+-- If a content gets all of the patch's values, it is patched.
 pub patched-whole : (patch : Patch) (content : Content) → Patched patch content (put patch content)
 patched-whole patch content = λ sector. inr refl

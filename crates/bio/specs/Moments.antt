@@ -1,5 +1,4 @@
--- The result of `Ms::later_by`: a later time, but never one past 2^64 - 1. Layers that delay cite
--- it.
+-- The result of `Ms::later_by`, which is never past 2^64 - 1. Layers that delay cite it.
 use Rattle.std.specs.Prelude.{ℕ, ◌+◌, ◌-◌, ◌^◌, min}
 
 -- the time `now` plus `delay`, or the last time if that is past it

@@ -1,4 +1,4 @@
--- Parts of a call's values, and the content after one part and then another.
+-- Laws of the parts of a patch, and of the content after one part and then another.
 use Rattle.std.proofs.Common.{◌≡◌, ℕ, ◌+◌, ◌-◌, ◌*◌, ◌/◌, ◌<◌, ◌≤◌, true, false, ◌&&◌, Option, Some}
 use Rattle.std.proofs.Common.{None, List, length, take, drop, replicate, refl, ap, sym, ◌∙◌, inl}
 use Rattle.std.proofs.Common.{inr, arith}
@@ -13,7 +13,7 @@ use Rattle.bio.specs.ContentLaws.{over-after, over-before, over-in, put-none, pu
 use Rattle.bio.specs.ContentLaws.{range_cases}
 use Rattle.bio.specs.Parts.{HasNoneFrom, IsPart, Joins, SameValues, below, between}
 
--- a part keeps a sector's value, or has none for it
+-- A part of a patch has the patch's value for a sector within it, and none outside.
 pub below-in : (end : ℕ) (patch : Patch) (sector : ℕ) → sector < end
     → below end patch sector ≡ patch sector
 below-in end patch sector h = ap (λ b. if b then patch sector else None) (lt-ltb sector end h)
@@ -43,7 +43,7 @@ between-after from to patch sector h =
     ap (λ b. if nat_le from sector && b then patch sector else None) (le-ltb sector to h)
     ∙ ap (λ b. if b then patch sector else None) (and-false (nat_le from sector))
 
--- all of a call is below its end
+-- If a patch has no values from `end` on, its part below `end` has all its values.
 pub below_all : (end : ℕ) (patch : Patch) → HasNoneFrom end patch
     → SameValues (below end patch) patch
 below_all end patch none = λ sector. elim (cases_lt sector end) [
@@ -51,7 +51,7 @@ below_all end patch none = λ sector. elim (cases_lt sector end) [
   | inr past ↦ below-out end patch sector past ∙ sym (none sector past)
 ]
 
--- no value of a call is below its first sector
+-- If a patch has no values below `end`, its part below `end` has none.
 pub below_none : (end : ℕ) (patch : Patch) → HasNoneBelow end patch → (sector : ℕ)
     → below end patch sector ≡ None
 below_none end patch none sector = elim (cases_lt sector end) [
@@ -59,14 +59,14 @@ below_none end patch none sector = elim (cases_lt sector end) [
   | inr past ↦ below-out end patch sector past
 ]
 
--- a call cut at a sector is a part of the whole one
+-- A patch's values below a sector are a part of the patch.
 pub below-part : (end : ℕ) (patch : Patch) → IsPart (below end patch) patch
 below-part end patch = λ sector. elim (cases_lt sector end) [
   | inl within ↦ inr (below-in end patch sector within)
   | inr past ↦ inl (below-out end patch sector past)
 ]
 
--- a call cut at a sector is a part of the call cut at a later sector
+-- A patch's values below a sector are a part of its values below a later sector.
 pub below_more : (end more : ℕ) (patch : Patch) → end ≤ more
     → IsPart (below end patch) (below more patch)
 below_more end more patch h = λ sector. elim (cases_lt sector end) [
@@ -75,7 +75,7 @@ below_more end more patch h = λ sector. elim (cases_lt sector end) [
   | inr past ↦ inl (below-out end patch sector past)
 ]
 
--- the values of a call between two sectors are a part of its values below the second
+-- A patch's values between two sectors are a part of its values below the second.
 pub between-part : (from to : ℕ) (patch : Patch) → IsPart (between from to patch) (below to patch)
 between-part from to patch = λ sector. elim (cases_lt sector from) [
   | inl before ↦ inl (between-before from to patch sector before)
@@ -86,8 +86,7 @@ between-part from to patch = λ sector. elim (cases_lt sector from) [
   ]
 ]
 
--- the values of a call below one sector, and then those from there to another, are its values below
--- the second
+-- A patch's values below `from`, and then those from there to `to`, join to its values below `to`.
 pub below-joins : (from to : ℕ) (patch : Patch) → from ≤ to
     → Joins (below from patch) (between from to patch) (below to patch)
 below-joins from to patch h = λ sector. elim (cases_lt sector from) [
@@ -114,7 +113,7 @@ below-joins from to patch h = λ sector. elim (cases_lt sector from) [
   ]
 ]
 
--- a content patched by a part is patched by the whole
+-- If a content is patched by a part, it is patched by the whole.
 pub patched-part : (part whole : Patch) (old new : Content) → IsPart part whole
     → Patched part old new → Patched whole old new
 patched-part part whole old new is patched = λ sector. elim (patched sector) [
@@ -125,7 +124,7 @@ patched-part part whole old new is patched = λ sector. elim (patched sector) [
   ]
 ]
 
--- a content patched twice by a call is patched by it
+-- If a content is patched twice by the same patch, it is patched by it.
 pub patched_twice : (patch : Patch) (old mid new : Content) → Patched patch old mid
     → Patched patch mid new → Patched patch old new
 patched_twice patch old mid new before after = λ sector. elim (after sector) [
@@ -142,7 +141,7 @@ patched_twice patch old mid new before after = λ sector. elim (after sector) [
   ]
 ]
 
--- a sector is as it was, or has the call's value
+-- A patched sector is unchanged, or has the patch's value.
 pub patched_cases : (patch : Patch) (old new : Content) → Patched patch old new
     → (sector : ℕ) → (new sector ≡ old sector) ⊎ (patch sector ≡ Some (new sector))
 patched_cases patch old new patched sector = elim (patched sector) [
@@ -155,7 +154,7 @@ patched_cases patch old new patched sector = elim (patched sector) [
   ]
 ]
 
--- a patched sector is as it was if the call has no value for it
+-- A patched sector is unchanged if the patch has no value for it.
 pub patched-none : (patch : Patch) (old new : Content) → Patched patch old new → (sector : ℕ)
     → patch sector ≡ None → new sector ≡ old sector
 patched-none patch old new patched sector none = elim (patched sector) [
@@ -163,13 +162,13 @@ patched-none patch old new patched sector none = elim (patched sector) [
   | inr there ↦ there ∙ put-none patch old sector none
 ]
 
--- calls with the same values put the same content
+-- If two patches have the same values, the content is the same after either.
 pub put-same : (patch other : Patch) (content : Content) → SameValues patch other → (sector : ℕ)
     → put patch content sector ≡ put other content sector
 put-same patch other content same sector =
     ap (λ (o : Option (List ℕ)). unwrap_or o (content sector)) (same sector)
 
--- two calls, one after the other, put the values of the whole call
+-- If two patches join to a whole, to put one and then the other is to put the whole.
 pub put-joined : (first second whole : Patch) (old mid : Content) (sector : ℕ)
     → Joins first second whole → mid sector ≡ put first old sector
     → put second mid sector ≡ put whole old sector
@@ -181,7 +180,7 @@ put-joined first second whole old mid sector joins before = elim (joins sector) 
       put-some second mid sector late.0 late.1 ∙ sym (put-some whole old sector late.0 late.2)
 ]
 
--- a range within a range has the values of the part
+-- A range within a larger range has the larger range's values between its ends.
 pub over-between : (first count k n : ℕ) (value piece : ℕ → List ℕ) → k + n ≤ count
     → ((i : ℕ) → i < n → piece i ≡ value (k + i))
     → SameValues (over (first + k) n piece)
@@ -207,7 +206,7 @@ over-between first count k n value piece within same =
       ]
     ]
 
--- a sector of a part of an image is one of the image
+-- A sector of a part of an image is a sector of the image.
 pub sector_of-part : (bytes : List ℕ) (k n i : ℕ) → i < n → 512 * (k + n) ≤ length bytes
     → sector_of (take (512 * n) (drop (512 * k) bytes)) i ≡ sector_of bytes (k + i)
 sector_of-part bytes k n i h within =

@@ -1,4 +1,4 @@
--- The definitions of requests and events, stated in numbers.
+-- Laws of the tests of requests and events, as statements about numbers.
 use Rattle.std.proofs.Common.{◌≡◌, ◌↔◌, ℕ, zero, suc, ◌+◌, ◌/◌, ◌%◌, ◌==◌, ◌<◌, ◌≤◌, ◌≢◌, Bool}
 use Rattle.std.proofs.Common.{true, false, not, ◌&&◌, Option, Some, None, List, [], ◌∷◌, length}
 use Rattle.std.proofs.Common.{get_or, Result, Ok, Err, refl, ap, sym, ◌∙◌, inl, inr, arith}
@@ -19,7 +19,7 @@ use Rattle.bio.specs.Lawful.{is_text, is_within}
 use Rattle.bio.specs.Possible.{covers_at}
 use Rattle.bio.specs.Requests.{covers, first_sector, is_tracked, overlaps, sector_count}
 
--- the tests of a request that covers a sector
+-- If a request covers a sector, it is tracked, and the sector is in its range.
 pub covers-parts : (bio : Bio) (sector : ℕ) → covers bio sector ≡ true
     → (is_tracked bio ≡ true) × (first_sector bio ≤ sector)
     × (sector < first_sector bio + sector_count bio)
@@ -53,7 +53,7 @@ covers-range bio sector tracked = (
   λ both. covers-within bio sector tracked both.0 both.1,
 )
 
--- the tests of two requests that overlap
+-- `a` and `b` pass the tests of `overlaps`
 pub record Overlap (a b : Bio) : Type 0 where
   pub first : is_tracked a ≡ true
   pub second : is_tracked b ≡ true
@@ -62,7 +62,7 @@ pub record Overlap (a b : Bio) : Type 0 where
   pub below : first_sector a < first_sector b + sector_count b
   pub above : first_sector b < first_sector a + sector_count a
 
--- two requests that overlap pass these tests
+-- If two requests overlap, they pass the tests of `overlaps`.
 pub overlaps-parts : (a b : Bio) → overlaps a b ≡ true → Overlap a b
 overlaps-parts a b h =
     let both = is_tracked a && is_tracked b in
@@ -83,7 +83,7 @@ overlaps-parts a b h =
       above = ltb-true (first_sector b) (first_sector a + sector_count a) h5.1;
     }
 
--- six tests that hold are all that an overlap needs
+-- If six tests hold, their conjunction does.
 six_hold : (a b c d e f : Bool) → a ≡ true → b ≡ true → c ≡ true → d ≡ true → e ≡ true → f ≡ true
     → (a && b && c && d && e && f) ≡ true
 six_hold true true true true true true ha hb hc hd he hf = refl
@@ -101,7 +101,7 @@ greater m n = elim (cases_lt m n) [
   | inr above ↦ (m, omega arith, omega arith, inl refl)
 ]
 
--- two requests overlap exactly if both cover some sector
+-- Two requests overlap exactly if both cover some common sector.
 pub overlaps-common : (a b : Bio)
     → (overlaps a b ≡ true) ↔ ((sector : ℕ) × (covers a sector ≡ true) × (covers b sector ≡ true))
 overlaps-common a b = (
@@ -137,7 +137,7 @@ overlaps-common a b = (
       (lt-ltb (first_sector b) (first_sector a + sector_count a) (omega arith)),
 )
 
--- a place that was found is below another one exactly if it is less
+-- `is_below` holds exactly if an index was found that is less than `limit`.
 pub is_below-found : (found : Option ℕ) (limit : ℕ)
     → (is_below found limit ≡ true) ↔ ((place : ℕ) × (found ≡ Some place) × (place < limit))
 is_below-found None limit = (λ h. let none : false ≡ true = h in cc, λ some. let is = some.1 in cc)
@@ -147,18 +147,18 @@ is_below-found (Some place) limit = (
       let is = some.1 in cc in let less = some.2 in lt-ltb place limit (omega arith),
 )
 
--- one request ended before the other was submitted exactly if it has an end at an earlier place
+-- One request ended before another was submitted exactly if its end has the lower index.
 pub is_before-end : (events : List CoreEvent) (earlier later : ℕ)
     → (is_before events earlier later ≡ true)
     ↔ ((end : ℕ) × (end_of events earlier ≡ Some end) × (end < later))
 is_before-end events earlier later = is_below-found (end_of events earlier) later
 
--- a byte passes the test of a text exactly if it isn't zero
+-- A byte passes the test of `is_text` exactly if it isn't zero.
 nonzero : (byte : ℕ) → (not (byte == 0) ≡ true) ↔ (byte ≢ 0)
 nonzero zero = (λ h. let none : false ≡ true = h in cc, λ differ. absurd (differ refl))
 nonzero (suc byte) = (λ h e. omega arith, λ differ. ap not (differ-eqb (suc byte) 0 differ))
 
--- a text has no zero byte
+-- A text passes `is_text` exactly if none of its bytes is zero.
 pub is_text-nonzero : (text : List ℕ)
     → (is_text text ≡ true) ↔ ((k : ℕ) → k < length text → get_or text k 0 ≢ 0)
 is_text-nonzero [] = (λ h k less. absurd (omega arith), λ each. refl)
@@ -201,8 +201,7 @@ range_answer-larger first count n m passed more =
     ∙ sym (ap (range_of_tests (count == 0) (nat_lt 2048 count)) within)
     ∙ passed
 
--- a write that may be sent to a device may be sent to a larger one; its data are whole sectors for
--- both or for none
+-- As above, for a write. `whole` is true if its data is whole sectors.
 write_answer-larger : (whole : Bool) (first count n m : ℕ)
     → (if whole then range_answer first count n else Err NotWhole) ≡ Ok tt → n ≤ m
     → (if whole then range_answer first count m else Err NotWhole) ≡ Ok tt
@@ -249,7 +248,7 @@ passed_within (Read first count) sectors passed =
     ltb-false sectors (first + count)
     (not_past (count == 0) (nat_lt 2048 count) (nat_lt sectors (first + count)) passed)
 
--- the request that an event submits ends within a device that the event is within
+-- If an event is within a device, the request that it submits ends within the device.
 pub submits_within : (bio : Bio) (sectors : ℕ) → is_within sectors (Some (Submit bio)) ≡ true
     → first_sector bio + sector_count bio ≤ sectors
 submits_within bio sectors within =

@@ -16,7 +16,7 @@ has_flush (Write first bytes flush fua meta) = flush
 has_flush Flush = true
 has_flush _ = false
 
--- whether the data of the request is to be durable when it ends
+-- whether the request's data must be durable when the request ends
 abbrev pub has_fua : Bio → Bool
 has_fua (Write first bytes flush fua meta) = fua
 has_fua _ = false
@@ -39,25 +39,25 @@ first_sector Flush = 0
 first_sector (Discard first count) = first
 first_sector (Read first count) = first
 
--- the number of whole sectors of a request; none for a flush
+-- the number of whole sectors of a request; 0 for a flush
 abbrev pub sector_count : Bio → ℕ
 sector_count (Write first bytes flush fua meta) = length bytes / 512
 sector_count Flush = 0
 sector_count (Discard first count) = count
 sector_count (Read first count) = count
 
--- the request begins and ends at multiples of `size` bytes, for a log with sectors of that size:
--- its first sector and its count are multiples of the sectors of 512 bytes in one
+-- the request is whole log sectors of `size` bytes: its first sector and its count are multiples of
+-- `size / 512`
 abbrev pub is_aligned : ℕ → Bio → Bool
 is_aligned size bio = first_sector bio % (size / 512) == 0 && sector_count bio % (size / 512) == 0
 
--- a write or a discard puts a value in the sector
+-- the request is a write or a discard that puts a value in the sector
 abbrev pub covers : Bio → ℕ → Bool
 covers bio sector =
     is_tracked bio && nat_le (first_sector bio) sector
     && nat_lt sector (first_sector bio + sector_count bio)
 
--- two writes or discards overlap: both put a value in some sector
+-- the requests are writes or discards, and both put a value in some common sector
 abbrev pub overlaps : Bio → Bio → Bool
 overlaps a b =
     is_tracked a && is_tracked b

@@ -5,7 +5,7 @@ ghost use Rattle.std.specs.Prelude.{replicate, ℕ};
 ghost use Rattle.bio.specs.Content.{Content, HasBytes, HasWholeSectors, HasWholeValues, Patch};
 ghost use Rattle.bio.specs.Content.{Patched, discards, put, sector_of, writes};
 
-/// A sector's size in bytes.
+/// The size of a sector in bytes.
 pub const SECTOR_BYTES: u64 = 512;
 
 /// The maximum number of sectors of a device.
@@ -17,8 +17,8 @@ pub fn sizes()
     ensures device { MAX_DEVICE_SECTORS ≡ 1048576 }
 {}
 
-/// After a write the content has its bytes from its first sector on, as many as are whole sectors:
-/// each sector of the write has its 512 bytes of them. Each other sector is as it was.
+/// After a write, the content has the write's whole sectors from the write's first sector on. Each
+/// other sector is unchanged.
 pub fn writes_put_their_bytes()
     ensures bytes { (first : ℕ) (bytes : List ℕ) (content : Content) →
         HasBytes (put (writes first bytes) content) first bytes }
@@ -30,7 +30,7 @@ pub fn writes_put_their_bytes()
         put (writes first bytes) content sector ≡ content sector }
 {}
 
-/// After a discard its sectors are zeroes. Each other sector is as it was.
+/// After a discard, its sectors are zeroes. Each other sector is unchanged.
 pub fn discards_put_zeroes()
     ensures within { (first count : ℕ) (content : Content) (sector : ℕ) →
         first ≤ sector → sector < first + count →
@@ -40,8 +40,7 @@ pub fn discards_put_zeroes()
         put (discards first count) content sector ≡ content sector }
 {}
 
-/// A call's values are put: a sector for which the call has one gets it, and each other sector is
-/// as it was.
+/// After a patch is put, a sector has its value in the patch, or is unchanged if there is none.
 pub fn values_are_put()
     ensures value { (patch : Patch) (content : Content) (sector : ℕ) (value : List ℕ) →
         patch sector ≡ Some value → put patch content sector ≡ value }
@@ -49,7 +48,8 @@ pub fn values_are_put()
         patch sector ≡ None → put patch content sector ≡ content sector }
 {}
 
-/// A disk of whole sectors has whole sectors after any part of a write or a discard.
+/// Each value of a write or a discard is a whole sector. If a patch has only such values, a disk of
+/// whole sectors has whole sectors after any part of the patch.
 pub fn sectors_stay_whole()
     ensures writes { (first : ℕ) (bytes : List ℕ) → HasWholeValues (writes first bytes) }
     ensures discards { (first count : ℕ) → HasWholeValues (discards first count) }

@@ -17,8 +17,8 @@ pub fn limits()
     ensures { MAX_REQUEST_SECTORS ≡ 2048 }
 {}
 
-/// A write covers the sectors from its first on, as many as its bytes are whole sectors, and a
-/// discard as many as its count. A read and a flush cover none.
+/// A write covers the sectors from its first on, one for each whole sector of its bytes. A discard
+/// covers `count` sectors from its first on. A read and a flush cover none.
 pub fn sectors_are_covered()
     ensures write { (first : ℕ) (bytes : List ℕ) (flush fua meta : Bool) (sector : ℕ) →
         IsTrue (covers (Write first bytes flush fua meta) sector)
@@ -30,33 +30,33 @@ pub fn sectors_are_covered()
     ensures flush { (sector : ℕ) → covers Flush sector ≡ false }
 {}
 
-/// Two requests overlap exactly if both cover some sector.
+/// Two requests overlap exactly if both cover some common sector.
 pub fn overlaps_are_common_sectors()
     ensures { (a b : Bio) → IsTrue (overlaps a b)
         ↔ ((sector : ℕ) × IsTrue (covers a sector) × IsTrue (covers b sector)) }
 {}
 
-/// A request is before a later one exactly if it has an end, at a place below the later one's.
+/// One request ended before another was submitted exactly if its end has the lower index.
 pub fn ends_come_before()
     ensures { (events : List CoreEvent) (earlier later : ℕ)
         → IsTrue (is_before events earlier later)
         ↔ ((end : ℕ) × (end_of events earlier ≡ Some end) × (end < later)) }
 {}
 
-/// A text has no zero byte.
+/// A text passes `is_text` exactly if none of its bytes is zero.
 pub fn texts_have_no_zero()
     ensures { (text : List ℕ) →
         IsTrue (is_text text) ↔ EachIndex text (λ k. slice_index text k ≢ 0) }
 {}
 
-/// A request that may be sent to a device may be sent to each larger one.
+/// If a request may be sent to a device, it may be sent to each larger device.
 pub fn larger_devices_take_more()
     ensures { (bio : Bio) (sectors more : ℕ) → check_answer bio sectors ≡ Ok tt → sectors ≤ more →
         check_answer bio more ≡ Ok tt }
 {}
 
-/// A request that may be recorded in a log with sectors of the given size may be sent to the
-/// device, and is aligned to that size.
+/// A request may be recorded in a log with sectors of `size` bytes exactly if it passes two tests:
+/// it may be sent to the device, and is aligned to that size.
 pub fn sized_requests_pass_both()
     ensures { (size : ℕ) (bio : Bio) (sectors : ℕ) → (check_sized_answer size bio sectors ≡ Ok tt)
         ↔ ((check_answer bio sectors ≡ Ok tt) × IsTrue (is_aligned size bio)) }

@@ -1,16 +1,18 @@
 //! Block requests and their events, and the content of a device's sectors.
 //!
-//! A sector has 512 bytes. The `Content` of a device is the bytes of each sector; `specs/Content`
-//! and `content` define the bytes of a range of it, and its content after a write or a discard.
-//! `specs/Places` has tests and lists over places. Each crate about a device or a log builds on
-//! these two.
+//! A sector has 512 bytes. The `Content` of a device is the bytes of each sector. `specs/Content`
+//! and `content` define the bytes of a range of sectors, and the content after a write or a
+//! discard. Each crate about a device or a log builds on them. `specs/Places` has searches and
+//! tests over indices.
 //!
-//! A request is a `Bio`; `check` decides whether it may be sent to a device, and `check_sized`
-//! whether it also suits a log of sectors of a given `SectorSize`. The events of requests are a
-//! list of `CoreEvent`s; an `Id` is the place of a request's submission, or of a mark, in that
-//! list. The definitions in `specs/` state which sectors a request covers (`Requests`), at which
-//! places of an event list requests end (`Events`), and which lists are lawful (`Lawful`). `laws`
-//! has their laws.
+//! A request is a `Bio`. `check` decides whether it may be sent to a device, and `check_sized`
+//! whether it also suits a log with sectors of a given `SectorSize`. The events of requests are a
+//! list of `CoreEvent`s. An `Id` is the index of a request's submission, or of a mark, in that
+//! list.
+//!
+//! `specs/Requests` defines which sectors a request covers. `specs/Events` defines where in an
+//! event list requests end, and `specs/Lawful` which lists are lawful. `laws` has the laws of these
+//! definitions.
 #![tactic(auto)]
 
 pub use bytes::Bytes;

@@ -1,4 +1,4 @@
-//! A time in milliseconds: device calls receive one and return one, and layers delay by some.
+//! A time in milliseconds. Device calls receive and return a time; layers that delay add a time.
 ghost use Rattle.std.specs.Prelude.{◌≡◌, ℕ};
 ghost use Rattle.bio.specs.Moments.{later_by};
 

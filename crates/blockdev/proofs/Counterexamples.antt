@@ -1,5 +1,5 @@
--- For each clause of the law, of what a message changes, and of calls in turn, what breaks it and
--- nothing else, and is refused by it.
+-- For each clause of the law, of a message's effect and of calls in turn: an example that breaks
+-- the clause, and so is refused.
 use Rattle.std.proofs.Common.{◌≡◌, ℕ, zero, suc, true, false, List, [], ◌∷◌, Some, None, Ok, Err}
 use Rattle.std.proofs.Common.{replicate, refl, ap, ◌∙◌, inl, inr, arith}
 use Rattle.std.specs.Prelude.{Result, slice_index_or}

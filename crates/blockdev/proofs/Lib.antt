@@ -1,2 +1,2 @@
--- The lemmas of `blockdev`; the proof of a function stands in the folder of its source file.
+-- The lemmas of `blockdev`; the proof of a function is in the folder of its source file.
 pub mod Counterexamples

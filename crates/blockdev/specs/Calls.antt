@@ -1,5 +1,5 @@
--- The calls of a block device, and the ranges of sectors that they may name. `BlockDev` uses them
--- in its contracts (src/device), and each layer states by them what it does.
+-- The calls of a block device, and the ranges of sectors that they may name. The contracts of
+-- `BlockDev` (src/device) use them, and so does each layer's statement of what it does.
 use Rattle.std.specs.Prelude.{◌≡◌, ℕ, ◌+◌, ◌/◌, ◌%◌, ◌<◌, ◌≤◌, Bool, List}
 
 -- A call of a device. A read has the bytes of its buffer before it and after it.
@@ -9,12 +9,12 @@ pub data Call : Type 0 where
   Discards : (first count : ℕ) → Call
   Flushes : Call
 
--- at least one sector, and all within the device
+-- the range is at least one sector, and all of it within the device
 pub record IsRange (size first count : ℕ) : Type 0 where
   pub some : 0 < count
   pub within : first + count ≤ size
 
--- whole sectors of bytes, at least one, and all within the device
+-- the bytes are whole sectors, at least one, and their range is within the device
 pub record IsByteRange (size first length : ℕ) : Type 0 where
   pub whole : length % 512 ≡ 0
   pub some : 0 < length

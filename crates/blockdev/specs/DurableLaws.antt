@@ -7,12 +7,12 @@ use Rattle.bio.specs.PartLaws.{patched-none, patched_cases}
 use Rattle.blockdev.specs.View.{IsLawful, View}
 use Rattle.blockdev.specs.Law.{AfterPatch, DeviceFrame, IsTorn, WriteDone, FlushDone}
 
--- a patched content is torn
+-- If a content is patched, it is torn (`IsTorn`).
 pub after-torn : (patch : Patch) (before : Content → Type 0) (left : Content)
     → AfterPatch patch before left → IsTorn patch before left
 after-torn patch before left after = (after.0, after.1, patched_cases patch after.0 left after.2)
 
--- a write that is done and flushed is in whatever a crash leaves
+-- If a write is done and then flushed, whatever a crash leaves has its bytes.
 pub landed-flushed : (u v w : View) (first : ℕ) (bytes : List ℕ) (fua : Bool) (left : Content)
     → WriteDone (writes first bytes) fua u v
     → DeviceFrame nothing v w → FlushDone w → w.crash left → HasBytes left first bytes
@@ -22,7 +22,7 @@ landed-flushed u v w first bytes fua left lands goes syncs may = λ sector h.
     ∙ lands.content (first + sector)
     ∙ HasBytes-put first bytes u.content sector h
 
--- a write with FUA that is done is in whatever a crash leaves
+-- If a write with FUA is done, whatever a crash leaves has its bytes.
 pub landed-durable : (v w : View) (first : ℕ) (bytes : List ℕ) (left : Content)
     → WriteDone (writes first bytes) true v w
     → w.crash left → HasBytes left first bytes
@@ -30,7 +30,7 @@ landed-durable v w first bytes left lands may = λ sector h.
     let old = lands.durable refl left may in
     old.2 (first + sector) ∙ HasBytes-put first bytes old.0 sector h
 
--- a content that a crash during a call may have left is torn
+-- If a crash during a call may have left a content, the content is torn.
 pub gained-torn : (v w : View) (patch : Patch) (left : Content) → IsLawful v → DeviceFrame patch v w
     → w.since v.moment left
     → IsTorn patch v.crash left

@@ -8,8 +8,8 @@ abbrev pub EndsWell : {D : Type 0} → (D → Call → ℕ → Result ℕ DevErr
     → D → Type 0
 EndsWell does now call old new = (end : ℕ) × does old call now (Ok end) new
 
--- a device does these calls in turn, each at the time `now`: each ends well, or the first that
--- doesn't is the last that is done, and its error the result
+-- A device does the calls in turn, each at the time `now`. Either each ends well. Or the first that
+-- fails is the last one done, and its error is the result.
 abbrev pub DoesInTurn : {D : Type 0} → (D → Call → ℕ → Result ℕ DevError → D → Type 0) → ℕ
     → List Call → D → Result (Unit {0}) DevError → D → Type 0
 DoesInTurn does now [] old (Ok done) new = new ≡ old

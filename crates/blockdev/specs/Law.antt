@@ -5,24 +5,23 @@ use Rattle.bio.specs.declared.outcome.DevError.TheVariants.{Io}
 use Rattle.bio.specs.Content.{Content, Patch, Patched, put}
 use Rattle.blockdev.specs.View.{View, last_count}
 
--- one of these contents, with the call's values in some of their sectors, none or all included
+-- `left` is one of `before`, with the patch's values in some of their sectors, in none or in all
 abbrev pub AfterPatch : Patch → (Content → Type 0) → Content → Type 0
 AfterPatch patch before left = (old : Content) × before old × Patched patch old left
 
--- one of these contents, with all of the call's values
+-- `left` is one of `before`, with all of the patch's values
 abbrev pub AfterWhole : Patch → (Content → Type 0) → Content → Type 0
 AfterWhole patch before left =
     (old : Content) × before old × ((sector : ℕ) → left sector ≡ put patch old sector)
 
--- old content with a call's values in some of its sectors:
--- each sector is as it was, or has the call's value
+-- `left` is one of `before`, of which each sector is unchanged or has the patch's value
 abbrev pub IsTorn : Patch → (Content → Type 0) → Content → Type 0
 IsTorn patch before left = (old : Content) × before old
     × ((sector : ℕ) → (left sector ≡ old sector) ⊎ (patch sector ≡ Some (left sector)))
 
--- What a call does at most, whatever its result: it puts its values in some of their sectors.
+-- The frame of a call, whatever its result: at most, it puts its values in some of their sectors.
 pub record DeviceFrame (patch : Patch) (v w : View) : Type 0 where
-  -- the device keeps its size, and its place on the disk below it
+  -- the device keeps its size and its position on the disk
   pub size : w.size ≡ v.size
   pub place : w.place ≡ v.place
   -- the content is the old one, patched
@@ -31,7 +30,8 @@ pub record DeviceFrame (patch : Patch) (v w : View) : Type 0 where
   pub crash : (left : Content) → w.crash left → AfterPatch patch v.crash left
   -- the clock doesn't go back
   pub moment : v.moment ≤ w.moment
-  -- during the call too, a crash leaves a content that it could leave before, patched
+  -- a content that a crash since an earlier reading may have left, it may have left before the
+  -- call; or the crash came during the call, and left a content that it could leave before, patched
   pub gains : (moment : ℕ) (left : Content) → moment ≤ v.moment → w.since moment left →
       v.since moment left ⊎ AfterPatch patch v.crash left
   -- a content that a crash may have left before, it may still have left after the call
@@ -47,7 +47,7 @@ pub record DeviceFrame (patch : Patch) (v w : View) : Type 0 where
 -- The effect of a write or a discard that ends well, without a new lie: it puts all of its values.
 pub record WriteDone (patch : Patch) (fua : Bool) (v w : View) : Type 0 where
   pub content : (sector : ℕ) → w.content sector ≡ put patch v.content sector
-  -- with FUA, they are also in whatever a crash may leave
+  -- with FUA, whatever a crash may leave has them too
   pub durable : IsTrue fua → (left : Content) → w.crash left → AfterWhole patch v.crash left
 
 -- The effect of a flush that ends well, without a new lie: a crash then leaves the content.
@@ -63,8 +63,8 @@ pub record NoLie (v w : View) : Type 0 where
   pub same : w.lies ≡ v.lies
   pub counted : w.lies < last_count
 
--- A result has its cause: 'Io' is returned only if the device failed, and the end isn't before the
--- call.
+-- A result has its cause. `Io` is returned only if the count of faults grows or is at its maximum.
+-- An Ok's end isn't before the call.
 pub record HasCause (now : ℕ) (v w : View) (result : Result ℕ DevError) : Type 0 where
   pub failed : result ≡ Err Io → (v.faults < w.faults) ⊎ (w.faults ≡ last_count)
   pub ends : (end : ℕ) → result ≡ Ok end → now ≤ end

@@ -1,4 +1,4 @@
--- The changes that a message may make, and the refusals of one.
+-- How an error of a message is reported as a refusal, and when a view is unchanged.
 use Rattle.std.proofs.Common.{◌≡◌, ℕ, refl, ◌∙◌}
 use Rattle.refusals.specs.declared.refusal.Refusal.{Refusal}
 use Rattle.refusals.specs.declared.refusal.Refusal.TheVariants as refusals
@@ -29,7 +29,7 @@ pub record Unchanged (v w : View) : Type 0 where
   pub lies : w.lies ≡ v.lies
   pub can_lie : w.can_lie ≡ v.can_lie
 
--- a view is unchanged if nothing happens
+-- If nothing happens, a view is unchanged.
 pub unchanged_none : (v : View) → Unchanged v v
 unchanged_none v = record {
   size = refl;
@@ -45,7 +45,7 @@ unchanged_none v = record {
   can_lie = refl;
 }
 
--- a view is unchanged after two steps if it is after each
+-- If a view is unchanged after each of two steps, it is unchanged after both.
 pub unchanged_both : (u v w : View) → Unchanged u v → Unchanged v w → Unchanged u w
 unchanged_both u v w first second = record {
   size = second.size ∙ first.size;

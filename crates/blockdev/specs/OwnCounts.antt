@@ -1,4 +1,4 @@
--- A layer over a device, with faults and lies of its own besides the lower device's.
+-- The view of a layer that adds faults and lies of its own to those of the device below it.
 use Rattle.std.proofs.Common.{◌≡◌, ℕ, ◌+◌, ◌<◌, ◌≤◌, Bool, false, Err, ap, ◌∙◌, inl, inr, arith}
 use Rattle.std.proofs.lemmas.Bool.{cases_lt, or_parts}
 use Rattle.std.specs.Prelude.{◌⊎◌, ◌||◌, Result, min}
@@ -15,8 +15,8 @@ sum_of a b = min (a + b) last_count
 abbrev pub one_more : ℕ → ℕ
 one_more count = sum_of count 1
 
--- the view of a layer: the lower device's, with the faults and lies of the layer itself, which may
--- drop calls or not
+-- the view of a layer over a device with the view `v`: the layer's own `faults` and `lies` are
+-- added, and the layer can lie if it drops calls (`drops`) or the device can lie
 abbrev pub counted : View → ℕ → ℕ → Bool → View
 counted v faults lies drops = record {
   size = v.size;
@@ -30,7 +30,7 @@ counted v faults lies drops = record {
   can_lie = v.can_lie || drops;
 }
 
--- the view of a layer is lawful if the lower device's is
+-- If the lower device's view is lawful, so is the layer's.
 pub lawful_counted : (v : View) (faults lies : ℕ) (drops : Bool) → IsLawful v
     → IsLawful (counted v faults lies drops)
 lawful_counted v faults lies drops lawful = record {
@@ -44,8 +44,8 @@ lawful_counted v faults lies drops lawful = record {
   lies = omega arith;
 }
 
--- a layer satisfies the frame of a call if the lower device does, its own counts don't decrease,
--- and its lies stay unless it drops calls
+-- Let the layer's own counts not decrease, and its own lies stay unless it drops calls. If the
+-- lower device satisfies the frame of a call, so does the layer.
 pub goes_counted : (patch : Patch) (v w : View) (faults more_faults lies more_lies : ℕ)
     (drops later : Bool) → faults ≤ more_faults → lies ≤ more_lies
     → later ≡ drops → (drops ≡ false → more_lies ≡ lies)
@@ -71,7 +71,7 @@ goes_counted patch v w faults more_faults lies more_lies drops later h k stays h
           omega arith;
     }
 
--- a layer that adds a lie of its own lies
+-- If a layer adds a lie of its own, the call lied.
 pub own_lie : (v : View) (faults lies : ℕ) (drops later : Bool) → lies ≤ last_count
     → NoLie (counted v faults lies drops) (counted v faults (one_more lies) later) → ⊥
 own_lie v faults lies drops later h told =
@@ -79,7 +79,7 @@ own_lie v faults lies drops later h told =
     let below = told.counted in
     omega arith
 
--- the cause of the lower device's result is the layer's
+-- If the lower device's result has its cause, the layer's same result has its cause.
 pub cause_counted : (now : ℕ) (v w : View) (result : Result ℕ DevError)
     (faults more_faults lies more_lies : ℕ) (drops later : Bool) → faults ≤ more_faults
     → HasCause now v w result
@@ -100,7 +100,7 @@ cause_counted now v w result faults more_faults lies more_lies drops later h cau
       | inr same ↦ inr (omega arith)
     ]
 
--- a new fault of the layer itself is a cause
+-- If a layer adds a fault of its own, its error has its cause.
 pub own_cause : (now : ℕ) (v : View) (faults lies : ℕ) (drops later : Bool) (error : DevError)
     → HasCause now (counted v faults lies drops) (counted v (one_more faults) lies later)
     (Err error)

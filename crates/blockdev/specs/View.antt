@@ -9,12 +9,12 @@ pub record Place : Type 0 where
   pub origin : ℕ
   pub disk : ℕ
 
--- The view of a device in contracts. Its moments are readings of a clock of the device's own, which
--- only contracts see.
+-- The view of a device in contracts. `moment` is the reading of the device's own clock, which only
+-- contracts see.
 pub record View : Type 1 where
   -- its number of sectors
   pub size : ℕ
-  -- its place on the disk below it
+  -- its position on the disk below all layers
   pub place : Place
   -- the content that a read returns
   pub content : Content
@@ -25,11 +25,10 @@ pub record View : Type 1 where
   -- the contents that a crash may have left since the clock had this reading: between two calls, or
   -- during one
   pub since : ℕ → Content → Type 0
-  -- the number of calls that failed, and of successes that it reported for what it hadn't done;
-  -- both stop at 2^64 - 1
+  -- the number of failed calls, and of calls reported done that weren't; both stop at 2^64 - 1
   pub faults : ℕ
   pub lies : ℕ
-  -- whether it, or a device below it, may ever report a success for what it hadn't done
+  -- whether it, or a device below it, may ever report a call done that wasn't
   pub can_lie : Bool
 
 -- the maximum of a count of faults or lies
@@ -42,12 +41,12 @@ pub record IsLawful (v : View) : Type 0 where
   pub few_sectors : v.size ≤ 1048576
   -- a crash may leave the content
   pub current : v.crash v.content
-  -- a content that a crash now may leave, a crash since any earlier reading may have left
+  -- if a crash now may leave a content, a crash since any earlier reading may have left it
   pub nested : (moment : ℕ) (left : Content) → moment ≤ v.moment → v.crash left
       → v.since moment left
-  -- a content that a crash since now may have left, a crash now may leave
+  -- if a crash since now may have left a content, a crash now may leave it
   pub only_now : (left : Content) → v.since v.moment left → v.crash left
-  -- each content that a crash left has whole sectors
+  -- each content that a crash may have left has whole sectors
   pub whole : (moment : ℕ) (left : Content) → moment ≤ v.moment → v.since moment left
       → HasWholeSectors v.size left
   pub faults : v.faults < 2 ^ 64

@@ -17,7 +17,8 @@ use bio::{DevError, Ms};
 /// A call begins at the time `now`, and an Ok returns the time of its end. The caller ensures that
 /// a range that is read, written or discarded is at least one whole sector, all within the device.
 /// A flush and FUA promise what Linux's Documentation/block/writeback_cache_control.rst asks of a
-/// device.
+/// device. The promises of a write, a discard or a flush that returns Ok hold if the call doesn't
+/// lie (`NoLie`): if it doesn't report work that wasn't done.
 pub trait BlockDev {
     /// The view of the device in contracts.
     ghost shown: { Self → View };
@@ -30,16 +31,16 @@ pub trait BlockDev {
     fn sectors(&self) -> u64
         ensures { result ≡ (shown self.now).size };
 
-    /// Reads whole sectors from `first` on. After an Ok the buffer has their bytes, and after an
-    /// error any bytes.
+    /// Reads whole sectors from `first` on. After an Ok the buffer has their bytes; after an error
+    /// it may have any bytes.
     fn read(&mut self, now: Ms, first: u64, buffer: &mut [u8]) -> Result<Ms, DevError>
         requires { IsByteRange (shown self.old).size first (length buffer.old) }
 
-        // The sectors' bytes are read.
+        // After an Ok, the buffer has the bytes of the sectors.
         ensures bytes { OnOk result
             (buffer.new ≡ gather (shown self.old).content first (length buffer.old / 512)) }
 
-        // Neither the content nor the contents that a crash may leave are changed.
+        // The call changes neither the content nor the contents that a crash may leave.
         ensures goes { DeviceFrame nothing (shown self.old) (shown self.new) }
         ensures stays { CrashSetKept (shown self.old) (shown self.new) }
 
@@ -47,54 +48,53 @@ pub trait BlockDev {
         ensures does { does self.old (Reads first buffer.old buffer.new) now result self.new };
 
     /// Writes whole sectors from `first` on. With `fua` they are durable at an Ok. After an error
-    /// each of these sectors holds its old value or its new one.
+    /// each of these sectors has its old value or its new one.
     fn write(&mut self, now: Ms, first: u64, bytes: &[u8], fua: bool) -> Result<Ms, DevError>
         requires { IsByteRange (shown self.old).size first (length bytes.now) }
 
-        // Whatever the result, some of the sectors have their new value, and the others their old
-        // one.
+        // Whatever the result, each of the sectors has its old value or its new one.
         ensures goes { DeviceFrame (writes first bytes.now) (shown self.old) (shown self.new) }
 
-        // After an Ok, all of them have the new value.
+        // After an Ok without a lie, all of them have the new value.
         ensures lands { OnOk result (NoLie (shown self.old) (shown self.new) →
             WriteDone (writes first bytes.now) fua (shown self.old) (shown self.new)) }
 
         ensures cause { HasCause now (shown self.old) (shown self.new) result }
         ensures does { does self.old (Writes first bytes.now fua) now result self.new };
 
-    /// Makes `count` sectors from `first` on zeroes, cached as a plain write is. After an error
-    /// each of these sectors holds its old value or zeroes.
+    /// Makes `count` sectors from `first` on zeroes, cached like a write without FUA. After an
+    /// error each of these sectors has its old value or zeroes.
     fn discard(&mut self, now: Ms, first: u64, count: u64) -> Result<Ms, DevError>
         requires { IsRange (shown self.old).size first count }
 
-        // Whatever the result, some of the sectors are zeroes, and the others have their old value.
+        // Whatever the result, each of the sectors has its old value or is zeroes.
         ensures goes { DeviceFrame (discards first count) (shown self.old) (shown self.new) }
 
-        // After an Ok, all of them are zeroes.
+        // After an Ok without a lie, all of them are zeroes.
         ensures lands { OnOk result (NoLie (shown self.old) (shown self.new) →
             WriteDone (discards first count) false (shown self.old) (shown self.new)) }
 
         ensures cause { HasCause now (shown self.old) (shown self.new) result }
         ensures does { does self.old (Discards first count) now result self.new };
 
-    /// Makes durable what was written: after an Ok a crash leaves the content.
+    /// Makes all earlier writes and discards durable: after an Ok a crash leaves the content.
     fn flush(&mut self, now: Ms) -> Result<Ms, DevError>
-        // Whatever the result, the content stays, and a crash may leave nothing new.
+        // Whatever the result, the content is unchanged, and a crash may leave nothing new.
         ensures goes { DeviceFrame nothing (shown self.old) (shown self.new) }
 
-        // After an Ok, a crash leaves the content.
+        // After an Ok without a lie, a crash leaves the content.
         ensures syncs { OnOk result
             (NoLie (shown self.old) (shown self.new) → FlushDone (shown self.new)) }
 
         ensures cause { HasCause now (shown self.old) (shown self.new) result }
         ensures does { does self.old Flushes now result self.new };
 
-    /// Returns how often the device, or one below it, failed; the count stops at 2^64 - 1.
+    /// Returns how many calls of the device, or of a device below, failed; at most 2^64 - 1.
     fn faults(&self) -> u64
         ensures { result ≡ (shown self.now).faults };
 
-    /// Returns how often the device, or one below it, reported a success for what it hadn't done;
-    /// the count stops at 2^64 - 1.
+    /// Returns how many calls of the device, or of a device below it, were reported done but
+    /// weren't; at most 2^64 - 1.
     fn lies(&self) -> u64
         ensures { result ≡ (shown self.now).lies };
 

@@ -1,13 +1,13 @@
-//! Laws of block devices, apart from the code: each function does nothing, and its clauses are the
-//! law. They state what a crash leaves of flushed and FUA writes, and of a call that it cuts.
+//! Laws of block devices: what a crash leaves of flushed and FUA writes, and of a call that it
+//! interrupts. Each function does nothing; its clauses are the law.
 ghost use Rattle.std.specs.Prelude.{◌≡◌, ◌<◌, ◌≤◌, Bool, List, None, true, ℕ};
 ghost use Rattle.blockdev.specs.Law.{DeviceFrame, IsTorn, WriteDone, FlushDone};
 ghost use Rattle.bio.specs.Content.{Content, HasBytes, HasWholeSectors, Patch, nothing, writes};
 
 use crate::BlockDev;
 
-/// A write that was done, and then flushed, is in whatever a crash leaves: the write ended well,
-/// the device satisfied the frame of the flush, and the flush ended well.
+/// If a write is done, and a flush that satisfies its frame is done after it, whatever a crash then
+/// leaves has the write's bytes.
 pub fn flushed_writes_outlive_crashes<D: BlockDev>()
     ensures { (before written flushed : D) (first : ℕ) (bytes : List ℕ) (fua : Bool)
         (left : Content) →
@@ -16,15 +16,15 @@ pub fn flushed_writes_outlive_crashes<D: BlockDev>()
         (D.shown flushed).crash left → HasBytes left first bytes }
 {}
 
-/// A write with FUA that was done is in whatever a crash leaves.
+/// If a write with FUA is done, whatever a crash then leaves has its bytes.
 pub fn fua_writes_outlive_crashes<D: BlockDev>()
     ensures { (before written : D) (first : ℕ) (bytes : List ℕ) (left : Content) →
         WriteDone (writes first bytes) true (D.shown before) (D.shown written) →
         (D.shown written).crash left → HasBytes left first bytes }
 {}
 
-/// A sector that has one value in whatever a crash leaves keeps it through each call that has no
-/// value for it.
+/// If a sector has the same value in whatever a crash leaves, it keeps this value through each call
+/// that has no value for it.
 pub fn durable_sectors_stay<D: BlockDev>()
     ensures { (before after : D) (patch : Patch) (sector : ℕ) (value : List ℕ) →
         DeviceFrame patch (D.shown before) (D.shown after) → patch sector ≡ None →
@@ -32,16 +32,16 @@ pub fn durable_sectors_stay<D: BlockDev>()
         (left : Content) → (D.shown after).crash left → left sector ≡ value }
 {}
 
-/// A call, even a failed one, tears at most its own sectors: each sector that a crash leaves after
-/// it is as a crash could leave it before, or has the call's value.
+/// A call, even a failed one, tears at most its own sectors. If a crash comes after it, each sector
+/// is as a crash could leave it before the call, or has the call's value.
 pub fn calls_tear_their_own_sectors<D: BlockDev>()
     ensures { (before after : D) (patch : Patch) (left : Content) →
         DeviceFrame patch (D.shown before) (D.shown after) → (D.shown after).crash left →
         IsTorn patch (D.shown before).crash left }
 {}
 
-/// A crash during a call tears at most its own sectors too: it leaves old content, with the call's
-/// values in some of its sectors.
+/// A crash during a call tears at most the call's own sectors too. It leaves a content that it
+/// could leave before, with the call's values in some of their sectors.
 pub fn calls_tear_their_own_sectors_at_any_moment<D: BlockDev>()
     ensures { (before after : D) (patch : Patch) (left : Content) →
         DeviceFrame patch (D.shown before) (D.shown after) →
@@ -49,8 +49,7 @@ pub fn calls_tear_their_own_sectors_at_any_moment<D: BlockDev>()
         IsTorn patch (D.shown before).crash left }
 {}
 
-/// Each content that a crash leaves has whole sectors of 512 bytes, and so has the device's
-/// content, which a crash may leave.
+/// Each content that a crash may leave has whole sectors of 512 bytes, and so has the content.
 pub fn crashes_leave_whole_sectors<D: BlockDev>()
     ensures crash { (device : D) (left : Content) → (D.shown device).crash left →
         HasWholeSectors (D.shown device).size left }

@@ -1,9 +1,9 @@
 //! The law of a block device: how a call changes its content, and what a crash may leave.
 //!
-//! `BlockDev` is the trait of all devices, and `Message` of those with a layer that takes messages.
-//! Contracts see a device as a `View` (`specs/View`). The records of `specs/Law` define what a call
-//! may do to it, and `Unchanged` (`specs/Messages`) that a message doesn't change it. `laws` has
-//! their laws.
+//! `BlockDev` is the trait of all devices. `Message` is the trait of devices with a layer that
+//! takes messages. Contracts see a device as a `View` (`specs/View`). The records of `specs/Law`
+//! define what a call may do to the view. By `Unchanged` (`specs/Messages`), a message doesn't
+//! change it. `laws` has the laws that follow.
 #![tactic(auto)]
 
 pub use device::BlockDev;

@@ -1,5 +1,5 @@
-//! Messages to a layer of a device, and why one is refused, which a script's run prints. A layer
-//! with bad blocks obeys them; a stack of layers passes each to the layer with its number.
+//! Messages to a layer of a device, and the errors that refuse a message. A layer with bad blocks
+//! obeys messages; a stack of layers passes each message to the layer with its number.
 ghost use Rattle.std.specs.Prelude.{◌≡◌, List, Result, ℕ};
 ghost use Rattle.blockdev.specs.Messages.{Unchanged, message_refusal};
 
@@ -11,17 +11,17 @@ use thiserror::Error;
 /// Why a message is refused.
 #[derive(Clone, Copy, Debug, PartialEq, Eq, Error)]
 pub enum MessageError {
-    /// The layer takes no such message, its block isn't
-    /// within the layer, or there is no such layer.
+    /// The layer takes no such message, the block isn't within the layer, or there is no such
+    /// layer.
     #[error("no such message")]
     BadMessage,
-    /// The block is listed as bad.
+    /// The block is already listed as bad.
     #[error("the block is listed as bad")]
     AlreadyBad,
     /// The block isn't listed as bad.
     #[error("the block isn't listed as bad")]
     NotBad,
-    /// There was no memory.
+    /// An allocation failed.
     #[error("no memory")]
     Memory,
 }
@@ -57,9 +57,9 @@ pub trait Message: BlockDev {
     /// result.
     ghost answers: { Self → ℕ → List ℕ → Result (Unit {0}) MessageError → Self → Type 0 };
 
-    /// Passes a message to a layer, counted from 1. Whatever the result, the content, the contents
-    /// that a crash may leave, and the counts of faults and lies stay as they are. The errors are
-    /// BadMessage, AlreadyBad, NotBad and Memory.
+    /// Passes a message to a layer; the layers are numbered from 1. Whatever the result, the
+    /// content, the contents that a crash may leave, and the counts of faults and lies are
+    /// unchanged. The errors are BadMessage, AlreadyBad, NotBad and Memory.
     fn message(&mut self, layer: u64, text: &str) -> Result<(), MessageError>
         ensures same { Unchanged (Self.shown self.old) (Self.shown self.new) }
         ensures answers { answers self.old layer text.now result self.new };

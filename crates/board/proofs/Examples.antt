@@ -1,4 +1,4 @@
--- Statuses that may follow one another, and some that may not; and what they are as numbers.
+-- Examples of statuses that may follow one another, of some that may not, and of their numbers.
 use Rattle.std.proofs.Common.{◌≡◌, Bool, true, false, true≢false, List, [], ◌∷◌, Some, None, refl}
 use Rattle.std.proofs.Common.{ap, arith}
 use Rattle.refusals.specs.declared.end.End.TheVariants.{Full, Device, Memory}

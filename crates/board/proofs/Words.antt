@@ -1,4 +1,4 @@
--- A status and its number stand for each other.
+-- Two statuses that fit have the same number only if they are equal.
 use Rattle.std.proofs.Common.{◌≡◌, ℕ, ◌+◌, ◌*◌, ◌≤◌, Option, Some, None, refl, arith}
 use Rattle.refusals.specs.declared.end.End.{End}
 use Rattle.refusals.specs.declared.end.End.TheVariants as ends

@@ -1,4 +1,5 @@
--- The rule of a board, and what a pass learns by each step.
+-- The rule of a board, and the change of a pass by each step. A pass is what the seat of the writer
+-- or of a reader knows.
 use Rattle.std.specs.Prelude.{◌≡◌, ℕ, List, [], ◌∷◌, ◌++◌, true, false}
 use mathlib.Core.Option.{some}
 use lib.ListN.{get_elem?}
@@ -8,7 +9,7 @@ use Rattle.bio.specs.declared.outcome.Status.{Status}
 use Rattle.board.specs.Posts.{last_of, word_of, IsFit, IsRising, Begins}
 use Rattle.board.specs.declared.rule.Knows.{Knows}
 
--- the name of no table
+-- a placeholder: the id of no table
 abbrev pub no_table : TableId
 no_table =
     record {
@@ -21,51 +22,51 @@ no_table =
       slot_names = [];
     }
 
--- the writer's pass, that knows all that was posted
+-- the writer's pass, if `seen` are all statuses that were posted
 abbrev pub writer_of : List Status → Knows
 writer_of seen = record { writes = true; seen = seen; told = [] }
 
--- a reader's pass, that knows what it has seen
+-- a reader's pass that has seen the statuses `seen`
 abbrev pub reader_of : List Status → Knows
 reader_of seen = record { writes = false; seen = seen; told = [] }
 
--- a pass that has learned what another has seen
+-- `pass` after it has learned what `other` has seen
 abbrev pub told_by : Knows → Knows → Knows
 told_by pass other = record { writes = pass.writes; seen = pass.seen; told = other.seen }
 
--- a reader's pass that has seen as much as this one
+-- a reader's pass that has seen as much as `pass`
 abbrev pub as_reader : Knows → Knows
 as_reader pass = reader_of pass.seen
 
--- the writer posts the status that the word says
+-- The writer posts: if the step stores the number of a status that fits, the writer's pass has this
+-- status as its last.
 abbrev pub Publishes : Step (Unit {0}) → Me (Unit {0}) Knows → ℕ → Me (Unit {0}) Knows → Type 0
 Publishes step before found after =
     (status : Status) → IsFit status → step.first ≡ word_of status
     → after ≡ (writer_of (before.0.seen ++ status ∷ []), [])
 
--- a reader sees all that was posted, which begins with what
--- it had seen; the word says the last of it
+-- A reader looks. What it has seen then begins with what it had seen before, and no status of it
+-- goes back. The number that the step finds is that of the last status.
 abbrev pub Looks : Step (Unit {0}) → Me (Unit {0}) Knows → ℕ → Me (Unit {0}) Knows → Type 0
 Looks step before found after =
     Begins before.0.seen after.0.seen × IsRising after.0.seen
     × (after ≡ (reader_of after.0.seen, [])) × (found ≡ word_of (last_of after.0.seen))
 
--- the writer compares what it has learned with what it posted
+-- The writer compares: what it has learned is a prefix of what it posted. Then it forgets it.
 abbrev pub Compares : Step (Unit {0}) → Me (Unit {0}) Knows → ℕ → Me (Unit {0}) Knows → Type 0
 Compares step before found after =
     Begins before.0.told before.0.seen × (after ≡ (writer_of before.0.seen, []))
 
--- What the rule says of one pass, if the writer's is at this
--- place and these statuses were posted.
+-- The rule for the pass at index `by`; the writer's is at `place`, and `statuses` were posted.
 pub record Fits (place : ℕ) (statuses : List Status) (by : ℕ) (pass : Knows) : Type 0 where
-  -- only one pass is the writer's, and it knows all that was posted
+  -- only the pass at `place` can be the writer's, which has seen all that was posted
   pub writes : pass.writes ≡ true → (by ≡ place) × (pass.seen ≡ statuses)
-  -- what was seen, and what was learned, is a prefix of that
+  -- what the pass has seen, and what it has learned, are prefixes of what was posted
   pub seen : Begins pass.seen statuses
   pub told : Begins pass.told statuses
 
--- The rule: the word is the last of a list of statuses that never goes back, and each pass has seen
--- a prefix of that list.
+-- The rule. The table's one word is the number of the last posted status, and no posted status goes
+-- back. Each pass has seen a prefix of the posted statuses.
 pub record IsPosted (words : List ℕ) (passes : List Knows) : Type 0 where
   pub place : ℕ
   pub statuses : List Status

@@ -1,10 +1,9 @@
-//! A board on which one writer posts the status of a log,
-//! and readers look at it. Nobody waits for anybody.
+//! A board on which one writer posts the status of a log, and readers look at it. No call waits.
 //!
-//! A status is one number in one shared word, so a reader never sees half of one. What is proved of
-//! readers is about lists: each reader has seen a prefix of what the writer posted, and a look
-//! makes that prefix longer or leaves it, and returns its last status. So no reader sees a
-//! status go back. No call waits, and none takes memory but the one that makes the board.
+//! A status is one number in one shared word, so a reader never sees a part of one. The clauses
+//! about readers are about lists. Each reader has seen a prefix of the statuses that the writer
+//! posted. A look leaves this prefix or makes it longer, and returns its last status. So no reader
+//! sees a status go back. Only the call that makes the board takes memory.
 #![tactic(auto)]
 
 ghost use Rattle.std.specs.Prelude.{◌≡◌, List, [], ◌∷◌, ◌++◌, Option, MatchBool};
@@ -20,8 +19,8 @@ use bio::{End, Status};
 use std::alloc::{AllocError, Global};
 use std::marker::{Brand, Model, PhantomData};
 
-/// Names a board. Each board has a name of its own, so
-/// the type of another board's seat doesn't fit.
+/// The name of a board, as a type. Each board has its own name, so the type of another board's seat
+/// doesn't fit.
 pub trait Names {
     ghost use Rattle.atomic_table.specs.Seated.{TableId};
 
@@ -34,8 +33,8 @@ impl Names for Brand {
     ghost board = { no_table };
 }
 
-/// A board with its writer's seat, which has the status of an empty log, and no name yet. Contracts
-/// see it as its table.
+/// A new board with its writer's seat, which has no name yet. Its status is that of an empty log.
+/// Contracts see it as the id of its table.
 #[derive(Drop)]
 pub struct Blank {
     post: Post,
@@ -58,7 +57,7 @@ impl Model for Blank {
         × (b.post.shared.table_id.words ≡ 1) × (b.pass.me ≡ (writer_of (opening ∷ []), [])) };
 }
 
-/// The board, that all share.
+/// A board, which the writer and the readers share.
 #[derive(Drop)]
 pub struct Board<N: Names> {
     post: Post,
@@ -111,14 +110,13 @@ impl<N: Names> Model for StatusSeat<N> {
 }
 
 impl Blank {
-    /// A board with no reader, which has the status of an
-    /// empty log. `Err` if there is no memory.
+    /// Makes a board with no reader and the status of an empty log. Lack of memory is an error.
     pub fn new(alloc: Global) -> Result<Blank, AllocError> {
         let (post, pass) = Post::of_words(alloc, &[0], &())?;
         Ok(Blank { post, pass })
     }
 
-    /// It gets its name.
+    /// Gives the board its name. Returns the board and its writer's seat.
     pub fn named<N: Names>(self) -> (Board<N>, WriterSeat<N>)
         requires { self ≡ N.board }
         ensures { result.1 ≡ opening ∷ [] }
@@ -142,14 +140,14 @@ impl Blank {
 }
 
 impl<N: Names> WriterSeat<N> {
-    /// The status that was posted last.
+    /// Returns the status that was posted last.
     pub fn last(&self) -> Status
         ensures { result ≡ last_of self.now }
     {
         self.last
     }
 
-    /// Whether this status may be posted next.
+    /// Returns whether the status may be posted next.
     pub fn may_publish(&self, status: Status) -> bool
         ensures { MatchBool result (MayPost self.now status) (MayPost self.now status → ⊥) }
     {
@@ -161,10 +159,10 @@ impl<N: Names> WriterSeat<N> {
     }
 }
 
-// The most sectors that a log has, and so the most entries.
+// The maximum number of a log's sectors, and of its entries.
 const MOST: u64 = 1_048_576;
 
-// Whether an end stays.
+// Returns whether `end` has the same cause as `last`, if `last` has one.
 fn keeps(last: Option<End>, end: Option<End>) -> bool
     ensures { MatchBool result (Stays last end) (Stays last end → ⊥) }
 {
@@ -175,7 +173,7 @@ fn keeps(last: Option<End>, end: Option<End>) -> bool
 }
 
 impl<N: Names> Board<N> {
-    /// A reader more, that has seen what the writer posted so far.
+    /// Makes the seat of a new reader, which has seen what the writer posted so far.
     pub fn reader(&self, writer: &mut WriterSeat<N>) -> StatusSeat<N>
         ensures { (result ≡ writer.old) × (writer.new ≡ writer.old) }
     {
@@ -185,8 +183,8 @@ impl<N: Names> Board<N> {
         }
     }
 
-    /// Posts a status, of a log of at most 1,048,576 sectors: with no fewer entries than the one
-    /// before, and an end that was posted stays.
+    /// Posts a status of a log of at most 1,048,576 sectors. It has at least as many entries as the
+    /// last one, and if that one had an end, the same end.
     pub fn publish(&self, writer: &mut WriterSeat<N>, status: Status)
         requires { MayPost writer.old status }
         ensures { writer.new ≡ writer.old ++ status ∷ [] }
@@ -196,9 +194,9 @@ impl<N: Names> Board<N> {
         writer.last = status;
     }
 
-    /// A status that was posted, and none older than any that this reader has had: the last of what
-    /// it has seen by then, which begins with all that it had seen before, and never goes back.
-    /// No clause says that none was posted since.
+    /// Returns the last status that the reader has then seen. That may be one that it saw before,
+    /// but none older. What it has seen begins with what it had seen before, and no status of it
+    /// goes back. It isn't proved that no newer status was posted.
     pub fn read(&self, mine: &mut StatusSeat<N>) -> Status
         ensures later { MayFollow (last_of mine.old) result }
         ensures begins { Begins mine.old mine.new }
@@ -208,7 +206,7 @@ impl<N: Names> Board<N> {
         status_of(self.post.shared.load::<Look>(&mut mine.pass, 0))
     }
 
-    /// What the reader has seen is a prefix of what the writer posted.
+    /// Shows to contracts that the reader has seen a prefix of what the writer posted.
     pub fn agree(&self, writer: &mut WriterSeat<N>, mine: &mut StatusSeat<N>)
         ensures same { (writer.new ≡ writer.old) × (mine.new ≡ mine.old) }
         ensures begins { Begins mine.old writer.old }

@@ -1,19 +1,20 @@
-// The rule over the passes of a board's writer and readers, and the steps that they take under it.
+// The rule for the passes of a board's writer and readers, and the steps that keep the rule.
 
 use atomic_table::{Join, Play, Split, Table, TableRule};
 use bio::Status;
 use std::alloc::Global;
 use std::collections::LinkedList;
 
-// What a pass knows: the statuses that it has seen, and those that it has learned from another
-// pass; the writer's has seen all. No value of it is made.
+// What the seat of a writer or a reader knows: the statuses that it has seen, and those that it has
+// learned from another pass. The writer's pass has seen all. No value of this type is made.
 pub struct Knows {
     pub writes: bool,
     pub seen: LinkedList<Status>,
     pub told: LinkedList<Status>,
 }
 
-// The word is the last of all statuses, of which each pass has seen a prefix.
+// The rule: the word is the number of the last posted status, and each pass has seen a prefix of
+// the posted statuses.
 pub struct Law;
 
 impl TableRule<(), Knows, ()> for Law {
@@ -55,7 +56,7 @@ impl Play<(), Knows> for Compare {
     ghost then = { Compares };
 }
 
-// A new pass has seen as much as another.
+// A new reader's pass has seen as much as the pass that it is split from.
 pub struct Copied;
 
 impl Split<Knows> for Copied {
@@ -66,7 +67,7 @@ impl Split<Knows> for Copied {
     ghost right = { as_reader };
 }
 
-// A pass learns what another has seen.
+// A pass learns what another pass has seen.
 pub struct Told;
 
 impl Join<Knows> for Told {

@@ -1,5 +1,5 @@
-// A status as one number: the entries from bit 26 on, the
-// sector from bit 5 on, and below it why logging ended.
+// A status as one number: the entries from bit 26 on, the sector from bit 5 on, and the number of
+// the end below it.
 ghost use Rattle.std.specs.Prelude.{◌≡◌, ◌≤◌, Option};
 ghost use Rattle.refusals.specs.declared.end.End.{End};
 ghost use Rattle.bio.specs.declared.outcome.Status.{Status as Said};
@@ -7,12 +7,12 @@ ghost use Rattle.board.specs.Posts.{IsFit, end_number, word_of as word_said};
 
 use bio::{End, Status};
 
-// What one entry adds to the number.
+// The amount by which one entry increases the number.
 const ENTRY: u64 = 67_108_864;
-// What one sector adds to it.
+// The amount by which one sector increases it.
 const SECTOR: u64 = 32;
 
-/// The number of a status.
+/// Returns the number of a status.
 pub fn word_of(status: Status) -> u64
     requires { IsFit status }
     ensures { result ≡ word_said status }
@@ -20,7 +20,7 @@ pub fn word_of(status: Status) -> u64
     status.entries * ENTRY + status.sector * SECTOR + number_of(status.end)
 }
 
-/// The status whose number this is.
+/// Returns the status with the number `word`.
 pub fn status_of(word: u64) -> Status
     ensures { (status : Said) → IsFit status → word ≡ word_said status → result ≡ status }
 {
@@ -31,7 +31,7 @@ pub fn status_of(word: u64) -> Status
     }
 }
 
-// The number of an end, below 32.
+// Returns the number of an end, below 32; 0 for no end.
 fn number_of(end: Option<End>) -> u64
     ensures is { result ≡ end_number end }
     ensures few { result ≤ 20 }
@@ -44,7 +44,7 @@ fn number_of(end: Option<End>) -> u64
     }
 }
 
-// The end whose number this is.
+// Returns the end with this number; none for any other number.
 fn end_of(number: u64) -> Option<End>
     ensures { (end : Option End) → number ≡ end_number end → result ≡ end }
 {

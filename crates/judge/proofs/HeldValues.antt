@@ -1,4 +1,4 @@
--- Noting the requests whose value a sector has and could hold.
+-- The effect of one sector on the list `held`, if its value fits and if it doesn't.
 use Rattle.std.proofs.Common.{◌≡◌, ℕ, suc, ◌<◌, ◌≤◌, Bool, true, false, not, ◌&&◌, Option, Some}
 use Rattle.std.proofs.Common.{None, List, length, set, refl, ap, sym, ◌∙◌, inl, inr, arith}
 use Rattle.std.proofs.lemmas.List.{length-set, get_or-set_same, get_or-set_other}

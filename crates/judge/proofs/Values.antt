@@ -1,4 +1,4 @@
--- The values that requests have for a sector.
+-- The value that a request has for a sector, as bytes of the request's data.
 use Rattle.std.proofs.Common.{◌≡◌, ℕ, ◌+◌, ◌-◌, ◌*◌, ◌/◌, ◌<◌, ◌≤◌, false, List, take, drop}
 use Rattle.std.proofs.Common.{replicate, ap, sym, ◌∙◌, inl, inr, arith}
 use Rattle.std.proofs.lemmas.List.{drop-replicate, take-replicate}

@@ -1,4 +1,4 @@
--- The account of a list of events and an image, sector by sector.
+-- An `Account` of a list of events and an image, from which the verdict follows.
 use Rattle.std.specs.Prelude.{◌≡◌, ℕ, zero, suc, ◌<◌, Bool, false, not, ◌&&◌, Option, Some, None}
 use Rattle.std.specs.Prelude.{List, length, get_or, slice_get, if◌then◌else◌}
 use Rattle.std.specs.Str.{bytes_eq}
@@ -8,29 +8,29 @@ use Rattle.bio.specs.Events.{end_of}
 use Rattle.bio.specs.Possible.{is_kept, is_replaced, values_at}
 use Rattle.judge.specs.declared.accounts.Account.{Account}
 
--- the last place below n that passes the test
+-- the last index below `n` that passes `test`
 abbrev pub last_below : (ℕ → Bool) → ℕ → Option ℕ
 last_below test zero = None
 last_below test (suc n) = if test n then Some n else last_below test n
 
--- the place that the list keeps for an index; none past its end
+-- the entry of `places` at `index`; none past the list's end
 abbrev pub place_at : List (Option ℕ) → ℕ → Option ℕ
 place_at places index = get_or places index None
 
--- the request has these bytes for the sector
+-- there is a value, and it is `bytes`
 abbrev pub is_value : Option (List ℕ) → List ℕ → Bool
 is_value None bytes = false
 is_value (Some value) bytes = bytes_eq value bytes
 
--- the sector has the value that the request of this place put there, and could hold it
+-- the sector has the value that the request `id` put there, and the request isn't replaced there
 abbrev pub is_held_from : List CoreEvent → Content → ℕ → ℕ → Bool
 is_held_from events now sector id =
     not (is_replaced events sector id)
     && is_value (values_at (slice_get events id) sector) (now sector)
 
--- the account of a content of this many sectors after these events: where each request ended, and
--- for each sector the last durable request over it and the last one whose value it has and could
--- hold
+-- The account of a content `now` of `sectors` sectors after the events. `ends` has the index of
+-- each request's end. `last` has, for each sector, the durable request over it that was submitted
+-- last. `held` has, for each sector, the last submitted request that passes `is_held_from`.
 pub record IsAccount (events : List CoreEvent) (now : Content) (sectors : ℕ)
     (account : Account) : Type 0 where
   pub last_size : length account.last.items ≡ sectors

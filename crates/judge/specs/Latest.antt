@@ -1,10 +1,10 @@
--- The submissions that decide what is durable.
+-- The flush that decides which requests are durable.
 use Rattle.std.specs.Prelude.{◌≡◌, ℕ, ◌≤◌, true, List, slice_get}
 use Rattle.bio.specs.declared.event.CoreEvent.{CoreEvent}
 use Rattle.bio.specs.Events.{is_flush_submit}
 use Rattle.bio.specs.Possible.{ended_ok}
 
--- the flush that ended with success and was submitted last
+-- `id` is the flush that was submitted last, of those that ended with success
 pub record IsLastFlush (events : List CoreEvent) (id : ℕ) : Type 0 where
   pub flush : is_flush_submit (slice_get events id) ≡ true
   pub ended : ended_ok events id ≡ true

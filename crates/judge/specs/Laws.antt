@@ -1,5 +1,4 @@
--- Laws of the last place that passes a test, and of the
--- durable request over a sector that was submitted last.
+-- Laws of `last_below`, `has_kept` and `is_held_from`.
 use Rattle.std.proofs.Common.{◌≡◌, ℕ, zero, suc, ◌<◌, ◌≤◌, Bool, true, false, not, ◌&&◌, ◌||◌}
 use Rattle.std.proofs.Common.{Option, Some, None, List, length, refl, ap, sym, ◌∙◌, inl, inr, arith}
 use Rattle.std.proofs.lemmas.Bool.{and_parts}
@@ -14,7 +13,7 @@ use Rattle.bio.specs.declared.event.CoreEvent.{CoreEvent}
 use Rattle.bio.specs.Possible.{covers_at, has_kept, is_durable, is_kept, is_replaced, values_at}
 use Rattle.judge.specs.Accounts.{is_held_from, is_value, last_below}
 
--- a place passes exactly if there is a last one
+-- Some index below `n` passes `test` exactly if `last_below` finds one.
 pub any_below-last : (test : ℕ → Bool) (n : ℕ) → any_below test n ≡ is_some (last_below test n)
 any_below-last test zero = refl
 any_below-last test (suc n) = elim (bool_cases (test n)) [
@@ -32,13 +31,13 @@ any_below-last test (suc n) = elim (bool_cases (test n)) [
     or_false true = refl
     or_false false = refl
 
--- the place is the last one below n that passes the test
+-- `place` is the last index below `n` that passes `test`
 pub record IsLast (test : ℕ → Bool) (n place : ℕ) : Type 0 where
   pub within : place < n
   pub here : test place ≡ true
   pub last : (k : ℕ) → k < n → test k ≡ true → k ≤ place
 
--- what is found is the last
+-- If `last_below` finds `p`, `p` is the last index below `n` that passes.
 pub last_below-found : (test : ℕ → Bool) (n p : ℕ) → last_below test n ≡ Some p → IsLast test n p
 last_below-found test zero p e = cc
 last_below-found test (suc n) p e = elim (bool_cases (test n)) [
@@ -65,16 +64,16 @@ last_below-found test (suc n) p e = elim (bool_cases (test n)) [
       }
 ]
 
--- if no last place is found, none passes
+-- If `last_below` finds none, no index below `n` passes.
 pub none_passes : (test : ℕ → Bool) (n : ℕ) → last_below test n ≡ None → any_below test n ≡ false
 none_passes test n none = any_below-last test n ∙ ap is_some none
 
--- some durable request covers the sector exactly if there is a last one
+-- Some durable request covers the sector exactly if `last_below` finds one.
 pub kept_last : (events : List CoreEvent) (sector : ℕ)
     → has_kept events sector ≡ is_some (last_below (is_kept events sector) (length events))
 kept_last events sector = any_below-last (is_kept events sector) (length events)
 
--- a durable request over a sector is among the events
+-- If a durable request covers a sector, its index is within the list of events.
 pub kept_within : (events : List CoreEvent) (sector id : ℕ) → is_kept events sector id ≡ true
     → id < length events
 kept_within events sector id kept = elim (option_cases (slice_get events id)) [
@@ -85,31 +84,30 @@ kept_within events sector id kept = elim (option_cases (slice_get events id)) [
   | inr some ↦ slice_get-within events id some.0 some.1
 ]
 
--- bytes that are found equal are one
+-- If `bytes_eq` answers true, the bytes are equal.
 pub equal_bytes : (xs ys : List ℕ) → bytes_eq xs ys ≡ true → xs ≡ ys
 equal_bytes xs ys e = (bytes_eq-Decides xs ys).0 e
 
--- and bytes that are one are found equal
+-- If the bytes are equal, `bytes_eq` answers true.
 pub same_bytes : (xs ys : List ℕ) → xs ≡ ys → bytes_eq xs ys ≡ true
 same_bytes xs ys e = (bytes_eq-Decides xs ys).1 e
 
--- a value that is found equal is the value
+-- If `is_value` holds, the value is `bytes`.
 pub value_is : (value : Option (List ℕ)) (bytes : List ℕ) → is_value value bytes ≡ true
     → value ≡ Some bytes
 value_is None bytes e = cc
 value_is (Some value) bytes e = ap (λ (xs : List ℕ). Some xs) (equal_bytes value bytes e)
 
--- and it is found equal
+-- If the value is `bytes`, `is_value` holds.
 pub is_value_found : (value : Option (List ℕ)) (bytes : List ℕ) → value ≡ Some bytes
     → is_value value bytes ≡ true
 is_value_found value bytes e = ap (λ v. is_value v bytes) e ∙ same_bytes bytes bytes refl
 
--- what isn't so
 not_true : (b : Bool) → not b ≡ true → b ≡ false
 not_true true e = cc
 not_true false e = refl
 
--- a request that has a value is among the events
+-- If a request has a value for the sector, its index is within the list of events.
 pub stands_within : (events : List CoreEvent) (sector id : ℕ) (value : List ℕ)
     → values_at (slice_get events id) sector ≡ Some value → id < length events
 stands_within events sector id value is = elim (option_cases (slice_get events id)) [
@@ -118,8 +116,7 @@ stands_within events sector id value is = elim (option_cases (slice_get events i
   | inr some ↦ slice_get-within events id some.0 some.1
 ]
 
--- if a sector has a request's value, and could hold it,
--- that is its value, and the request isn't replaced
+-- If `is_held_from` holds, the sector has the request's value, and it isn't replaced there.
 pub held-parts : (events : List CoreEvent) (now : Content) (sector id : ℕ)
     → is_held_from events now sector id ≡ true
     → (values_at (slice_get events id) sector ≡ Some (now sector))
@@ -132,7 +129,7 @@ held-parts events now sector id held =
       not_true (is_replaced events sector id) parts.0,
     )
 
--- and the other way round
+-- If the sector has the request's value, and it isn't replaced there, `is_held_from` holds.
 pub parts-held : (events : List CoreEvent) (now : Content) (sector id : ℕ)
     → values_at (slice_get events id) sector ≡ Some (now sector)
     → is_replaced events sector id ≡ false → is_held_from events now sector id ≡ true
@@ -140,7 +137,7 @@ parts-held events now sector id value stays =
     ap (λ b. not b && is_value (values_at (slice_get events id) sector) (now sector)) stays
     ∙ is_value_found (values_at (slice_get events id) sector) (now sector) value
 
--- some request has its value held by the sector exactly if a last one is found
+-- If the sector has a request's value that isn't replaced there, some event passes `is_held_from`.
 pub held_somewhere : (events : List CoreEvent) (now : Content) (sector id : ℕ)
     → values_at (slice_get events id) sector ≡ Some (now sector)
     → is_replaced events sector id ≡ false

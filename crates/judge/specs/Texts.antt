@@ -1,15 +1,15 @@
--- What a user reads of a verdict.
+-- How a verdict is printed.
 use Rattle.std.specs.Prelude.{ℕ, List, ◌++◌, Option, Some, None, codes}
 use Rattle.std.specs.Fmt.{decimal}
 use Rattle.judge.specs.declared.verdict.Verdict.{Verdict}
 use Rattle.judge.specs.declared.verdict.Verdict.TheVariants.{Yes, No}
 
--- what rules a sector's value out: the durable request of this place, or that none put it there
+-- why the sector fails: the durable request that rules its value out, or that there is none
 abbrev pub reason_text : Option ℕ → List ℕ
 reason_text None = codes "holds no submitted value"
 reason_text (Some id) = codes "ruled out by event " ++ decimal id
 
--- a verdict is shown by the sector that fails, and what rules its value out
+-- yes, or no with the lowest sector that fails and the reason
 abbrev pub verdict_text : Verdict → List ℕ
 verdict_text Yes = codes "yes"
 verdict_text (No sector by) = codes "no sector " ++ decimal sector ++ codes " " ++ reason_text by

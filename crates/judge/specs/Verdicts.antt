@@ -1,4 +1,4 @@
--- What a verdict on an image says.
+-- What a verdict on an image means.
 use Rattle.std.specs.Prelude.{◌≡◌, ℕ, ◌<◌, ◌≤◌, true, false, Option, Some, None, List}
 use Rattle.bio.specs.Content.{Content}
 use Rattle.bio.specs.declared.event.CoreEvent.{CoreEvent}
@@ -6,18 +6,18 @@ use Rattle.bio.specs.Possible.{Possible, PossibleAt, has_kept, is_kept}
 use Rattle.judge.specs.declared.verdict.Verdict.{Verdict}
 use Rattle.judge.specs.declared.verdict.Verdict.TheVariants.{Yes, No}
 
--- the durable request over the sector that was submitted last
+-- `id` is the durable request over `sector` that was submitted last
 pub record IsLastKept (events : List CoreEvent) (sector id : ℕ) : Type 0 where
   pub kept : is_kept events sector id ≡ true
   pub last : (later : ℕ) → is_kept events sector later ≡ true → later ≤ id
 
--- what rules the sector's value out: the durable request over it that was submitted last; none
--- if no durable request covers it
+-- what rules out a value of `sector`: the durable request over it that was submitted last; none if
+-- no durable request covers it
 abbrev pub IsRuledOutBy : List CoreEvent → ℕ → Option ℕ → Type 0
 IsRuledOutBy events sector None = has_kept events sector ≡ false
 IsRuledOutBy events sector (Some id) = IsLastKept events sector id
 
--- the sector is the lowest whose value the device could not hold, and that is what rules it out
+-- `sector` is the lowest whose value the device could not hold, and `by` rules this value out
 pub record FailsAt (events : List CoreEvent) (first now : Content) (sectors sector : ℕ)
     (by : Option ℕ) : Type 0 where
   pub within : sector < sectors
@@ -25,7 +25,8 @@ pub record FailsAt (events : List CoreEvent) (first now : Content) (sectors sect
   pub lowest : (lower : ℕ) → lower < sector → PossibleAt events first now lower
   pub ruled_out : IsRuledOutBy events sector by
 
--- the verdict on an image of this many sectors after these events
+-- what a verdict means for an image `now` of `sectors` sectors after the events, if `first` was
+-- there before them
 abbrev pub IsVerdict : ℕ → List CoreEvent → Content → Content → Verdict → Type 0
 IsVerdict sectors events first now Yes = Possible events first now
 IsVerdict sectors events first now (No sector by) = FailsAt events first now sectors sector by

@@ -1,5 +1,5 @@
-//! The account of events and an image, sector by sector, and the verdict on the image that follows
-//! from it. `could_hold` makes one account and asks for its verdict.
+//! The account of a list of events and an image, and the verdict that follows from it. `could_hold`
+//! makes an account, then asks for the verdict.
 ghost use Rattle.std.specs.Prelude.{◌≡◌, ◌/◌, ◌%◌, ◌<◌, IfOk, List, length, true};
 ghost use Rattle.bio.specs.declared.event.CoreEvent.{CoreEvent};
 ghost use Rattle.bio.specs.Lawful.{is_lawful};
@@ -18,22 +18,21 @@ use crate::verdict::Verdict;
 use bio::{CoreEvent, Id};
 use std::alloc::{AllocError, Global};
 
-/// The account of a list of events and an image. Places are those of events, counted from 0.
+/// The account of a list of events and an image. An event is named by its index, from 0.
 #[derive(Debug, Drop)]
 pub struct Account {
-    /// For each request, by the place of its submission, the place of its end.
+    /// For each request, by the index of its submission: the index of its end.
     pub ends: Vec<Option<usize>>,
-    /// For each sector the durable request over it that was submitted last.
+    /// For each sector: the durable request over it that was submitted last.
     pub last: Vec<Option<usize>>,
-    /// For each sector the request, of those whose value it
-    /// has and could still hold, that was submitted last.
+    /// For each sector: the last submitted request whose value the sector has and could still hold.
     pub held: Vec<Option<usize>>,
 }
 
 impl Account {
-    /// The account of an image, had power failed after these events. Takes memory of 32 bytes for
-    /// each sector of the image and 16 for each event, and time by the sum of the sectors that the
-    /// requests cover. Lack of memory is the only error.
+    /// Makes the account of an image, had power failed after these events. Takes 32 bytes of memory
+    /// for each sector of the image and 16 for each event. Takes time proportional to the sum of
+    /// the sectors that the requests cover. Lack of memory is the only error.
     pub fn of(alloc: Global, events: &[CoreEvent], image: &[u8]) -> Result<Account, AllocError>
         ensures { IfOk result (IsAccount events.now (sector_of image.now)
             (length image.now / 512)) }
@@ -45,7 +44,7 @@ impl Account {
     }
 
     /// Returns the verdict on the image of this account, if `first` was on the device before the
-    /// first event. The image is whole sectors of 512 bytes, and `first` has as many.
+    /// first event. The image is whole sectors of 512 bytes, and `first` has as many bytes.
     pub fn verdict(&self, first: First, image: &[u8]) -> Verdict
         requires whole { length image.now % 512 ≡ 0 }
         requires same { IsFirstOf (length image.now) first }
@@ -57,21 +56,21 @@ impl Account {
         lowest_failing(&self.held, &self.last, first, image)
     }
 
-    /// Returns the place of the end of the request of this place.
+    /// Returns the index of the end of the request that was submitted at index `id`, if it ended.
     pub fn end(&self, id: usize) -> Option<usize>
         ensures { result ≡ place_at self.now.ends.items id }
     {
         end_at(&self.ends, id)
     }
 
-    /// The durable request over the sector that was submitted last.
+    /// Returns the durable request over the sector that was submitted last, if any.
     pub fn last_over(&self, sector: usize) -> Option<usize>
         ensures { result ≡ place_at self.now.last.items sector }
     {
         end_at(&self.last, sector)
     }
 
-    /// The latest request, of those whose value the sector has and could still hold.
+    /// Returns the last submitted request whose value the sector has and could still hold, if any.
     pub fn held_from(&self, sector: usize) -> Option<usize>
         ensures { result ≡ place_at self.now.held.items sector }
     {
@@ -79,7 +78,7 @@ impl Account {
     }
 }
 
-// Whether a sector of an image has its first value.
+// Returns whether a sector of the image has its first value.
 #[tactic(auto, using(crate::proofs::Values::zero_sector))]
 fn has_first(first: First, image: &[u8], sector: usize) -> bool
     requires within { sector < length image.now / 512 }
@@ -94,7 +93,7 @@ fn has_first(first: First, image: &[u8], sector: usize) -> bool
     }
 }
 
-// Whether the sector has its first value, and no durable request covers it.
+// Returns whether the sector has its first value, and no durable request covers it.
 fn is_at_first(last: &[Option<usize>], first: First, image: &[u8], sector: usize) -> bool
     requires within { sector < length image.now / 512 }
     requires same { IsFirstOf (length image.now) first }
@@ -104,8 +103,8 @@ fn is_at_first(last: &[Option<usize>], first: First, image: &[u8], sector: usize
     end_at(last, sector).is_none() && has_first(first, image, sector)
 }
 
-// Whether the sector holds the value of a request, or has
-// its first value and no durable request covers it.
+// Returns whether the sector has the value of a request in `held`, or has its first value and no
+// durable request covers it.
 fn is_fine(
     held: &[Option<usize>],
     last: &[Option<usize>],
@@ -121,7 +120,7 @@ fn is_fine(
     end_at(held, sector).is_some() || is_at_first(last, first, image, sector)
 }
 
-// The durable request over the sector that was submitted last.
+// Returns the durable request over the sector that was submitted last, if any.
 fn last_over(last: &[Option<usize>], sector: usize) -> Option<Id>
     ensures { result ≡ place_at last.now sector }
 {
@@ -131,7 +130,7 @@ fn last_over(last: &[Option<usize>], sector: usize) -> Option<Id>
     }
 }
 
-// The lowest sector that neither holds the value of a request nor is as it was at first.
+// Returns no with the lowest sector that isn't fine, or yes if all sectors are fine.
 fn lowest_failing(
     held: &[Option<usize>],
     last: &[Option<usize>],

@@ -1,5 +1,5 @@
-//! Where each request of an event list ended, in one pass; whether it succeeded or came before
-//! another. `Account::of` begins with it.
+//! Finds the end of each request of an event list, in one pass. Tests whether a request succeeded,
+//! and whether it ended before another. `Account::of` begins with this pass.
 ghost use Rattle.std.specs.Prelude.{◌≡◌, ◌==◌, ◌&&◌, ◌≤◌, IfOk, Some, length, nat_lt, ℕ};
 ghost use Rattle.bio.specs.Events.{is_end_of};
 ghost use Rattle.bio.specs.Possible.{ended_ok, is_success};
@@ -10,7 +10,7 @@ ghost use Rattle.judge.specs.inside.Last.{AreEnds, is_below_last};
 use bio::CoreEvent;
 use std::alloc::{AllocError, Global};
 
-/// Returns, for the place of each request's submission, the place of its end.
+/// Returns, for each index of a submission, the index of the request's end.
 pub fn ends_of(alloc: Global, events: &[CoreEvent]) -> Result<Vec<Option<usize>>, AllocError>
     ensures { IfOk result (λ ends. AreEnds events.now (length events.now) ends.items) }
 {
@@ -21,7 +21,7 @@ pub fn ends_of(alloc: Global, events: &[CoreEvent]) -> Result<Vec<Option<usize>>
     Ok(ends)
 }
 
-// Notes where a request ended, if the event is its end.
+// Records the index `place` of the event, if the event ends a request.
 fn note_event(ends: &mut Vec<Option<usize>>, event: &CoreEvent, place: usize)
     requires { place ≤ length ends.old.items }
     ensures size { length ends.new.items ≡ length ends.old.items }
@@ -34,7 +34,7 @@ fn note_event(ends: &mut Vec<Option<usize>>, event: &CoreEvent, place: usize)
     }
 }
 
-// Notes the end of a request, if it is the first one.
+// Records the end of a request at index `place`, if it is the first end after the submission.
 fn note_end(ends: &mut Vec<Option<usize>>, id: u64, place: usize)
     requires { place ≤ length ends.old.items }
     ensures size { length ends.new.items ≡ length ends.old.items }
@@ -47,14 +47,14 @@ fn note_end(ends: &mut Vec<Option<usize>>, id: u64, place: usize)
     }
 }
 
-// Whether the event is an end with success.
+// Returns whether the event is an end with success.
 fn is_success(event: &CoreEvent) -> bool
     ensures { result ≡ is_success (Some event.now) }
 {
     matches!(event, CoreEvent::Complete { ok: true, .. })
 }
 
-/// Whether the request of this place ended with success.
+/// Returns whether the request that was submitted at index `id` ended with success.
 pub fn ended_ok(events: &[CoreEvent], ends: &[Option<usize>], id: usize) -> bool
     requires { AreEnds events.now (length events.now) ends.now }
     ensures { result ≡ ended_ok events.now id }
@@ -68,14 +68,14 @@ pub fn ended_ok(events: &[CoreEvent], ends: &[Option<usize>], id: usize) -> bool
     }
 }
 
-/// Returns the place of the end of the request of this place.
+/// Returns the entry of `ends` at `id`: the index of the request's end, if it ended.
 pub fn end_at(ends: &[Option<usize>], id: usize) -> Option<usize>
     ensures { result ≡ place_at ends.now id }
 {
     ends.get(id).copied().flatten()
 }
 
-/// Whether a request ended before the submission of a later one; of none, it didn't.
+/// Returns whether `end` is before `later`; false if either is none.
 pub fn is_before(end: Option<usize>, later: Option<usize>) -> bool
     ensures { result ≡ is_below_last end later }
 {

@@ -1,10 +1,10 @@
-// The first content, before any event.
+// `First`: the content that the judge assumes before the first event.
 
-/// What was on a device before the first event.
+/// The content of a device before the first event.
 #[derive(Clone, Copy, Debug)]
 pub enum First<'a> {
     /// Zeroes in each sector.
     Zeroes,
-    /// What this image has: whole sectors of 512 bytes, as many as the device has.
+    /// The content of this image: whole sectors of 512 bytes, as many as the device has.
     Image(&'a [u8]),
 }

@@ -1,5 +1,5 @@
-//! For each sector of an image, the latest request whose value it has and could
-//! still hold. `Account::of` ends with it.
+//! Finds, for each sector of an image, the last submitted request whose value it has and could
+//! still hold. `Account::of` ends with this pass.
 ghost use Rattle.std.specs.Prelude.{◌≡◌, ◌&&◌, ◌<◌, ◌≤◌, ◌⊎◌, ◌+◌, ◌*◌, ◌/◌, IfOk};
 ghost use Rattle.std.specs.Prelude.{MatchOption, Option, Some, if◌then◌else◌, length};
 ghost use Rattle.std.specs.Prelude.{ℕ};
@@ -15,10 +15,10 @@ use crate::kept::covered;
 use bio::{Bio, CoreEvent, SECTOR_BYTES};
 use std::alloc::{AllocError, Global};
 
-/// A sector's size in bytes.
+/// The size of a sector in bytes.
 pub const SECTOR: usize = SECTOR_BYTES as usize;
 
-/// The bytes of a sector of an image.
+/// Returns the bytes of a sector of an image.
 #[tactic(auto, using(crate::proofs::Values::part_is_sector))]
 pub fn sector_bytes(image: &[u8], sector: usize) -> &[u8]
     requires { sector < length image.now / 512 }
@@ -28,7 +28,7 @@ pub fn sector_bytes(image: &[u8], sector: usize) -> &[u8]
     &image[from..from + SECTOR]
 }
 
-/// The place of a sector in a range, counted from 0; none outside it.
+/// Returns the index of a sector among the `count` sectors from `first` on; none if it isn't there.
 pub fn place_in(first: u64, count: u64, sector: usize) -> Option<usize>
     ensures { MatchOption result ((sector < first) ⊎ (first + count ≤ sector))
         (λ place. (sector ≡ first + place) × (place < count)) }
@@ -40,7 +40,7 @@ pub fn place_in(first: u64, count: u64, sector: usize) -> Option<usize>
     Some((sector - first) as usize)
 }
 
-// Whether a write has these bytes for the sector.
+// Returns whether a write puts exactly the bytes `value` in the sector.
 #[tactic(auto, using(crate::proofs::Values::no_value, crate::proofs::Values::some_value))]
 fn writes_value(first: u64, bytes: &[u8], sector: usize, value: &[u8]) -> bool
     ensures { result ≡ is_value (writes first bytes.now sector) value.now }
@@ -51,7 +51,7 @@ fn writes_value(first: u64, bytes: &[u8], sector: usize, value: &[u8]) -> bool
     }
 }
 
-// Whether a discard has these bytes for the sector: zeroes.
+// Returns whether a discard covers the sector, and `value` is zeroes.
 #[tactic(auto, using(crate::proofs::Values::no_value, crate::proofs::Values::some_value))]
 fn discards_value(first: u64, count: u64, sector: usize, value: &[u8]) -> bool
     ensures { result ≡ is_value (discards first count sector) value.now }
@@ -62,7 +62,7 @@ fn discards_value(first: u64, count: u64, sector: usize, value: &[u8]) -> bool
     }
 }
 
-// Whether a request has these bytes for the sector.
+// Returns whether the request puts exactly the bytes `value` in the sector.
 fn bio_value(bio: &Bio, sector: usize, value: &[u8]) -> bool
     ensures { result ≡ is_value (values_of bio.now sector) value.now }
 {
@@ -73,7 +73,7 @@ fn bio_value(bio: &Bio, sector: usize, value: &[u8]) -> bool
     }
 }
 
-// Whether the event submits a request that has these bytes for the sector.
+// Returns whether the event submits a request that puts exactly the bytes `value` in the sector.
 fn has_value(event: &CoreEvent, sector: usize, value: &[u8]) -> bool
     ensures { result ≡ is_value (values_at (Some event.now) sector) value.now }
 {
@@ -83,8 +83,8 @@ fn has_value(event: &CoreEvent, sector: usize, value: &[u8]) -> bool
     }
 }
 
-// Whether the sector could hold the value that the event's request put there, if the request ended
-// at this place and this is the last durable request over the sector.
+// Returns whether the sector has the value of the event's request, and could still hold it. `end`
+// is the index of the request's end. `last` has the last durable request over each sector.
 fn fits(
     event: &CoreEvent,
     end: Option<usize>,
@@ -98,7 +98,7 @@ fn fits(
     !is_before(end, end_at(last, sector)) && has_value(event, sector, sector_bytes(image, sector))
 }
 
-// Gives the sectors from the one to before the other that fit the place of the event.
+// Sets the entries of `held` to `place`, for the sectors of the range that pass `fits`.
 #[tactic(auto, using(crate::proofs::HeldValues::fit_here, crate::proofs::HeldValues::fit_not))]
 fn hold_range(
     held: &mut Vec<Option<usize>>,
@@ -123,8 +123,7 @@ fn hold_range(
     }
 }
 
-// Gives each sector that could hold the value that the
-// event's request put there the place of the event.
+// Sets the entries of `held` to `place`, for the sectors that pass `fits`.
 fn hold_values(
     held: &mut Vec<Option<usize>>,
     place: usize,
@@ -143,8 +142,8 @@ fn hold_values(
     hold_range(held, place, event, end, last, image, range);
 }
 
-/// For each sector of the image the latest request that put the value there that it has, and whose
-/// value the device could still hold.
+/// Returns, for each sector of the image, the last submitted request whose value it has and could
+/// still hold.
 pub fn held_values(
     alloc: Global,
     events: &[CoreEvent],

@@ -1,4 +1,4 @@
-//! Judges an image: `could_hold` says whether a device could have held it, had power failed then.
+//! Judges an image: could a device have held it, had power failed after some events?
 ghost use Rattle.std.specs.Prelude.{◌≡◌, ◌/◌, ◌%◌, IfOk, length, take, true};
 ghost use Rattle.bio.specs.Lawful.{is_lawful};
 ghost use Rattle.bio.specs.Content.{sector_of};
@@ -12,17 +12,18 @@ use bio::CoreEvent;
 use std::alloc::{AllocError, Global};
 use std::cmp;
 
-/// Whether a device could have held the image, had power failed after the first `moment` of the
-/// events, if `first` was on it before the first event. `events` is a list that a recorder of the
-/// device may have recorded (`is_lawful`); a later moment than its last counts as all of them. The
-/// image has the device's length in bytes, whole sectors of 512.
+/// Judges whether a device could have held the image, had power failed after the first `moment`
+/// events. `first` is the content before the first event. `events` is a list that a recorder of the
+/// device may have recorded (`is_lawful`). A `moment` past the last event counts as all of them.
+/// The image has the device's length in bytes, whole sectors of 512.
 ///
 /// A sector could hold its first value if no durable request covers it. It could hold the value of
-/// a submitted request, unless that ended before the submission of a durable one over the sector. A
-/// request is durable if it ended with success, and has FUA or ended before the submission of a
-/// flush that ended with success. Takes memory of 32 bytes for each sector and 16
-/// for each event, and time by the sum of the sectors that the requests cover. Lack of memory is
-/// the only error.
+/// a submitted request, unless that request ended before a durable request over the sector was
+/// submitted. A request is durable if it ended with success, and either has FUA or ended before the
+/// submission of a flush that ended with success.
+///
+/// Takes 32 bytes of memory for each sector and 16 for each event. Takes time proportional to the
+/// sum of the sectors that the requests cover. Lack of memory is the only error.
 pub fn could_hold(
     alloc: Global,
     events: &[CoreEvent],
@@ -41,7 +42,7 @@ pub fn could_hold(
     Ok(Account::of(alloc, events, image)?.verdict(first, image))
 }
 
-/// The first `moment` of the events; all of them for a later moment than their last.
+/// Returns the first `moment` events; all of them if there are fewer.
 pub fn beginning(events: &[CoreEvent], moment: u64) -> &[CoreEvent]
     ensures { result.now ≡ take moment events.now }
 {

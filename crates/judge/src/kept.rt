@@ -1,4 +1,5 @@
-//! For each sector, the durable request over it that was submitted last: it rules out older values.
+//! Finds, for each sector, the durable request over it that was submitted last. This request rules
+//! out older values.
 ghost use Rattle.std.specs.Prelude.{◌≡◌, ◌&&◌, ◌<◌, ◌≤◌, IfOk, Some, false, true, length};
 ghost use Rattle.std.specs.Prelude.{slice_get, ℕ};
 ghost use Rattle.bio.specs.declared.event.CoreEvent.TheVariants.{Submit};
@@ -11,7 +12,7 @@ use bio::{Bio, CoreEvent};
 use std::alloc::{AllocError, Global};
 use std::cmp;
 
-// The latest submission of a flush that ended with success.
+// Returns the last submitted flush that ended with success.
 fn last_flush(events: &[CoreEvent], ends: &[Option<usize>]) -> Option<usize>
     requires { AreEnds events.now (length events.now) ends.now }
     ensures { result ≡ last_below (is_sure_flush events.now) (length events.now) }
@@ -25,8 +26,8 @@ fn last_flush(events: &[CoreEvent], ends: &[Option<usize>]) -> Option<usize>
     last
 }
 
-// Whether the request that this event submits is durable: it ended with success, and has FUA or
-// ended before the latest submission of a flush that ended with success.
+// Returns whether the request that the event submits is durable. It ended with success, and it has
+// FUA or ended before the submission of `flush`, the last submitted flush that ended with success.
 #[tactic(auto, using(crate::proofs::Last::flushed_last))]
 fn is_durable(
     events: &[CoreEvent],
@@ -43,8 +44,8 @@ fn is_durable(
     ended_ok(events, ends, place) && (event.submits_fua() || is_before(end_at(ends, place), flush))
 }
 
-/// The sectors that the event puts a value in, among the
-/// first `sectors`: from the one to before the other.
+/// Returns the range of the sectors that the event puts a value in, among the first `sectors`: the
+/// first of them, and the one after the last.
 pub fn covered(event: &CoreEvent, sectors: usize) -> (usize, usize)
     ensures { AreCovered (Some event.now) sectors result.0 result.1 }
 {
@@ -54,7 +55,7 @@ pub fn covered(event: &CoreEvent, sectors: usize) -> (usize, usize)
     }
 }
 
-// The sectors that a request puts a value in.
+// As above, for a request.
 fn covered_by(bio: &Bio, sectors: usize) -> (usize, usize)
     ensures { AreCovered (Some (Submit bio.now)) sectors result.0 result.1 }
 {
@@ -66,7 +67,7 @@ fn covered_by(bio: &Bio, sectors: usize) -> (usize, usize)
     (cmp::min(first as usize, end), end)
 }
 
-/// For each sector the durable request over it that was submitted last.
+/// Returns, for each sector, the durable request over it that was submitted last.
 #[tactic(auto, using(crate::proofs::Last::last_kept_durable, crate::proofs::Last::last_kept_other))]
 pub fn last_kept(
     alloc: Global,
@@ -87,7 +88,7 @@ pub fn last_kept(
     Ok(last)
 }
 
-// Notes a durable request for each sector that it covers.
+// Sets the entries of `last` to `place`, for the sectors that the event's request covers.
 #[tactic(auto, using(crate::proofs::Last::covered_in, crate::proofs::Last::covered_out))]
 fn note_kept(last: &mut Vec<Option<usize>>, event: &CoreEvent, place: usize)
     ensures size { length last.new.items ≡ length last.old.items }
@@ -102,7 +103,7 @@ fn note_kept(last: &mut Vec<Option<usize>>, event: &CoreEvent, place: usize)
     put_place(last, from, to, place);
 }
 
-// Gives the sectors from the one to before the other this place.
+// Sets the entries of `last` to `place`, from `from` to before `to`.
 fn put_place(last: &mut Vec<Option<usize>>, from: usize, to: usize, place: usize)
     requires order { from ≤ to }
     requires within { to ≤ length last.old.items }

@@ -1,5 +1,4 @@
-//! Decides whether a recorder may have recorded a list of events: `is_lawful`,
-//! which `could_hold` requires.
+//! Decides whether a recorder may have recorded a list of events. `could_hold` requires this.
 ghost use Rattle.std.specs.Prelude.{◌≡◌, ◌<◌, Some, is_none, length, slice_get};
 ghost use Rattle.bio.specs.Events.{end_of, is_close, is_end_of, is_open_at, is_request, is_stop};
 ghost use Rattle.bio.specs.Lawful.{can_follow, has_no_close, has_no_stop, is_lawful, is_recording};
@@ -8,15 +7,16 @@ ghost use Rattle.bio.specs.Places.{all_below};
 
 use bio::{CoreEvent, check};
 
-/// Whether the events are a list that a recorder of a device of `sectors` sectors of 512 bytes may
-/// have recorded. Takes no memory, so that its time grows with the square of the list's length.
+/// Returns whether the events are a list that a recorder of a device of `sectors` sectors of 512
+/// bytes may have recorded. Takes no memory. Takes time proportional to the square of the list's
+/// length.
 pub fn is_lawful(events: &[CoreEvent], sectors: u64) -> bool
     ensures { result ≡ is_lawful sectors events.now }
 {
     is_well_formed(events) && are_within(events, sectors)
 }
 
-// Whether each event may come after those before it.
+// Returns whether each event may come after those before it.
 fn is_well_formed(events: &[CoreEvent]) -> bool
     ensures { result ≡ is_well_formed events.now }
 {
@@ -28,7 +28,7 @@ fn is_well_formed(events: &[CoreEvent]) -> bool
     true
 }
 
-// Whether the event may come after these.
+// Returns whether the event may come after `events`.
 fn can_follow(events: &[CoreEvent], event: &CoreEvent) -> bool
     ensures { result ≡ can_follow events.now (Some event.now) }
 {
@@ -43,14 +43,14 @@ fn can_follow(events: &[CoreEvent], event: &CoreEvent) -> bool
     }
 }
 
-// Whether no Stop and no Close is among the events.
+// Returns whether no Stop and no Close is among the events.
 fn is_recording(events: &[CoreEvent]) -> bool
     ensures { result ≡ is_recording events.now }
 {
     has_no_stop(events) && has_no_close(events)
 }
 
-// Whether no Stop is among the events.
+// Returns whether no Stop is among the events.
 fn has_no_stop(events: &[CoreEvent]) -> bool
     ensures { result ≡ has_no_stop events.now }
 {
@@ -62,7 +62,7 @@ fn has_no_stop(events: &[CoreEvent]) -> bool
     true
 }
 
-// Whether no Close is among the events.
+// Returns whether no Close is among the events.
 fn has_no_close(events: &[CoreEvent]) -> bool
     ensures { result ≡ has_no_close events.now }
 {
@@ -74,7 +74,7 @@ fn has_no_close(events: &[CoreEvent]) -> bool
     true
 }
 
-// Whether the event is the end of the request that was submitted at this place.
+// Returns whether the event ends the request that was submitted at index `id`.
 fn is_end_of(event: &CoreEvent, id: usize) -> bool
     ensures { result ≡ is_end_of id (Some event.now) }
 {
@@ -84,7 +84,7 @@ fn is_end_of(event: &CoreEvent, id: usize) -> bool
     }
 }
 
-// Whether the event submits a request that is followed to its end.
+// Returns whether the event submits a write, a discard or a flush.
 fn is_request(event: &CoreEvent) -> bool
     ensures { result ≡ is_request (Some event.now) }
 {
@@ -94,7 +94,7 @@ fn is_request(event: &CoreEvent) -> bool
     }
 }
 
-// Whether the request of this place hasn't ended.
+// Returns whether the event at index `id` submits a request that hasn't ended.
 fn is_open_at(events: &[CoreEvent], id: usize) -> bool
     ensures { result ≡ is_open_at events.now id }
 {
@@ -104,7 +104,7 @@ fn is_open_at(events: &[CoreEvent], id: usize) -> bool
     }
 }
 
-// Whether no end of the request is among the events.
+// Returns whether no end of the request is among the events.
 fn has_no_end(events: &[CoreEvent], id: usize) -> bool
     requires { id < length events.now }
     ensures { result ≡ is_none (end_of events.now id) }
@@ -117,7 +117,7 @@ fn has_no_end(events: &[CoreEvent], id: usize) -> bool
     true
 }
 
-// Whether no request is open.
+// Returns whether no request is open.
 fn none_open(events: &[CoreEvent]) -> bool
     ensures { result ≡ none_open events.now }
 {
@@ -129,14 +129,14 @@ fn none_open(events: &[CoreEvent]) -> bool
     true
 }
 
-// Whether the text has no zero byte.
+// Returns whether the text has no zero byte.
 fn is_text(text: &[u8]) -> bool
     ensures { result ≡ is_text text.now }
 {
     text.iter().all(|byte| *byte != 0)
 }
 
-// Whether each request passed `check` for a device of this size.
+// Returns whether each submitted request passes `check` for a device of `sectors` sectors.
 fn are_within(events: &[CoreEvent], sectors: u64) -> bool
     ensures { result ≡ all_below (λ place. is_within sectors (slice_get events.now place))
         (length events.now) }
@@ -149,7 +149,7 @@ fn are_within(events: &[CoreEvent], sectors: u64) -> bool
     true
 }
 
-// Whether a request that the event submits passed `check`.
+// Returns whether the event's request passes `check`; true if the event submits none.
 fn is_within(event: &CoreEvent, sectors: u64) -> bool
     ensures { result ≡ is_within sectors (Some event.now) }
 {

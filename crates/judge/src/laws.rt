@@ -1,4 +1,4 @@
-//! What holds of verdicts: an image has one; the last flush and the last durable request decide.
+//! Laws of verdicts: an image has only one, which the last flush and durable request decide.
 ghost use Rattle.std.specs.Prelude.{◌≡◌, ◌&&◌, ◌||◌, List, Option, slice_get, ℕ};
 ghost use Rattle.bio.specs.declared.event.CoreEvent.{CoreEvent};
 ghost use Rattle.bio.specs.Events.{is_before, submits};
@@ -10,8 +10,7 @@ ghost use Rattle.judge.specs.declared.verdict.Verdict.TheVariants.{Yes, No};
 ghost use Rattle.judge.specs.Latest.{IsLastFlush};
 ghost use Rattle.judge.specs.Verdicts.{IsLastKept, IsVerdict};
 
-/// An image has one verdict: it isn't both possible and ruled out, and two verdicts that rule it
-/// out name one sector and one request.
+/// An image has only one verdict. It isn't both yes and no, and two verdicts are equal.
 pub fn verdicts_differ()
     ensures apart { (sectors : ℕ) (events : List CoreEvent) (first now : Content) (sector : ℕ)
         (by : Option ℕ) →
@@ -23,8 +22,8 @@ pub fn verdicts_differ()
         → verdict ≡ other }
 {}
 
-/// A request is durable exactly if it ended with success, and has FUA or ended before the last
-/// submission of a flush that ended with success.
+/// Let `flush` be the last submitted flush that ended with success. A request is durable exactly if
+/// it ended with success, and has FUA or ended before the submission of `flush`.
 pub fn the_last_flush_decides()
     ensures { (events : List CoreEvent) (flush id : ℕ) → IsLastFlush events flush
         → is_durable events id
@@ -32,8 +31,8 @@ pub fn the_last_flush_decides()
         (submits has_fua (slice_get events id) || is_before events id flush)) }
 {}
 
-/// A request's value is gone from a sector exactly if it ended before the last submission of a
-/// durable request over the sector.
+/// If `last` is the last submitted durable request over a sector, a request is replaced there
+/// exactly if it ended before the submission of `last`.
 pub fn the_last_durable_request_decides()
     ensures { (events : List CoreEvent) (sector last id : ℕ) → IsLastKept events sector last →
         is_replaced events sector id ≡ is_before events id last }

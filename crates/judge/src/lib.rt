@@ -1,10 +1,10 @@
-//! Whether an image could have been on a device, had power failed at some moment.
+//! Judges whether an image could have been on a device, had power failed after some events.
 //!
-//! A device that was sent requests may hold, in each sector, any value that flush, FUA and
-//! completion allow (`Possible` in `bio`). `could_hold` says whether an image has only such values,
-//! and else which sector is the lowest that has another one, and what rules it out
-//! (`specs/Verdicts`). It uses an `Account`, sector by sector. `is_lawful` says
-//! whether a list of events is one that a recorder may have recorded.
+//! In each sector, a device may hold any value that flush, FUA and completion allow (`Possible` in
+//! `bio`). `could_hold` returns whether an image has only such values. If not, it returns the
+//! lowest sector that has another value, and what rules this value out (`specs/Verdicts`). It finds
+//! this in an `Account` of the events and the image. `is_lawful` returns whether a recorder may
+//! have recorded a list of events.
 #![tactic(auto)]
 
 pub use accounts::Account;

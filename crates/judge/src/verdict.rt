@@ -1,20 +1,20 @@
-//! The answer of `could_hold`, and its text: `yes`, or the lowest sector that fails
-//! and what rules it out.
+//! The answer of `could_hold`, and its text: `yes`, or the lowest sector that fails and what rules
+//! its value out.
 ghost use Rattle.std.specs.Prelude.{Some};
 ghost use Rattle.judge.specs.Texts.{reason_text, verdict_text};
 
 use bio::Id;
 use std::fmt;
 
-/// Whether an image could have been on a device, had power failed at some moment. It is shown as
-/// `yes`, as `no sector <sector> ruled out by event <place>`, or as
+/// Whether an image could have been on a device, had power failed after some events. The text is
+/// `yes`, `no sector <sector> ruled out by event <index>`, or
 /// `no sector <sector> holds no submitted value`.
 #[derive(Clone, Copy, Debug, PartialEq, Eq)]
 pub enum Verdict {
-    /// Each of its sectors holds a value that the device could hold then.
+    /// Each sector has a value that the device could hold.
     Yes,
-    /// The lowest sector that holds another value; and, of the durable requests that cover the
-    /// sector, the one that was submitted last, none if no durable request covers it.
+    /// `sector` is the lowest whose value the device could not hold. `by` is the durable request
+    /// over this sector that was submitted last; none if no durable request covers it.
     No { sector: u64, by: Option<Id> },
 }
 
@@ -32,7 +32,7 @@ impl fmt::Display for Verdict {
     }
 }
 
-// What rules a sector's value out.
+// Why a sector fails.
 #[derive(Clone, Copy)]
 struct Reason(Option<Id>);
 

@@ -1,4 +1,4 @@
--- The definitions on examples: one that holds, and one that doesn't.
+-- Examples of the definitions: for each, one that holds and one that doesn't.
 use Rattle.std.specs.Prelude.{◌≡◌, [], ◌∷◌, Some, None, codes, false, refl, true}
 use Rattle.refusals.specs.Words.{after_byte, before_byte, is_word, number_of, words_of}
 

@@ -1,4 +1,4 @@
--- The lemmas of `refusals`; the proof of a function stands in the folder of its source file.
+-- The lemmas of `refusals`; the proof of a function is in the folder of its source file.
 mod WordLemmas
 mod Examples
 mod Utf8

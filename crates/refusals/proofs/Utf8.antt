@@ -1,4 +1,4 @@
--- What is unwrapped of a reading of UTF-8.
+-- If UTF-8 text is read and unwrapped, the result is that text.
 use Rattle.std.proofs.Common.{◌≡◌, ◌∙◌, ℕ, List, Result, Ok, Err, MatchResult, Bor, ap}
 use Rattle.std.specs.Str.{IsUtf8}
 use Rattle.std.specs.Result.{ResultUnwrapsOrElse}

@@ -1,5 +1,5 @@
--- How the loops over a text come to what `Words` says: cutting at a byte, and reading a number.
--- The proofs of `cut` and `number_of` cite them.
+-- The loops that cut a text at a byte and that read a number give what `Words` defines. The proofs
+-- of `cut` and `number_of` cite these lemmas.
 use Rattle.std.proofs.Common.{◌≡◌, ℕ, ◌+◌, ◌-◌, ◌*◌, ◌^◌, ◌<◌, ◌≤◌, suc, Bool, true, false, ◌&&◌}
 use Rattle.std.proofs.Common.{cond, List, [], ◌∷◌, length, take, drop, take_all, Option, Some, None}
 use Rattle.std.proofs.Common.{⊎_elim, lit<, refl, ap, ◌∙◌, sym, arith}

@@ -1,4 +1,4 @@
--- Why a command ends before its time, and how that is shown.
+-- The errors that end a command early, and how they are printed.
 use Rattle.std.specs.Prelude.{◌≡◌, ◌⊎◌, ℕ, List, ◌++◌, codes}
 use Rattle.std.specs.Fmt.{decimal}
 use Rattle.std.specs.declared.io.ErrorKind.{ErrorKind}
@@ -16,33 +16,33 @@ use Rattle.refusals.specs.declared.run_error.RunError.TheVariants.{StoppedAfter}
 abbrev pub refused_by : Refusal → RunError
 refused_by refusal = Refused (without_line refusal)
 
--- the error of a lack of memory
+-- the error for lack of memory
 abbrev pub memory_error : RunError
 memory_error = refused_by refusals.Memory
 
--- the refusal that is shown for an output or a file that failed with an error of this kind
+-- the refusal that reports an output or a file that failed with an error of this kind
 abbrev pub io_refusal : ErrorKind → Refusal
 io_refusal kinds.OutOfMemory = refusals.Memory
 io_refusal _ = refusals.File
 
--- a file or an output can't be read or written, or memory lacks for it
+-- a file or an output can't be read or written, or memory ran out
 abbrev pub IsFileError : RunError → Type 0
 IsFileError error = (error ≡ refused_by refusals.File) ⊎ (error ≡ memory_error)
 
--- the error's fault: its own, or the refusal of the cause that ended logging, or the refusal that
--- stopped the log's entries
+-- The error's refusal, with its line if it has one. If logging ended, the refusal reports the
+-- cause. If a replay or a copy stopped, it is the refusal that stopped it.
 abbrev pub fault_of : RunError → Fault
 fault_of (Refused fault) = fault
 fault_of (LoggingEnded end) = without_line (end_refusal end)
 fault_of (StoppedAfter applied refusal) = without_line refusal
 
--- the number of the log's entries that were taken before the error
+-- the number of the log's entries that were taken before the error; 0 for other errors
 abbrev pub taken_before : RunError → ℕ
 taken_before (StoppedAfter applied refusal) = applied
 taken_before other = 0
 
--- How the error is shown: its fault, or the refusal of the cause that ended logging. For a replay
--- or a copy, it is the refusal that stopped the log's entries, and the number of entries before it.
+-- The text of an error: its fault, or the refusal that reports why logging ended. For a replay or a
+-- copy that stopped, it is the refusal, and the number of entries that were taken before.
 abbrev pub error_text : RunError → List ℕ
 error_text (Refused fault) = fault_text fault
 error_text (LoggingEnded end) = refusal_text (end_refusal end)

@@ -16,7 +16,7 @@ parts_of line = slice_split (λ byte. byte == 32) line
 
 -- ---- a space
 
--- adds a byte in front, if there is a first part
+-- A byte can be added in front of the first part, and more parts appended, in either order.
 onto_front : (t : Bool) (b : ℕ) (whole parts rest : List (List ℕ))
     → ((first : List ℕ) × (more : List (List ℕ)) × (parts ≡ first ∷ more))
     → whole ≡ parts ++ rest
@@ -24,7 +24,7 @@ onto_front : (t : Bool) (b : ℕ) (whole parts rest : List (List ℕ))
 onto_front true b whole parts rest some e = ap (λ xs. [] ∷ xs) e
 onto_front false b whole parts rest some e = ap (onto_first b) e ∙ rw some.2 refl
 
--- the new list has a first part
+-- After a byte is added in front, there is still a first part.
 first_step : (t : Bool) (b : ℕ) (parts : List (List ℕ))
     → ((first : List ℕ) × (more : List (List ℕ)) × (parts ≡ first ∷ more))
     → (first : List ℕ) × (more : List (List ℕ))
@@ -37,7 +37,7 @@ some_part : (line : List ℕ)
 some_part [] = ([], [], refl)
 some_part (b ∷ line) = first_step (b == 32) b (parts_of line) (some_part line)
 
--- the parts before a space, and those after it
+-- The parts of a line with a space are those before the space, and then those after it.
 parts-space : (before after : List ℕ)
     → parts_of (before ++ 32 ∷ after) ≡ parts_of before ++ parts_of after
 parts-space [] after = refl
@@ -45,7 +45,7 @@ parts-space (b ∷ before) after =
     onto_front (b == 32) b (parts_of (before ++ 32 ∷ after)) (parts_of before) (parts_of after)
     (some_part before) (parts-space before after)
 
--- the words before a space, and those after it
+-- The words of a line with a space are those before the space, and then those after it.
 pub words_of_space : (before after : List ℕ)
     → words_of (before ++ 32 ∷ after) ≡ words_of before ++ words_of after
 words_of_space before after =
@@ -54,14 +54,14 @@ words_of_space before after =
 
 -- ---- one word
 
--- adds a byte in front of the one part
+-- If a line has one part, and another byte than a space is added in front, the line has one part.
 part_step : (t : Bool) (b : ℕ) (word : List ℕ) (parts : List (List ℕ)) → not t ≡ true
     → parts ≡ word ∷ []
     → cond t ([] ∷ parts) (onto_first b parts) ≡ (b ∷ word) ∷ []
 part_step true b word parts apart e = absurd (cc)
 part_step false b word parts apart e = ap (onto_first b) e
 
--- bytes without a space are one part
+-- If a line has no space, it is one part.
 parts-word : (word : List ℕ) → list_all (λ byte. not (byte == 32)) word ≡ true
     → parts_of word ≡ word ∷ []
 parts-word [] lack = refl
@@ -69,7 +69,7 @@ parts-word (b ∷ word) lack =
     let parts = and_parts (not (b == 32)) (list_all (λ byte. not (byte == 32)) word) lack in
     part_step (b == 32) b word (parts_of word) parts.0 (parts-word word parts.1)
 
--- a word is its line's one word
+-- If a line is one word, it has this word only.
 pub words_of_word : (word : List ℕ) → is_word word ≡ true → words_of word ≡ word ∷ []
 words_of_word word is =
     let parts = and_parts (is_filled word) (list_all (λ byte. not (byte == 32)) word) is in
@@ -77,7 +77,7 @@ words_of_word word is =
 
 -- ---- words with a space between each two
 
--- they are the words of their line
+-- If words are joined by spaces, they are the words of the line.
 pub words_of_joined : (words : List (List ℕ)) → AllByRecursion (λ word. is_word word ≡ true) words
     → words_of (join_with_byte 32 words) ≡ words
 words_of_joined [] all = refl
@@ -90,7 +90,7 @@ words_of_joined (word ∷ next ∷ words) all =
 
 -- ---- numbers
 
--- a digit is no space
+-- A digit isn't a space.
 digit_apart : (b : ℕ) → is_ascii_digit b ≡ true → not (b == 32) ≡ true
 digit_apart b digit = grind (arith, nat_tests)
 
@@ -101,7 +101,7 @@ digits_apart (b ∷ word) all =
     let parts = and_parts (is_ascii_digit b) (list_all is_ascii_digit word) all in
     and_from _ _ (digit_apart b parts.0) (digits_apart word parts.1)
 
--- something is in it
+-- If a word has a length of at least 1, it passes `is_filled`.
 filled_some : (word : List ℕ) → nat_lt 0 (length word) ≡ true → is_filled word ≡ true
 filled_some word some =
     let low : 0 < length word = ltb-true _ _ some in

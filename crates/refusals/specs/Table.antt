@@ -87,7 +87,7 @@ all_refusals =
     refusals.NoThread ∷
     []
 
--- a number names one refusal: it is the refusal's place in that order, counted from 1
+-- A number names one refusal: the refusal is at that place in `all_refusals`, counted from 1.
 pub number_names : (r : Refusal) → slice_get all_refusals ((row_of r).0 - 1) ≡ Some r
 number_names refusals.Io = refl
 number_names refusals.Memory = refl

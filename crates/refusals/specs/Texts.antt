@@ -1,20 +1,20 @@
--- What a user reads of a refusal and of a fault.
+-- How a refusal and a fault are printed.
 use Rattle.std.specs.Prelude.{ℕ, List, ◌++◌, Option, Some, None, codes}
 use Rattle.std.specs.Fmt.{decimal}
 use Rattle.refusals.specs.declared.fault.Fault.{Fault}
 use Rattle.refusals.specs.declared.refusal.Refusal.{Refusal}
 use Rattle.refusals.specs.Table.{row_of}
 
--- a refusal is shown by its number and its name
+-- the text of a refusal: its number and its name
 abbrev pub refusal_text : Refusal → List ℕ
 refusal_text refusal = decimal (row_of refusal).0 ++ codes " " ++ (row_of refusal).1
 
--- a refusal is shown after the line that is at fault, if there is one
+-- the text of a refusal after the line at fault, if there is one
 abbrev pub refused_at : Option ℕ → Refusal → List ℕ
 refused_at (Some line) refusal = codes "line " ++ decimal line ++ codes ": " ++ refusal_text refusal
 refused_at None refusal = refusal_text refusal
 
--- a fault is shown by its line and its refusal
+-- the text of a fault: its line, if it names one, and its refusal
 abbrev pub fault_text : Fault → List ℕ
 fault_text fault = refused_at fault.line fault.refusal
 

@@ -11,11 +11,11 @@ use Rattle.std.proofs.lemmas.Option.{cond_some}
 use Rattle.std.proofs.lemmas.Str.Parse.{numerals_by_fold, IsNumeralModel}
 use Rattle.refusals.specs.Words.{number_after, number_of, number_value, IsNumber}
 
--- what is read as a number is one
+-- If `number_of` gives a number, the word is this number.
 pub number_read : (word : List ℕ) (n : ℕ) → number_of word ≡ Some n → IsNumber word n
 number_read word n e = cond_some _ _ _ e
 
--- a number is read as it is
+-- If the word is a number, `number_of` gives this number.
 pub number_again : (word : List ℕ) (n : ℕ) → IsNumber word n → number_of word ≡ Some n
 number_again word n is = cond-true _ _ _ is.0 ∙ ap Some is.1
 
@@ -27,7 +27,7 @@ number_low word n is = subst (λ (k : ℕ). k < 2 ^ 64) is.1 (ltb-true _ _ (and_
 pub number_model : IsNumeralModel (λ ds. list_all is_ascii_digit ds ≡ true) number_value
 number_model = numerals_by_fold _ (search rules) number_after (search rules)
 
--- the decimal digits of a number are that number
+-- The decimal digits of a number are a word with the value of this number.
 pub decimal_number : (n : ℕ) → n < 2 ^ 64 → IsNumber (decimal n) n
 decimal_number n low =
     let value : number_value (decimal n) ≡ n = digits_value-decimal number_model n low in
@@ -39,7 +39,7 @@ decimal_number n low =
     lt-ltb _ _ (subst (λ (k : ℕ). k < 2 ^ 64) (sym value) low) in
     (and_from _ _ (and_from _ _ (and_from _ _ some short) digits) below, value)
 
--- a zero in front of a number doesn't change it
+-- A zero in front of a number doesn't change its value.
 pub zero_in_front : (word : List ℕ) (n : ℕ) → IsNumber word n → length word < 20
     → IsNumber (48 ∷ word) n
 zero_in_front word n number short =

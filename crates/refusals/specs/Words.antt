@@ -1,4 +1,4 @@
--- Words: how a line is cut into them, and numbers.
+-- The words of a line, and words that are numbers.
 use Rattle.std.specs.Prelude.{◌≡◌, ℕ, ◌+◌, ◌-◌, ◌*◌, ◌^◌, ◌==◌, Bool, true, not, ◌&&◌, List, []}
 use Rattle.std.specs.Prelude.{◌∷◌, Option, Some, None, length, nat_lt, nat_le, if◌then◌else◌}
 use Rattle.std.specs.Char.{is_ascii_digit}
@@ -26,31 +26,31 @@ words_of line = filter is_filled (slice_split (λ byte. byte == 32) line)
 abbrev pub is_word : List ℕ → Bool
 is_word word = is_filled word && list_all (λ byte. not (byte == 32)) word
 
--- the number that a digit after n makes, if it is a digit and the number is below 2 ^ 64
+-- the number that `n` and one more digit make, if it is a digit and the number is below 2 ^ 64
 abbrev pub with_digit : ℕ → ℕ → Option ℕ
 with_digit n digit =
     if is_ascii_digit digit && nat_lt (10 * n + (digit - 48)) (2 ^ 64) then Some
     (10 * n + (digit - 48)) else None
 
--- the number that decimal digits write after those of n
+-- the number that the digits of `n` and then these digits make
 abbrev pub number_after : ℕ → List ℕ → ℕ
 number_after n [] = n
 number_after n (digit ∷ digits) = number_after (10 * n + (digit - 48)) digits
 
--- the number that decimal digits write
+-- the value of decimal digits
 abbrev pub number_value : List ℕ → ℕ
 number_value word = number_after 0 word
 
--- 1 to 20 decimal digits, of a value below 2 ^ 64
+-- the word is a number: 1 to 20 decimal digits with a value below 2 ^ 64
 abbrev pub is_number : List ℕ → Bool
 is_number word =
     nat_lt 0 (length word) && nat_le (length word) 20 && list_all is_ascii_digit word
     && nat_lt (number_value word) (2 ^ 64)
 
--- the number that a word is, if it is one
+-- the value of the word, if it is a number
 abbrev pub number_of : List ℕ → Option ℕ
 number_of word = if is_number word then Some (number_value word) else None
 
--- the word is a number of this value
+-- the word is a number with the value `n`
 abbrev pub IsNumber : List ℕ → ℕ → Type 0
 IsNumber word n = (is_number word ≡ true) × (number_value word ≡ n)

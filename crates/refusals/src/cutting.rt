@@ -1,5 +1,5 @@
-//! Cuts a text at the first byte of a value. The parsers of script lines and of dm-dust's messages
-//! split their words by it.
+//! Cuts a text at the first byte with a given value. The parsers of script lines and of dm-dust's
+//! messages split words with it.
 ghost use Rattle.std.specs.Prelude.{◌≡◌, ◌==◌, option_copied, position};
 ghost use Rattle.refusals.specs.Words.{before_byte, after_byte};
 
@@ -15,7 +15,7 @@ pub fn cut(bytes: &[u8], mark: u8) -> (&[u8], Option<&[u8]>)
     }
 }
 
-// Returns the place of the first `mark`.
+// Returns the index of the first `mark`, if there is one.
 fn place_of(bytes: &[u8], mark: u8) -> Option<usize>
     ensures { result ≡ position (λ b. b == mark) bytes.now }
 {

@@ -14,7 +14,7 @@ pub enum End {
     /// The log's device failed.
     #[error("the log's device failed")]
     Device,
-    /// Memory lacked.
+    /// An allocation failed.
     #[error("no memory for the log")]
     Memory,
 }

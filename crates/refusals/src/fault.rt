@@ -1,4 +1,4 @@
-//! What a user reads of a refusal: its number and name, and for a script the line at fault.
+//! A refusal as it is printed: its number and name, and for a script the line at fault.
 ghost use Rattle.std.specs.Prelude.{◌≡◌, Some};
 ghost use Rattle.refusals.specs.Texts.{fault_text, without_line};
 
@@ -6,7 +6,7 @@ use crate::refusal::Refusal;
 use std::error::Error;
 use std::fmt;
 
-/// What a user reads: a refusal, and for a script the line at fault.
+/// A refusal, and for a script the line at fault.
 #[derive(Clone, Copy, Debug, PartialEq, Eq)]
 pub struct Fault {
     /// The line at fault, counted from 1; none if no line is to blame, as when memory ran out.

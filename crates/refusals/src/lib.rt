@@ -1,11 +1,12 @@
-//! What all crates share: the project's refusals and how they are shown, why a command ends before
-//! its time, and the words of a line.
+//! The parts that all crates share: the project's refusals and their texts, the errors that end a
+//! command early, and the words of a line.
 //!
 //! A `Refusal` is a row of one table: a number from 1 to 38 and a name (`specs/Table`). A `Fault`
-//! is a refusal and, for a script, the line at fault; it is shown as `24 Busy` or `line 4: 24 Busy`
-//! (`specs/Texts`). `End` is why logging ended. `RunError` is the error of a script's run and of
-//! each command: a fault, or the cause that ended logging (`specs/Errors`). Each error of a call,
-//! in any crate, turns into the refusal that is shown for it.
+//! is a refusal and, for a script, the line at fault. It is printed as `24 Busy` or
+//! `line 4: 24 Busy` (`specs/Texts`). `End` is the cause that ended logging. `RunError` is the
+//! error of a script's run and of each command: a fault, the cause that ended logging, or the
+//! refusal that stopped a replay or a copy (`specs/Errors`). Each error of a call, in any crate,
+//! converts to the refusal that reports it.
 //!
 //! `cut`, `count_words` and `word_at` split a line into words, `number_of` parses decimal digits,
 //! and `push_number` prints them (`specs/Words`).

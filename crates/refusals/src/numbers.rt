@@ -1,13 +1,12 @@
-//! Parses a word as a number below 2^64. Scripts, table lines, messages and command lines parse
-//! their numbers by `number_of`.
+//! Parses a word as a number below 2^64, in scripts, table lines, messages and command lines.
 ghost use Rattle.std.specs.Prelude.{◌≡◌};
 ghost use Rattle.refusals.specs.Words.{number_of as the_number, with_digit};
 
-/// The most digits that a number may have.
+/// The maximum number of digits.
 const NUMBER_DIGITS: usize = 20;
 
-/// Returns the number that a word is: 1 to 20 decimal digits, the first of which may be 0, of a
-/// value below 2^64.
+/// Returns the value of a word that is a number: 1 to 20 decimal digits, the first of which may be
+/// 0, with a value below 2^64.
 pub fn number_of(word: &[u8]) -> Option<u64>
     ensures { result ≡ the_number word.now }
 {
@@ -21,7 +20,7 @@ pub fn number_of(word: &[u8]) -> Option<u64>
     Some(value)
 }
 
-// Returns the number with one more digit, if this is a digit and the number is below 2^64.
+// Returns the number with one more digit, if `digit` is a digit and the result is below 2^64.
 fn with_digit(number: u64, digit: u8) -> Option<u64>
     ensures { result ≡ with_digit number digit }
 {

@@ -1,12 +1,12 @@
-//! The list of all refusals, each with the number and the name that users read.
+//! The list of all refusals, each with the number and the name that are printed.
 ghost use Rattle.std.specs.Prelude.{◌≡◌, ◌-◌, Some, slice_get};
 ghost use Rattle.refusals.specs.Table.{all_refusals, row_of};
 ghost use Rattle.refusals.specs.Texts.{refusal_text};
 
 use std::fmt;
 
-/// The reasons for which the project refuses. Each refusal has a number from 1 to 38 and a name.
-/// `Memory` and `EndMemory` share theirs.
+/// The reasons why the project refuses something. Each refusal has its own number, from 1 to 38,
+/// and a name. Only `Memory` and `EndMemory` have the same name.
 #[derive(Clone, Copy, Debug, PartialEq, Eq)]
 pub enum Refusal {
     /// A device failed in this call.
@@ -29,7 +29,7 @@ pub enum Refusal {
     UnknownTarget,
     /// A table line has a number of words that its target doesn't allow.
     WrongCount,
-    /// A word at a number's place in a table line is no number.
+    /// A table line has a word that is no number where it needs a number.
     BadNumber,
     /// A value of a table line is out of its range.
     OutOfRange,
@@ -51,7 +51,7 @@ pub enum Refusal {
     EndMemory,
     /// A log is shorter than its count of entries needs.
     CutShort,
-    /// The reader refused before.
+    /// The log reader has returned an error before.
     Failed,
     /// A mark's text has a zero byte.
     BadText,
@@ -59,7 +59,7 @@ pub enum Refusal {
     Busy,
     /// No mark has this text.
     NoSuchMark,
-    /// No flush follows.
+    /// The log has no flush from the given place on.
     NoFlush,
     /// An entry reaches past the target's end.
     PastTarget,
@@ -73,9 +73,9 @@ pub enum Refusal {
     BadId,
     /// A file can't be read or written, or has a length that isn't allowed.
     File,
-    /// More entries are asked for than the log has.
+    /// A command asks for more entries than the log has.
     PastEntries,
-    /// A moment isn't one of the events, or an image isn't of the device's size.
+    /// A moment is past the last one, or an image hasn't the device's size.
     BadMoment,
     /// The cache machine has no such step.
     BadStep,
@@ -135,8 +135,8 @@ impl Refusal {
         }
     }
 
-    /// Returns the number, from 1 to 38. It names one refusal: its place in the list of all,
-    /// counted from 1.
+    /// Returns the number, from 1 to 38. It is the refusal's place in the list of all refusals,
+    /// counted from 1, so it names this refusal only.
     #[tactic(auto, using(crate::specs::Table::number_names))]
     pub fn number(self) -> u8
         ensures number { result ≡ (row_of self).0 }

@@ -1,4 +1,4 @@
-//! Why a command ended before its time, for any error. The commands return it.
+//! The error that ends a command early. The commands return it.
 ghost use Rattle.std.specs.Prelude.{◌≡◌, Some};
 ghost use Rattle.std.specs.IoError.{error_kind};
 ghost use Rattle.refusals.specs.Errors.{error_text, fault_of, io_refusal, memory_error};
@@ -11,14 +11,14 @@ use crate::refusal::Refusal;
 use std::alloc::AllocError;
 use std::{fmt, io};
 
-/// Why a command ended before its time. It is shown as its fault: the line, if one is at fault, and
-/// the number and name. If a log's entries were taken one by one, the number of entries before it
-/// follows.
+/// Why a command ended early. It is printed as its fault: the line, if one is at fault, and the
+/// refusal's number and name. For a replay or a copy of a log that stopped, the number of entries
+/// that were taken before follows.
 #[derive(Clone, Copy, Debug, PartialEq, Eq)]
 pub enum RunError {
-    /// It was refused, for a script perhaps at a line.
+    /// The command was refused; for a script, the fault may name a line.
     Refused(Fault),
-    /// Logging ended before its time.
+    /// Logging ended before the command was done.
     LoggingEnded(End),
     /// A replay or a copy of a log stopped after `applied` of its entries.
     StoppedAfter { applied: u64, refusal: Refusal },
@@ -36,8 +36,7 @@ impl RunError {
         }
     }
 
-    /// Returns the number of a log's entries that were taken before the error; 0 if the command
-    /// takes none.
+    /// Returns the number of a log's entries that were taken before the error; 0 for other errors.
     pub fn applied(self) -> u64
         ensures { result ≡ taken_before self }
     {

@@ -1,5 +1,5 @@
-//! The words of a line, split at spaces: their number, and the word at a place. The parser of table
-//! lines uses them, and so does the code that explains a refused line.
+//! The words of a line, split at spaces: their number, and the word at an index. The parser of
+//! table lines uses them, and so does the code that explains a refused line.
 ghost use Rattle.std.specs.Prelude.{◌≡◌, length, option_copied, slice_get};
 ghost use Rattle.refusals.specs.Words.{words_of};
 
@@ -12,7 +12,7 @@ pub fn count_words(line: &[u8]) -> usize
         .count()
 }
 
-/// Returns the word of a line at `place`, counted from 0, if there is one.
+/// Returns the word of a line at the index `place`, from 0, if there is one.
 pub fn word_at(line: &[u8], place: usize) -> Option<&[u8]>
     ensures { option_copied result ≡ slice_get (words_of line.now) place }
 {

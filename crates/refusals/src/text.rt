@@ -1,5 +1,5 @@
-//! ASCII bytes as text; the caller proves that they are ASCII. `script_runner` passes the text of a
-//! message to a layer by it.
+//! ASCII bytes as text; the caller proves that they are ASCII. `script_runner` uses it to pass the
+//! text of a message to a layer.
 ghost use Rattle.std.specs.Prelude.{◌≡◌};
 ghost use Rattle.std.specs.Str.{IsAscii};
 

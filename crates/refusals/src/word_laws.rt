@@ -1,4 +1,4 @@
-//! Laws of words, apart from the code: each function does nothing, and its clause is the law.
+//! Laws of words. Each function does nothing; its clauses are the law.
 ghost use Rattle.std.specs.Prelude.{◌≡◌, ◌^◌, ◌<◌, ◌∷◌, ◌++◌, [], decimal, length, true, ℕ, List};
 ghost use Rattle.refusals.specs.Words.{is_word, words_of, IsNumber};
 
@@ -10,9 +10,9 @@ pub fn numbers_are_decimal()
         → IsNumber (48 ∷ word) n }
 {}
 
-/// A line's words are between its spaces. A space cuts the line in two, and each part has its own
-/// words. Bytes that aren't empty and have no space are one word. So more than one space, and
-/// spaces at an end, change nothing.
+/// The words of a line are between its spaces. A space splits the line in two, and the words are
+/// those of the first part and then those of the second. If bytes aren't empty and have no space,
+/// they are one word. So repeated spaces, and spaces at either end, change nothing.
 #[tactic(auto, using(crate::specs::SplitLaws::words_of_space, crate::specs::SplitLaws::words_of_word))]
 pub fn words_are_between_spaces()
     ensures none { words_of [] ≡ [] }

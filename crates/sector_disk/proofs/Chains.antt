@@ -1,4 +1,4 @@
--- A sector's calls, from its newest back to the durable one.
+-- Laws of the chain of a sector's calls, from its newest back to the durable one.
 use Rattle.std.proofs.Common.{◌≡◌, ℕ, suc, zero, ◌-◌, ◌<◌, ◌&&◌, true, false, Some, List, [], ◌∷◌}
 use Rattle.std.proofs.Common.{◌++◌, length, refl, ap, sym, ◌∙◌, inl, inr, arith}
 use Rattle.std.proofs.lemmas.Bool.{and_parts, ltb-true}

@@ -1,5 +1,4 @@
--- For each clause of what a past begins with, and of what a
--- call does to a disk, what breaks it, and is refused by it.
+-- For each clause of `Begins` and of a call's effect: an example that breaks it, and so is refused.
 use Rattle.std.proofs.Common.{◌≡◌, ℕ, suc, List, [], ◌∷◌, length, Ok, Err, replicate}
 use Rattle.std.proofs.Common.{slice_index_or, refl, sym, ap, ◌∙◌, arith}
 use Rattle.std.specs.Prelude.{Result}

@@ -1,4 +1,4 @@
--- What a call does to a disk is what the law asks for.
+-- Each call of a disk satisfies the law of devices.
 use Rattle.std.proofs.Common.{◌≡◌, ℕ, suc, zero, ◌+◌, ◌-◌, ◌*◌, ◌≤◌, Bool, true, false, Some, None}
 use Rattle.std.proofs.Common.{List, ◌∷◌, length, refl, ap, subst, sym, ◌∙◌, arith}
 use Rattle.std.specs.Prelude.{Option, slice_get}

@@ -1,4 +1,4 @@
--- Worked crashes, by computation.
+-- Worked examples of crashes, by computation.
 use Rattle.std.proofs.Common.{◌≡◌, ℕ, suc, zero, ◌<◌, false, true, List, [], ◌∷◌, replicate, refl}
 use Rattle.std.proofs.Common.{ap, sym, ◌∙◌, inl, inr, arith}
 use Rattle.std.specs.Prelude.{◌⊎◌, slice_index_or}

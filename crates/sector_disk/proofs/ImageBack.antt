@@ -1,4 +1,4 @@
--- An image that is given back with what was put over it.
+-- The image that a disk returns: that of its first call, and over it the values of later calls.
 use Rattle.std.proofs.Common.{◌≡◌, ℕ, suc, zero, ◌+◌, ◌-◌, ◌*◌, ◌/◌, ◌<◌, ◌≤◌, ◌&&◌, Bool, false}
 use Rattle.std.proofs.Common.{true, get_or, List, [], ◌∷◌, ◌++◌, length, take, drop}
 use Rattle.std.proofs.Common.{replicate, ap, refl, sym, ◌∙◌, arith}

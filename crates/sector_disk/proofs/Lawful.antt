@@ -1,4 +1,4 @@
--- What a disk's calls make of its candidates.
+-- The candidates of a disk's sectors after each call, and what a crash may leave.
 use Rattle.std.proofs.Common.{◌≡◌, ℕ, ◌+◌, ◌-◌, ◌<◌, ◌≤◌, Bool, false, Some, List, [], ◌∷◌, length}
 use Rattle.std.proofs.Common.{refl, ap, subst, sym, ◌∙◌, arith}
 use Rattle.std.specs.Prelude.{Option}

@@ -1,4 +1,4 @@
--- Sectors of which the first bytes are held, and all of them together.
+-- Laws of packed sectors: of one sector, of one more, and of all sectors of an image.
 use Rattle.std.proofs.Common.{◌≡◌, ℕ, ◌+◌, ◌-◌, ◌*◌, ◌/◌, ◌%◌, ◌<◌, ◌≤◌, List, [], ◌∷◌, ◌++◌, ◌∙◌}
 use Rattle.std.proofs.Common.{ap, arith, drop, get_or, inl, inr, length, length-append, length-drop}
 use Rattle.std.proofs.Common.{replicate, sym, take}

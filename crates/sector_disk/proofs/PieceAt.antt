@@ -1,4 +1,4 @@
--- The piece that a sector of the bytes is in.
+-- The piece that has a given sector of the bytes.
 use Rattle.std.proofs.Common.{◌≡◌, ℕ, suc, zero, ◌+◌, ◌-◌, ◌*◌, ◌%◌, ◌<◌, ◌≤◌, List, [], ◌∷◌, ◌++◌, ◌∙◌, ap}
 use Rattle.std.proofs.Common.{append_assoc, sym}
 use Rattle.std.proofs.lemmas.Grind.{common_steps}

@@ -1,4 +1,4 @@
--- A disk that is its candidates keeps the law of a device.
+-- The view of a disk, which its candidates define, satisfies the law of devices.
 use Rattle.std.proofs.Common.{◌≡◌, ℕ, suc, zero, ◌<◌, ◌≤◌, Bool, true, false, IsTrue, Option, None}
 use Rattle.std.proofs.Common.{Some, List, [], ◌∷◌, length, refl, ap, subst, sym, ◌∙◌, inl, inr}
 use Rattle.std.proofs.Common.{arith, lit<}
@@ -14,7 +14,7 @@ use Rattle.sector_disk.specs.Candidates.{Cache, Flushes, LeftDuring, LeftSince, 
 use Rattle.sector_disk.specs.Candidates.{Step, after_step, cache_after, candidates_after, settled}
 use Rattle.sector_disk.specs.Candidates.{view_of}
 
--- a list of one has that one
+-- A list of one element contains this element and no other.
 pub contains_one : {X : Type 0} (x : X) → Contains (x ∷ []) x
 contains_one x = (0, omega arith, refl)
 
@@ -25,11 +25,11 @@ one_contains x y has = at has.0 has.1 has.2
     at zero h e = sym e
     at (suc k) h e = absurd (omega arith)
 
--- one of the candidates is the sector's value
+-- the value of each sector is one of its candidates
 abbrev pub IsCurrent : Cache → Type 0
 IsCurrent cache = (sector : ℕ) → Contains (cache.may sector) (cache.now sector)
 
--- of a sector's candidates after a call: each was one before, or is the call's value
+-- Each candidate of a sector after a call was one before, or is the call's value.
 candidate_torn : (value : Option (List ℕ)) (fua : Bool) (old : List (List ℕ)) (now left : List ℕ)
     → Contains old now
     → Contains (candidates_after value fua old) left
@@ -43,7 +43,7 @@ candidate_torn (Some value) false old now left current has =
       | inr after ↦ (now, current, inr (one_contains value left after))
     ]
 
--- and with FUA it is the call's value
+-- With FUA, each candidate after a call that has a value for the sector is this value.
 candidate_durable : (value : Option (List ℕ)) (fua : Bool) (old : List (List ℕ)) (now left : List ℕ)
     → IsTrue fua → Contains old now
     → Contains (candidates_after value fua old) left
@@ -62,14 +62,14 @@ candidate_current (Some value) true old now current = contains_one value
 candidate_current (Some value) false old now current =
     Contains-append_right old (value ∷ []) value (contains_one value)
 
--- what was a candidate before a call without FUA still is one
+-- Each candidate before a call without FUA is one after the call.
 candidate_kept : (value : Option (List ℕ)) (old : List (List ℕ)) (before : List ℕ)
     → Contains old before
     → Contains (candidates_after value false old) before
 candidate_kept None old before has = has
 candidate_kept (Some value) old before has = Contains-append_left old (value ∷ []) before has
 
--- what a crash after a call leaves, one before it could leave, patched
+-- Whatever a crash after a call leaves, it is a content that a crash could leave before, patched.
 pub left-torn : (patch : Patch) (fua : Bool) (cache : Cache) (left : Content) → IsCurrent cache
     → MayLeave (after_step (Puts patch fua) cache) left → AfterPatch patch (MayLeave cache) left
 left-torn patch fua cache left current may =
@@ -79,7 +79,7 @@ left-torn patch fua cache left current may =
     (current sector) (may sector) in
     (λ sector. (at sector).0, λ sector. (at sector).1, λ sector. (at sector).2)
 
--- with FUA, wholly
+-- With FUA, it has all of the call's values.
 pub left-durable : (patch : Patch) (fua : Bool) (cache : Cache) (left : Content) → IsTrue fua
     → IsCurrent cache
     → MayLeave (after_step (Puts patch fua) cache) left → AfterWhole patch (MayLeave cache) left
@@ -90,25 +90,25 @@ left-durable patch fua cache left is current may =
     (left sector) is (current sector) (may sector) in
     (λ sector. (at sector).0, λ sector. (at sector).1, λ sector. (at sector).2)
 
--- after a call without FUA a crash may still leave what it could leave before
+-- Whatever a crash could leave before a call without FUA, it may leave after the call.
 pub left-kept : (patch : Patch) (cache : Cache) (left : Content) → MayLeave cache left
     → MayLeave (after_step (Puts patch false) cache) left
 left-kept patch cache left may =
     λ sector. candidate_kept (patch sector) (cache.may sector) (left sector) (may sector)
 
--- a crash of a synced disk leaves its content
+-- If all values are durable, a crash leaves exactly them.
 pub left-settled : (content left : Content) → MayLeave (settled content) left → (sector : ℕ)
     → left sector ≡ content sector
 left-settled content left may sector = one_contains (content sector) (left sector) (may sector)
 
--- which it could leave before the flush too
+-- Whatever a crash leaves after a flush, it could leave before the flush.
 pub left-flushed : (cache : Cache) (left : Content) → IsCurrent cache
     → MayLeave (settled cache.now) left → MayLeave cache left
 left-flushed cache left current may = λ sector.
     let Has : List ℕ → Type 0 = λ value. Contains (cache.may sector) value in
     subst Has (sym (left-settled cache.now left may sector)) (current sector)
 
--- the value of each sector is one of its candidates
+-- After any past, the value of each sector is one of its candidates.
 pub is_current : (start : Content) (past : List Step) → IsCurrent (cache_after start past)
 is_current start [] = λ sector. contains_one (start sector)
 is_current start (Puts patch fua ∷ past) = λ sector.
@@ -117,7 +117,7 @@ is_current start (Puts patch fua ∷ past) = λ sector.
     (is_current start past sector)
 is_current start (Flushes ∷ past) = λ sector. contains_one ((cache_after start past).now sector)
 
--- what a crash after a step leaves, one during it may leave
+-- Whatever a crash leaves after a step, it may leave during the step.
 during : (start : Content) (step : Step) (past : List Step) (left : Content)
     → MayLeave (cache_after start (step ∷ past)) left
     → LeftDuring step (cache_after start past) left
@@ -126,7 +126,7 @@ during start (Puts patch fua) past left may =
 during start Flushes past left may =
     left-flushed (cache_after start past) left (is_current start past) may
 
--- either of two facts, by a test
+-- `MatchBool` is one of two types, by a test.
 match_intro : (b : Bool) (P Q : Type 0) → (b ≡ true → P) → (b ≡ false → Q) → MatchBool b P Q
 match_intro true P Q yes_case no_case = yes_case refl
 match_intro false P Q yes_case no_case = no_case refl
@@ -139,7 +139,7 @@ match_false : (b : Bool) (P Q : Type 0) → b ≡ false → MatchBool b P Q → 
 match_false true P Q is has = cc
 match_false false P Q is has = has
 
--- what a crash now may leave, one since an earlier moment may have left
+-- Whatever a crash now may leave, a crash since an earlier reading may have left.
 pub since-nested : (start : Content) (past : List Step) (moment : ℕ) (left : Content)
     → moment ≤ length past
     → MayLeave (cache_after start past) left → LeftSince start past moment left
@@ -149,7 +149,7 @@ since-nested start (step ∷ past) moment left h may =
     (LeftSince start past moment left ⊎ LeftDuring step (cache_after start past) left)
     (λ after. may) (λ before. inr (during start step past left may))
 
--- since now there was no other
+-- Whatever a crash since now may have left, a crash now may leave.
 pub since-now : (start : Content) (past : List Step) (left : Content)
     → LeftSince start past (length past) left
     → MayLeave (cache_after start past) left
@@ -160,7 +160,8 @@ since-now start (step ∷ past) left may =
     (LeftSince start past (suc (length past)) left ⊎ LeftDuring step (cache_after start past) left)
     (lt-ltb (length past) (suc (length past)) (omega arith)) may
 
--- since a moment before a step, what could be left before, and what the step leaves
+-- Whatever a crash since an earlier reading may have left, it may have left before the step or
+-- during it.
 pub since-step : (start : Content) (step : Step) (past : List Step) (moment : ℕ) (left : Content)
     → moment ≤ length past
     → LeftSince start (step ∷ past) moment left
@@ -170,7 +171,7 @@ since-step start step past moment left h may =
     (LeftSince start past moment left ⊎ LeftDuring step (cache_after start past) left)
     (le-ltb (length past) moment h) may
 
--- what may have been left stays so
+-- Whatever a crash may have left before a step, it may still have left after it.
 pub since-kept : (start : Content) (step : Step) (past : List Step) (moment : ℕ) (left : Content)
     → moment ≤ length past
     → LeftSince start past moment left → LeftSince start (step ∷ past) moment left
@@ -179,7 +180,7 @@ since-kept start step past moment left h may =
     (LeftSince start past moment left ⊎ LeftDuring step (cache_after start past) left)
     (λ after. let before = le-ltb (length past) moment h in cc) (λ before. inl may)
 
--- what a step leaves while it runs may have been left since the moment at which it began
+-- Whatever a crash during a step may leave, a crash since the step's start may have left.
 pub since-during : (start : Content) (step : Step) (past : List Step) (left : Content)
     → LeftDuring step (cache_after start past) left
     → LeftSince start (step ∷ past) (length past) left
@@ -190,7 +191,7 @@ since-during start step past left during_it =
     (λ after. let before = le-ltb (length past) (length past) (omega arith) in cc)
     (λ before. inr during_it)
 
--- a write or a discard goes as the law has it
+-- A write or a discard satisfies its frame.
 pub goes_puts : (size : ℕ) (start : Content) (past : List Step) (patch : Patch) (fua : Bool)
     → DeviceFrame patch (view_of size start past) (view_of size start (Puts patch fua ∷ past))
 goes_puts size start past patch fua = record {
@@ -207,7 +208,7 @@ goes_puts size start past patch fua = record {
   honest = λ none. refl;
 }
 
--- and lands
+-- A write or a discard is done.
 pub lands_puts : (size : ℕ) (start : Content) (past : List Step) (patch : Patch) (fua : Bool)
     → WriteDone patch fua (view_of size start past) (view_of size start (Puts patch fua ∷ past))
 lands_puts size start past patch fua = record {
@@ -217,7 +218,7 @@ lands_puts size start past patch fua = record {
       (is_current start past) may;
 }
 
--- a flush goes as the law has it
+-- A flush satisfies its frame.
 pub goes_flush : (size : ℕ) (start : Content) (past : List Step)
     → DeviceFrame nothing (view_of size start past) (view_of size start (Flushes ∷ past))
 goes_flush size start past = record {
@@ -242,17 +243,17 @@ goes_flush size start past = record {
   honest = λ none. refl;
 }
 
--- and syncs
+-- A flush is done: a crash then leaves the content.
 pub syncs_flush : (size : ℕ) (start : Content) (past : List Step)
     → FlushDone (view_of size start (Flushes ∷ past))
 syncs_flush size start past =
     record { only = λ left may. left-settled (cache_after start past).now left may }
 
--- a disk of which nothing happened is synced
+-- If a disk has no past, a crash leaves its content.
 pub syncs_start : (size : ℕ) (start : Content) → FlushDone (view_of size start [])
 syncs_start size start = record { only = λ left may. left-settled start left may }
 
--- each value that was put is a whole sector
+-- each value that the steps put is a whole sector
 abbrev pub HasWholeSteps : List Step → Type 0
 HasWholeSteps [] = Unit {0}
 HasWholeSteps (Puts patch fua ∷ past) = HasWholeValues patch × HasWholeSteps past
@@ -308,7 +309,8 @@ earlier-whole : (step : Step) (past : List Step) → HasWholeSteps (step ∷ pas
 earlier-whole (Puts patch fua) past steps = steps.1
 earlier-whole Flushes past steps = steps
 
--- whatever was left has whole sectors
+-- If the first content and all values that were put are whole sectors, whatever a crash left has
+-- whole sectors.
 pub since-whole : (size : ℕ) (start : Content) (past : List Step) → HasWholeSectors size start
     → HasWholeSteps past
     → (moment : ℕ) (left : Content) → LeftSince start past moment left → HasWholeSectors size left
@@ -329,7 +331,8 @@ since-whole size start (step ∷ past) whole steps moment left may =
       ]
     ]
 
--- the disk is lawful
+-- If the size is a disk's, and the first content and all values have whole sectors, the view is
+-- lawful.
 pub view-lawful : (size : ℕ) (start : Content) (past : List Step) → 0 < size → size ≤ 1048576
     → HasWholeSectors size start
     → HasWholeSteps past → IsLawful (view_of size start past)

@@ -1,5 +1,5 @@
--- Which values a crash may leave in each sector of a disk, after its calls or during one, and
--- which of them the picks of `crash` leave.
+-- The candidates of each sector of a disk: the values that a crash may leave there, after a call or
+-- during one. The picks of `crash` choose among them.
 use Rattle.std.specs.Prelude.{ℕ, suc, zero, ◌+◌, ◌%◌, ◌⊎◌, nat_lt, Bool, true, false, Option, None}
 use Rattle.std.specs.Prelude.{Some, unwrap_or, List, [], ◌∷◌, ◌++◌, length, slice_get, Contains}
 use Rattle.std.specs.Prelude.{MatchBool, if◌then◌else◌}
@@ -7,32 +7,31 @@ use Rattle.bio.specs.Content.{Content, Patch, put}
 use Rattle.blockdev.specs.Law.{AfterPatch}
 use Rattle.blockdev.specs.View.{View}
 
--- What a disk knows of its sectors.
+-- The content of a disk, and what a crash may leave of it.
 pub record Cache : Type 0 where
-  -- the value of each, which a read finds
+  -- the value of each sector, which a read returns
   pub now : Content
-  -- its candidates, of which a crash may leave any: the
-  -- durable value first, then those written since, in order
+  -- the candidates of each sector, of which a crash may leave any: the durable value first, then
+  -- the values written since, in order
   pub may : ℕ → List (List ℕ)
 
--- What happens to a disk: a write or a discard puts values,
--- with FUA or without; a flush makes them durable.
+-- A step of a disk's past: a write or a discard puts values, or a flush makes all values durable.
 pub data Step : Type 0 where
   Puts : (patch : Patch) (fua : Bool) → Step
   Flushes : Step
 
--- a disk of which each sector is durable
+-- a disk on which each sector's value is durable
 abbrev pub settled : Content → Cache
 settled content = record { now = content; may = λ sector. content sector ∷ [] }
 
--- the candidates of a sector after a call: a value written
--- with FUA is durable, another one comes last
+-- The candidates of a sector after a call. A value written with FUA is the only one; another value
+-- is added as the last one.
 abbrev pub candidates_after : Option (List ℕ) → Bool → List (List ℕ) → List (List ℕ)
 candidates_after None fua old = old
 candidates_after (Some value) true old = value ∷ []
 candidates_after (Some value) false old = old ++ value ∷ []
 
--- a disk after one step
+-- the cache after one more step
 abbrev pub after_step : Step → Cache → Cache
 after_step (Puts patch fua) cache =
     record {
@@ -41,21 +40,22 @@ after_step (Puts patch fua) cache =
     }
 after_step Flushes cache = settled cache.now
 
--- a disk that started from this content, after its past, of which the newest step comes first
+-- the cache of a disk with the first content `start`, after the steps of its past, newest first
 abbrev pub cache_after : Content → List Step → Cache
 cache_after start [] = settled start
 cache_after start (step ∷ past) = after_step step (cache_after start past)
 
--- a crash may leave this: each sector has one of its candidates, whatever the others have
+-- A crash may leave the content `left`: each sector has one of its candidates.
 abbrev pub MayLeave : Cache → Content → Type 0
 MayLeave cache left = (sector : ℕ) → Contains (cache.may sector) (left sector)
 
--- what a crash during a step may leave: during a flush, what it could leave before
+-- A crash during a step may leave this content. During a write or discard it is a content that it
+-- could leave before, patched; during a flush, one that it could leave before.
 abbrev pub LeftDuring : Step → Cache → Content → Type 0
 LeftDuring (Puts patch fua) cache = AfterPatch patch (MayLeave cache)
 LeftDuring Flushes cache = MayLeave cache
 
--- What a crash from a moment on may have left, between two
+-- A crash may have left the content `left` since the clock had the reading `moment`, between two
 -- steps or during one. The clock counts the steps.
 abbrev pub LeftSince : Content → List Step → ℕ → Content → Type 0
 LeftSince start [] moment left = MayLeave (settled start) left
@@ -63,8 +63,7 @@ LeftSince start (step ∷ past) moment left = MatchBool (nat_lt (length past) mo
     (MayLeave (cache_after start (step ∷ past)) left)
     (LeftSince start past moment left ⊎ LeftDuring step (cache_after start past) left)
 
--- a disk of this size, with this start and this past, as
--- contracts see a device: it never fails and never lies
+-- the view of a disk with this size, first content and past: it never fails and never lies
 abbrev pub view_of : ℕ → Content → List Step → View
 view_of size start past = record {
   size = size;
@@ -78,23 +77,23 @@ view_of size start past = record {
   can_lie = false;
 }
 
--- 1 for a sector that has more candidates than its durable value, and else 0
+-- 1 if the sector has a candidate other than its durable value, else 0
 abbrev pub unsynced_at : Cache → ℕ → ℕ
 unsynced_at cache sector = if nat_lt 1 (length (cache.may sector)) then 1 else 0
 
--- how many sectors below this one are unsynced
+-- the number of unsynced sectors below this one
 abbrev pub unsynced_below : Cache → ℕ → ℕ
 unsynced_below cache zero = 0
 unsynced_below cache (suc sector) = unsynced_below cache sector + unsynced_at cache sector
 
--- Which of its candidates a sector takes. The n-th unsynced one takes the n-th pick, modulo the
--- number of its candidates, and the durable value if there is no pick. A sector that is synced has
--- no other candidate.
+-- The index of the candidate that a sector takes. The n-th unsynced sector takes the n-th pick,
+-- modulo the number of its candidates. Without a pick it takes the durable value. A synced sector
+-- has only one candidate.
 abbrev pub choice_of : Cache → List ℕ → ℕ → ℕ
 choice_of cache picks sector =
     unwrap_or (slice_get picks (unsynced_below cache sector)) 0 % length (cache.may sector)
 
--- what a crash leaves by these picks
+-- the content that a crash with these picks leaves
 abbrev pub left_by : Cache → List ℕ → Content
 left_by cache picks sector =
     unwrap_or (slice_get (cache.may sector) (choice_of cache picks sector)) []

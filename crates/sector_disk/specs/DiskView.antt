@@ -1,5 +1,4 @@
--- What contracts see of a `SectorDisk`: its start, its past, and exactly what each
--- call does to it.
+-- The view of a `SectorDisk`: its first content, its past, and the exact effect of each call.
 use Rattle.std.specs.Prelude.{◌≡◌, ℕ, ◌/◌, false, Result, Ok, Err, List, [], ◌∷◌, length}
 use Rattle.bio.specs.declared.outcome.DevError.{DevError}
 use Rattle.bio.specs.declared.outcome.DevError.TheVariants.{Io, Memory}
@@ -11,42 +10,42 @@ use Rattle.sector_disk.specs.declared.disk.SectorDisk.{SectorDisk}
 use Rattle.sector_disk.specs.Candidates.{Cache, Flushes, Puts, Step, cache_after, view_of}
 use Rattle.sector_disk.specs.inside.Storage.{content_at, past_of}
 
--- what a disk started from
+-- the content when the disk's past began
 abbrev pub start_of : SectorDisk → Content
 start_of disk = content_at disk.calls.items disk.base.items
 
--- what happened to it since, the newest first
+-- the steps of the disk's past, newest first
 abbrev pub steps_of : SectorDisk → List Step
 steps_of disk = past_of disk.calls.items disk.begun disk.flushed
 
--- what it knows of its sectors
+-- the disk's content, and what a crash may leave of it
 abbrev pub cache_of : SectorDisk → Cache
 cache_of disk = cache_after (start_of disk) (steps_of disk)
 
--- what contracts see of it
+-- the view of the disk in contracts
 abbrev pub shown_of : SectorDisk → View
 shown_of disk = view_of disk.sectors (start_of disk) (steps_of disk)
 
--- the disk has this past now, and its size and its start as before
+-- `new` has the past `steps`, and the size and first content of `old`
 pub record HasPast (old new : SectorDisk) (steps : List Step) : Type 0 where
   pub sectors : new.sectors ≡ old.sectors
   pub start : start_of new ≡ start_of old
   pub past : steps_of new ≡ steps
 
--- the past after a flush: a second one after another is none
+-- the past after a flush; a flush that follows another adds nothing
 abbrev pub flushed_after : List Step → List Step
 flushed_after [] = Flushes ∷ []
 flushed_after (Flushes ∷ past) = Flushes ∷ past
 flushed_after (Puts patch fua ∷ past) = Flushes ∷ Puts patch fua ∷ past
 
--- A call that takes memory is done, and ends at once; or
--- there is no memory, and nothing is changed.
+-- The result of a call that takes memory. Either it is Ok at the time `now`, and the call is done.
+-- Or it is out of memory, and nothing is changed.
 abbrev pub IsDoneOrRefused : ℕ → Result ℕ DevError → Type 0 → Type 0 → Type 0
 IsDoneOrRefused now (Ok end) done unchanged = (end ≡ now) × done
 IsDoneOrRefused now (Err Memory) done unchanged = unchanged
 IsDoneOrRefused now (Err Io) done unchanged = ⊥
 
--- What a call does to a disk, and answers, exactly.
+-- The exact effect and result of a call of a disk.
 abbrev pub Does : SectorDisk → Call → ℕ → Result ℕ DevError → SectorDisk → Type 0
 Does old (calls.Reads first before after) now result new =
     (result ≡ Ok now) × HasPast old new (steps_of old)

@@ -1,4 +1,4 @@
--- A disk keeps the law of a device.
+-- The view of a `SectorDisk` is lawful.
 use Rattle.std.proofs.Common.{arith, ◌≡◌, ℕ, suc, zero, ◌+◌, ◌-◌, Bool, true, false, Some, None}
 use Rattle.std.proofs.Common.{List, length, replicate, refl}
 use Rattle.std.specs.Prelude.{Option, slice_get, unwrap_or}
@@ -25,7 +25,7 @@ values-whole call = at call.first call.change
     at first (Image bytes) = writes-whole first bytes
     at first (Discard count) = discards-whole first count
 
--- so is each value that a disk holds
+-- Each value that a disk has in a sector is a whole sector.
 pub value_at-whole : (calls : List Call) (place sector : ℕ)
     → length (value_at calls place sector) ≡ 512
 value_at-whole calls place sector = at (slice_get calls place)
@@ -44,7 +44,7 @@ flushed-whole : (flushed : Bool) (past : List Step) → HasWholeSteps past
 flushed-whole true past whole = whole
 flushed-whole false past whole = whole
 
--- and each that its past put
+-- Each value that the steps of a disk's past put is a whole sector.
 steps-whole : (calls : List Call) (begun n : ℕ) → HasWholeSteps (steps_of calls begun n)
 steps-whole calls begun zero = tt
 steps-whole calls begun (suc n) = at (slice_get calls (begun + n)) (steps-whole calls begun n)
@@ -55,7 +55,7 @@ steps-whole calls begun (suc n) = at (slice_get calls (begun + n)) (steps-whole 
     at (Some call) earlier =
         (values-whole call, flushed-whole call.after_flush (steps_of calls begun n) earlier)
 
--- the disk is lawful
+-- The view of each disk is lawful.
 pub disk_lawful : (disk : SectorDisk) → IsLawful (shown_of disk)
 disk_lawful disk =
     view-lawful disk.sectors (start_of disk) (shown.steps_of disk) disk.kept.some disk.kept.few
@@ -63,7 +63,7 @@ disk_lawful disk =
     (flushed-whole disk.flushed _
     (steps-whole disk.calls.items disk.begun (length disk.calls.items - disk.begun)))
 
--- its sectors are whole
+-- The content of a disk has whole sectors.
 pub content_whole : (disk : SectorDisk) → HasWholeSectors disk.sectors (shown_of disk).content
 content_whole disk =
     let lawful = disk_lawful disk in

@@ -1,22 +1,22 @@
--- How large a disk and its image may be, and with what a disk's past begins: when
--- made, and at a crash.
+-- The sizes that a disk and its image may have, and the view of a disk whose past begins.
 use Rattle.std.specs.Prelude.{◌≡◌, ℕ, ◌/◌, ◌%◌, ◌<◌, ◌≤◌}
 use Rattle.bio.specs.Content.{Content}
 use Rattle.blockdev.specs.Law.{FlushDone}
 use Rattle.blockdev.specs.View.{View}
 
--- a disk may have this many sectors
+-- a disk may have `sectors` sectors
 pub record IsDiskSize (sectors : ℕ) : Type 0 where
   pub some : 0 < sectors
   pub few : sectors ≤ 1048576
 
--- an image of a disk may have this many bytes: whole sectors, and no more than a disk may have
+-- an image of a disk may have `length` bytes: whole sectors, at least one, and at most a disk's
 pub record IsImageSize (length : ℕ) : Type 0 where
   pub whole : length % 512 ≡ 0
   pub some : 0 < length
   pub few : length / 512 ≤ 1048576
 
--- The past of a device of this size begins with this content: a crash leaves only that.
+-- The past of a device of `sectors` sectors begins with the content `start`: a crash leaves only
+-- this content, and the clock is at 0.
 pub record Begins (sectors : ℕ) (start : Content) (v : View) : Type 0 where
   pub size : v.size ≡ sectors
   pub content : (sector : ℕ) → sector < sectors → v.content sector ≡ start sector

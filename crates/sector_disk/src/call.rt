@@ -1,4 +1,4 @@
-//! The writes and discards that a disk keeps, and how its sectors are read back from them.
+//! The writes and discards that a disk keeps, and the sectors' values that are read from them.
 ghost use Rattle.std.specs.Prelude.{true, ◌∷◌, ◌++◌, ◌≡◌, ◌%◌, ◌*◌, ◌+◌, ◌/◌, ◌≤◌, IfOk};
 ghost use Rattle.std.specs.Prelude.{None, OnErr, OnOk, Some, [], drop, length};
 ghost use Rattle.std.specs.Prelude.{replicate, slice_get, take, unwrap_or};
@@ -15,22 +15,22 @@ use bio::SECTOR_BYTES;
 use std::alloc::{AllocError, Global};
 use std::mem;
 
-/// A sector's size in bytes.
+/// The size of a sector in bytes.
 pub const SECTOR: usize = SECTOR_BYTES as usize;
 
-/// What a call puts in its sectors.
+/// The values that a call puts in its sectors.
 #[derive(Debug, Drop)]
 pub enum Change {
     /// The bytes of a write: whole sectors.
     Write(FilledBytes),
-    /// The bytes of an image in pieces: whole sectors.
+    /// The bytes of an image, in pieces: whole sectors.
     Image(Image),
-    /// Zeroes, in this many sectors.
+    /// Zeroes, in the given number of sectors.
     Discard(u64),
 }
 
 impl Change {
-    /// Returns how many sectors it puts a value in.
+    /// Returns the number of sectors that the change covers.
     pub fn sectors(&self) -> u64
         ensures { result ≡ count_of self.now }
     {
@@ -42,22 +42,22 @@ impl Change {
     }
 }
 
-/// A write or a discard that a disk keeps, for as long as it lives: so it is small.
+/// A write or a discard that a disk keeps. A disk keeps all its calls, so a call is small.
 #[derive(Debug, Drop)]
 pub struct Call {
-    /// Its first sector: a disk has less than 2^32 sectors.
+    /// The first sector of the call. It fits, since a disk has less than 2^32 sectors.
     pub first: u32,
     pub fua: bool,
-    /// Whether a flush came between the call before it and this one.
+    /// Whether a flush came between the previous call and this one.
     pub after_flush: bool,
     pub change: Change,
-    /// For each of its sectors, the place of the call that put the value before.
+    /// For each of the call's sectors, the index of the call that had put its value before.
     pub before: Runs,
 }
 
 const _: () = prove!(mem::size_of::<Call>() <= 64);
 
-// Reads a sector as a write from `first` on left it: zeroes if it wrote nothing there.
+// Reads the value that a write from `first` on put in the sector; zeroes if it put none.
 fn read_written(bytes: &FilledBytes, first: u64, sector: u64, buffer: &mut [u8])
     requires { length buffer.old ≡ 512 }
     ensures { buffer.new ≡ unwrap_or (writes first bytes.now sector) (replicate 512 0) }
@@ -70,7 +70,7 @@ fn read_written(bytes: &FilledBytes, first: u64, sector: u64, buffer: &mut [u8])
     bytes.read((sector - first) as usize * SECTOR, buffer);
 }
 
-// Reads a sector as an image from `first` on left it: zeroes if it has nothing there.
+// Reads the value that an image from `first` on has for the sector; zeroes if it has none.
 fn read_image(image: &Image, first: u64, sector: u64, buffer: &mut [u8])
     requires { length buffer.old ≡ 512 }
     ensures { buffer.new ≡ unwrap_or (writes first image.now sector) (replicate 512 0) }
@@ -83,7 +83,7 @@ fn read_image(image: &Image, first: u64, sector: u64, buffer: &mut [u8])
     image.read_sector((sector - first) as usize * SECTOR, buffer);
 }
 
-// Reads a sector as a call left it: zeroes if the call wrote nothing there.
+// Reads the value that the call put in the sector; zeroes if it put none.
 fn read_call(call: &Call, sector: u64, buffer: &mut [u8])
     requires { length buffer.old ≡ 512 }
     ensures { buffer.new ≡ value_in (Some call.now) sector }
@@ -95,7 +95,7 @@ fn read_call(call: &Call, sector: u64, buffer: &mut [u8])
     }
 }
 
-// Reads a sector as the call at a place left it.
+// Reads the value that the call at index `place` put in the sector; zeroes if there is none.
 fn read_place(calls: &[Call], place: usize, sector: u64, buffer: &mut [u8])
     requires { length buffer.old ≡ 512 }
     ensures { buffer.new ≡ value_at calls.now place sector }
@@ -106,14 +106,14 @@ fn read_place(calls: &[Call], place: usize, sector: u64, buffer: &mut [u8])
     }
 }
 
-// Returns the place of a sector: the first call's if there is no table yet.
+// Returns the index of the sector's call; the first call's if the table is empty or shorter.
 fn place_of(places: &[usize], sector: usize) -> usize
     ensures { result ≡ place_of places.now sector }
 {
     places.get(sector).copied().unwrap_or(0)
 }
 
-/// Reads whole sectors, each as the call at its place left it.
+/// Reads whole sectors from `first` on. Each has the value of the call at its index in `places`.
 pub fn read_places(calls: &[Call], places: &[usize], first: usize, buffer: &mut [u8])
     requires whole { length buffer.old % 512 ≡ 0 }
     requires within { first + length buffer.old / 512 ≤ 1048576 }
@@ -132,8 +132,7 @@ pub fn read_places(calls: &[Call], places: &[usize], first: usize, buffer: &mut 
     }
 }
 
-/// Returns whether the first of these calls is a write of `sectors` sectors, from the first sector
-/// on.
+/// Returns whether the first call is a write of `sectors` sectors from sector 0 on.
 pub fn begins_with_image(calls: &[Call], sectors: usize) -> bool
     requires { sectors ≤ 1048576 }
     ensures { result ≡ is_image_in (slice_get calls.now 0) sectors }
@@ -155,7 +154,8 @@ fn is_write_of(change: &Change, sectors: usize) -> bool
     }
 }
 
-// Puts into an image, each in its place, the sectors that calls after the first one left.
+// Puts the values of later calls into an image: for each sector whose newest call isn't the first
+// one. `later` are the calls after the first.
 fn put_later(later: &[Call], places: &[usize], sectors: usize, image: &mut [u8])
     requires whole { length image.old ≡ 512 * sectors }
     requires few { sectors ≤ 1048576 }
@@ -175,7 +175,7 @@ fn put_later(later: &[Call], places: &[usize], sectors: usize, image: &mut [u8])
     }
 }
 
-// Puts them into an image that is a vector.
+// As above, for an image in a vector.
 fn put_in(later: &[Call], places: &[usize], sectors: usize, image: &mut Vec<u8>)
     requires whole { length image.old.items ≡ 512 * sectors }
     requires few { sectors ≤ 1048576 }
@@ -184,8 +184,8 @@ fn put_in(later: &[Call], places: &[usize], sectors: usize, image: &mut Vec<u8>)
     put_later(later, places, sectors, image);
 }
 
-/// Returns the bytes of all sectors, each as the call at its place left it, in the bytes of the
-/// first call, which is a write of all of them. Lack of memory is an error.
+/// Returns the bytes of all sectors, each with the value of its newest call. The first call is a
+/// write of all sectors: its bytes are reused for the result. Lack of memory is an error.
 pub fn take_image(
     alloc: Global,
     calls: &mut [Call],
@@ -207,7 +207,7 @@ pub fn take_image(
     Ok(Vec::new(alloc))
 }
 
-/// Returns the places of a range of sectors. Lack of memory is an error.
+/// Copies the entries of `count` sectors from `first` on. Lack of memory is an error.
 pub fn copy_places(
     alloc: Global,
     places: &[usize],
@@ -220,7 +220,7 @@ pub fn copy_places(
     Runs::from_slice(alloc, &places[first..first + count])
 }
 
-// Gives a range of sectors one place.
+// Sets the entries of `count` sectors from `first` on to `place`.
 fn fill_places(places: &mut Vec<usize>, first: usize, count: usize, place: usize)
     requires { first + count ≤ length places.old.items }
     ensures { IsFilled first count place places.old.items places.new.items }
@@ -228,8 +228,7 @@ fn fill_places(places: &mut Vec<usize>, first: usize, count: usize, place: usize
     places[first..first + count].fill(place);
 }
 
-/// Adds a call, which is then the newest of its sectors.
-/// If there is no memory, nothing is changed.
+/// Adds a call as the newest of its sectors. If an allocation fails, nothing is changed.
 pub fn add_call(
     calls: &mut Vec<Call>,
     newest: &mut Vec<usize>,
@@ -250,15 +249,15 @@ pub fn add_call(
     Ok(())
 }
 
-/// Returns whether the call at a place isn't durable: it came after the last flush, and without
-/// FUA.
+/// Returns whether the call at index `place` isn't durable: it came after the last flush or crash,
+/// and without FUA.
 pub fn is_open(calls: &[Call], synced: usize, place: usize) -> bool
     ensures { result ≡ is_open calls.now synced place }
 {
     synced <= place && calls.get(place).is_some_and(|call| !call.fua)
 }
 
-/// Returns the place of the call that put a sector's value before the call at this place did.
+/// Returns the index of the call that had put the sector's value before the call at `place` did.
 pub fn before(calls: &[Call], place: usize, sector: usize) -> usize
     ensures { result ≡ before_at calls.now place sector }
 {

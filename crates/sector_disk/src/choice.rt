@@ -1,4 +1,4 @@
-//! Finds for each sector the candidate that the picks of a crash give it: `choose` is for `crash`.
+//! Finds the candidate of each sector that the picks of a crash name. `crash` calls `choose`.
 ghost use Rattle.std.specs.Prelude.{◌≡◌, ◌-◌, ◌%◌, ◌<◌, ◌≤◌, length, slice_get, true, unwrap_or, ℕ};
 ghost use Rattle.sector_disk.specs.Candidates.{Cache};
 ghost use Rattle.sector_disk.specs.inside.Choice.{AreChosen};
@@ -6,8 +6,7 @@ ghost use Rattle.sector_disk.specs.inside.Storage.{ArePlaced, is_chain, walk};
 
 use crate::call::{Call, before, is_open};
 
-// Returns how many candidates a sector has: the calls that aren't
-// durable, from its newest back to the first that is.
+// Returns the number of a sector's candidates: its calls from the newest back to a durable one.
 fn count_candidates(calls: &[Call], synced: usize, sector: usize, newest: usize) -> usize
     ensures some { 0 < result }
     ensures count { (count : ℕ) → count ≤ length calls.now →
@@ -23,7 +22,7 @@ fn count_candidates(calls: &[Call], synced: usize, sector: usize, newest: usize)
     1
 }
 
-// Returns the place that is `steps` calls of a sector back.
+// Returns the index of the sector's call that is `steps` calls before its newest.
 fn walk_back(calls: &[Call], sector: usize, newest: usize, steps: usize) -> usize
     ensures { result ≡ walk calls.now sector steps newest }
 {
@@ -34,14 +33,14 @@ fn walk_back(calls: &[Call], sector: usize, newest: usize, steps: usize) -> usiz
     place
 }
 
-// Returns the pick at a place, and 0 if there is none.
+// Returns the pick at index `place`, or 0 if there is none.
 fn pick_at(picks: &[u64], place: usize) -> u64
     ensures { result ≡ unwrap_or (slice_get picks.now place) 0 }
 {
     picks.get(place).copied().unwrap_or(0)
 }
 
-/// Finds for each sector the place of the candidate that the picks give it.
+/// Sets, for each sector, the index of the call whose value the picks name.
 pub fn choose(
     calls: &[Call],
     synced: usize,

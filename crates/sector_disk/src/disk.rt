@@ -1,4 +1,4 @@
-//! A disk in memory that keeps its past, so that what a crash may leave is known exactly.
+//! A disk in memory that keeps its past, so that contracts know exactly what a crash may leave.
 ghost use Rattle.std.proofs.Props.{props};
 ghost use Rattle.std.specs.Prelude.{◌≤◌, length, vec_capacity};
 ghost use Rattle.sector_disk.specs.inside.Storage.{IsKept};
@@ -13,27 +13,29 @@ mod power;
 
 /// A disk in memory, of 1 to 1,048,576 sectors of 512 bytes, with a cache that `crash` loses.
 ///
-/// It keeps its past, for as long as it lives. A call takes 64 bytes, and the bytes of a write
-/// without those at its end that are all the same. If the last writes of its sectors differ, it
-/// takes 16 bytes more for each run of sectors with the same one. From the first call on there are
-/// 8 bytes for each sector of the disk, and room for 8 more, which the first crash fills.
+/// The disk keeps its past for as long as it lives. A call takes 64 bytes, and the bytes of a
+/// write, except those at its end that are all the same. If its sectors' previous writes differ, a
+/// call also takes 16 bytes for each run of sectors with the same previous write. From the first
+/// call on, the disk has a table of 8 bytes for each sector. It also has room for a second table,
+/// which the first crash fills.
 #[derive(Debug, Drop)]
 pub struct SectorDisk {
     alloc: Global,
     sectors: u64,
-    // The writes and discards since the disk was made; the first one is what it was made of.
+    // The writes and discards since the disk was made. The first one is the disk's first content.
     calls: Vec<Call>,
-    // For each sector the place of the call that has its value;
-    // empty before the second call, when each has the first's.
+    // For each sector, the index of the call that put its value. Empty before the second call: then
+    // each sector has the value of the first call.
     newest: Vec<usize>,
-    // For each sector the place of the call that had its value when the past began, at the last
-    // crash. Empty before the first crash, when each has the first's; it has room for all sectors.
+    // For each sector, the index of the call that put its value before the past began, at the last
+    // crash. Empty before the first crash: then each sector has the value of the first call. It has
+    // room for all sectors.
     base: Vec<usize>,
     // The number of calls when the past began.
     begun: usize,
-    // The number of calls at the last flush.
+    // The number of calls at the last flush or crash.
     synced: usize,
-    // Whether that flush came after the last call.
+    // Whether a flush came after the last call or crash.
     flushed: bool,
     ghost room: { length newest.items ≤ vec_capacity base },
     ghost kept: { IsKept sectors calls.items newest.items base.items begun synced flushed } by { Prim.hlevel props },

@@ -1,18 +1,18 @@
-//! Bytes whose last ones are often all the same, as in a sector. The others are stored, and that
-//! one byte once.
+//! Bytes whose last ones are often all the same, as in a sector. The first bytes are stored, and
+//! the repeated byte once.
 ghost use Rattle.std.specs.Prelude.{◌≡◌, ◌+◌, ◌++◌, ◌-◌, ◌<◌, ◌≤◌, IfOk, OnOk, drop, length, replicate, take};
 
 use std::alloc::{AllocError, Global};
 use std::marker::Model;
 
-/// A list of bytes. The bytes at its end take no memory if they are all the same.
+/// A list of bytes. If the bytes at its end are all the same, they take no memory.
 #[derive(Debug, Drop)]
 pub struct FilledBytes {
     // The first bytes.
     bytes: Vec<u8>,
-    // The number of bytes that follow those.
+    // The number of the bytes that follow.
     more: u32,
-    // Each of the bytes that follow.
+    // The value of each byte that follows.
     fill: u8,
 }
 
@@ -26,8 +26,8 @@ impl Model for FilledBytes {
     ghost invariant = { λ b. length b.bytes.items + b.more < 18446744073709551616 };
 }
 
-// Returns the end of the bytes without the groups of N at it in which each byte is this one. Behind
-// `end` each byte is this one already.
+// Returns `end`, moved back over each group of N bytes before it that are all `fill`. From `end`
+// on, all bytes are `fill` already.
 fn without_groups<const N: usize>(bytes: &[u8], end: usize, fill: u8) -> usize
     requires some { 0 < N }
     requires within { end ≤ length bytes.now }
@@ -43,7 +43,7 @@ fn without_groups<const N: usize>(bytes: &[u8], end: usize, fill: u8) -> usize
     end
 }
 
-/// Returns the end of the bytes without those at it that are this one.
+/// Returns an index from which on all bytes are `fill`, as low as possible.
 pub(crate) fn count_before(bytes: &[u8], fill: u8) -> usize
     ensures within { result ≤ length bytes.now }
     ensures filled { drop result bytes.now ≡ replicate (length bytes.now - result) fill }
@@ -55,8 +55,8 @@ pub(crate) fn count_before(bytes: &[u8], fill: u8) -> usize
     without_groups::<1>(bytes, end, fill)
 }
 
-// Splits bytes of which those from `end` on are all `fill`: how many are held, and how many of that
-// byte follow on them. Bytes whose repeated end is too long to be counted are all held.
+// Splits bytes of which those from `end` on are all `fill`: returns the number of bytes to store,
+// and how often `fill` follows. If that count doesn't fit, all bytes are stored.
 fn split_counts(bytes: &[u8], end: usize, fill: u8) -> (usize, u32)
     requires within { end ≤ length bytes.now }
     requires filled { drop end bytes.now ≡ replicate (length bytes.now - end) fill }
@@ -81,7 +81,7 @@ impl FilledBytes {
         }
     }
 
-    /// Returns the bytes of a vector, which is kept. Takes no memory.
+    /// Makes the list of the bytes of a vector, which is kept. Takes no memory.
     pub fn from_vec(bytes: Vec<u8>) -> FilledBytes
         ensures { result ≡ bytes.items }
     {
@@ -92,12 +92,12 @@ impl FilledBytes {
         }
     }
 
-    /// Returns the bytes of a slice. Takes memory for those up to the last that differs from the
-    /// byte at the end.
+    /// Makes the list of the bytes of a slice. Takes memory for the bytes up to the last one that
+    /// differs from the byte at the end.
     ///
     /// # Errors
     ///
-    /// There was no memory.
+    /// An allocation fails.
     pub fn from_slice(alloc: Global, bytes: &[u8]) -> Result<FilledBytes, AllocError>
         ensures { IfOk result (λ copy. copy ≡ bytes.now) }
     {
@@ -105,12 +105,12 @@ impl FilledBytes {
         FilledBytes::from_filled(alloc, bytes, count_before(bytes, fill), fill)
     }
 
-    /// Returns the bytes of a slice, of which those from `end` on are all `fill`. Takes memory for
-    /// the others.
+    /// Makes the list of the bytes of a slice, of which those from `end` on are all `fill`. Takes
+    /// memory for the bytes before `end`.
     ///
     /// # Errors
     ///
-    /// There was no memory.
+    /// An allocation fails.
     pub(crate) fn from_filled(
         alloc: Global,
         bytes: &[u8],
@@ -129,14 +129,14 @@ impl FilledBytes {
         })
     }
 
-    /// Returns how many bytes there are.
+    /// Returns the number of bytes.
     pub fn len(&self) -> usize
         ensures { result ≡ length self.now }
     {
         self.bytes.len() + self.more as usize
     }
 
-    /// Reads bytes from a place on, until the buffer is full.
+    /// Reads bytes from index `from` on, until the buffer is full.
     pub fn read(&self, from: usize, buffer: &mut [u8])
         requires { from + length buffer.old ≤ length self.now }
         ensures { buffer.new ≡ take (length buffer.old) (drop from self.now) }
@@ -148,11 +148,11 @@ impl FilledBytes {
         rest.fill(self.fill);
     }
 
-    /// Appends the bytes to a vector. If there is no memory, a prefix of them may be appended.
+    /// Appends the bytes to a vector. If an allocation fails, it may have a prefix of them.
     ///
     /// # Errors
     ///
-    /// There was no memory.
+    /// An allocation fails.
     pub(crate) fn append_to(&self, to: &mut Vec<u8>) -> Result<(), AllocError>
         requires { length to.old.items + length self.now < 18446744073709551616 }
         ensures { OnOk result (to.new.items ≡ to.old.items ++ self.now) }
@@ -161,11 +161,11 @@ impl FilledBytes {
         to.resize(to.len() + self.more as usize, self.fill)
     }
 
-    /// Returns the bytes as a vector. Takes no memory if they were made from one.
+    /// Returns the bytes as a vector. Takes no memory if the list was made of a vector.
     ///
     /// # Errors
     ///
-    /// There was no memory.
+    /// An allocation fails.
     pub fn into_vec(self) -> Result<Vec<u8>, AllocError>
         ensures { IfOk result (λ bytes. bytes.items ≡ self) }
     {

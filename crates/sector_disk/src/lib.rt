@@ -1,8 +1,8 @@
 //! A disk in memory, whose crashes are known exactly.
 //!
-//! `SectorDisk` is a device that never fails and never lies. It keeps its past: what it started
-//! from, and each write and discard since, so that contracts know what a crash at any moment may
-//! leave, and `crash` leaves exactly what its picks name (`specs/Candidates`).
+//! `SectorDisk` is a device that fails only if an allocation fails, and never lies. It keeps its
+//! past: its first content, and each write and discard since. So contracts know what a crash at any
+//! time may leave, and `crash` leaves exactly what its picks name (`specs/Candidates`).
 #![tactic(auto)]
 
 pub use disk::SectorDisk;

@@ -1,4 +1,4 @@
-//! Whole sectors, each held without the bytes at its end that repeat the one before them.
+//! Whole sectors, each stored without the bytes at its end that repeat the byte before them.
 ghost use Rattle.std.specs.Prelude.{◌≡◌, ◌+◌, ◌++◌, ◌<◌, ◌≤◌, ◌%◌, IfOk, IsSome, OnOk, drop, length, take};
 ghost use Rattle.sector_disk.specs.inside.Packed.{ArePacked, part_at, refilled};
 
@@ -7,17 +7,17 @@ use crate::filled::count_before;
 use std::alloc::{AllocError, Global};
 use std::marker::Model;
 
-// The number of bytes of a bound.
+// The size of a bound in bytes.
 const BOUND: usize = 4;
 
-/// The bytes of up to 128 whole sectors. The bytes at a sector's end that are all the same take the
-/// memory of one byte.
+/// The bytes of up to 128 whole sectors. The bytes at a sector's end that are all the same are
+/// stored as one byte.
 #[derive(Debug, Drop)]
 pub struct PackedSectors {
-    // For each sector in turn, its bytes up to the first of those at its end that are all the same.
+    // For each sector in turn, its bytes up to and including the first of those at its end that are
+    // all the same.
     bytes: Vec<u8>,
-    // The places at which the bytes of each sector begin, and then the place at which the last ones
-    // end.
+    // For each sector, the index in `bytes` of its first byte; then the index after the last byte.
     bounds: Vec<u32>,
 }
 
@@ -33,7 +33,7 @@ impl Model for PackedSectors {
     ghost invariant = { λ s. ArePacked s.bytes.items s.bounds.items };
 }
 
-// Returns how many of a sector's first bytes are held. The last of them fills the rest.
+// Returns how many of a sector's first bytes to store. The last of them fills the rest.
 fn count_held(sector: &[u8]) -> usize
     requires { length sector.now ≡ 512 }
     ensures within { result ≤ 512 }
@@ -43,7 +43,7 @@ fn count_held(sector: &[u8]) -> usize
     (count_before(sector, last) + 1).min(SECTOR)
 }
 
-// Returns the bytes that are held of a sector.
+// Returns the stored bytes of a sector.
 fn part_at<'a>(bytes: &'a [u8], bounds: &[u32], sector: usize) -> &'a [u8]
     requires packed { ArePacked bytes.now bounds.now }
     requires within { sector + 1 < length bounds.now }
@@ -55,7 +55,7 @@ fn part_at<'a>(bytes: &'a [u8], bounds: &[u32], sector: usize) -> &'a [u8]
     &bytes[from..end]
 }
 
-// Reads the sector of which these bytes are held.
+// Fills the buffer with the sector whose stored bytes are `part`.
 fn refill(part: &[u8], buffer: &mut [u8])
     requires few { length part.now ≤ 512 }
     requires sector { length buffer.old ≡ 512 }
@@ -67,8 +67,8 @@ fn refill(part: &[u8], buffer: &mut [u8])
     rest.fill(last);
 }
 
-/// Returns how many bytes of a slice are held if it is packed. None if it isn't whole sectors, or
-/// if that takes more than `most` bytes of memory.
+/// Returns the number of bytes to store if a slice is packed. Returns none if the slice isn't whole
+/// sectors, or if packing takes more than `most` bytes of memory.
 pub fn packed_size(bytes: &[u8], most: usize) -> Option<usize>
     ensures { IsSome result → length bytes.now % 512 ≡ 0 }
 {
@@ -89,11 +89,11 @@ pub fn packed_size(bytes: &[u8], most: usize) -> Option<usize>
 }
 
 impl PackedSectors {
-    /// Returns the bytes of a slice, of which `size` are held.
+    /// Packs the bytes of a slice; `size` is the number of bytes to store.
     ///
     /// # Errors
     ///
-    /// There was no memory.
+    /// An allocation fails.
     pub fn from_slice(alloc: Global, bytes: &[u8], size: usize) -> Result<PackedSectors, AllocError>
         requires whole { length bytes.now % 512 ≡ 0 }
         requires few { length bytes.now ≤ 65536 }
@@ -115,7 +115,7 @@ impl PackedSectors {
         })
     }
 
-    /// Returns how many bytes there are: those of whole sectors.
+    /// Returns the number of bytes: those of whole sectors.
     pub fn len(&self) -> usize
         ensures count { result ≡ length self.now }
         ensures whole { result % 512 ≡ 0 }
@@ -123,7 +123,7 @@ impl PackedSectors {
         (self.bounds.len() - 1) * SECTOR
     }
 
-    /// Reads a sector.
+    /// Reads the sector from byte `from` on.
     pub fn read_sector(&self, from: usize, buffer: &mut [u8])
         requires sector { length buffer.old ≡ 512 }
         requires place { from % 512 ≡ 0 }
@@ -134,11 +134,11 @@ impl PackedSectors {
         refill(part, buffer);
     }
 
-    /// Appends the bytes to a vector. If there is no memory, a prefix of them may be appended.
+    /// Appends the bytes to a vector. If an allocation fails, it may have a prefix of them.
     ///
     /// # Errors
     ///
-    /// There was no memory.
+    /// An allocation fails.
     pub fn append_to(&self, to: &mut Vec<u8>) -> Result<(), AllocError>
         requires { length to.old.items + length self.now < 18446744073709551616 }
         ensures { OnOk result (to.new.items ≡ to.old.items ++ self.now) }

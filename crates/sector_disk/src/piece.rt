@@ -1,4 +1,4 @@
-//! A piece of an image, held in the way that takes less memory.
+//! A piece of an image, stored in the way that takes less memory.
 ghost use Rattle.std.specs.Prelude.{◌≡◌, ◌+◌, ◌++◌, ◌<◌, ◌≤◌, ◌%◌, IfOk, OnOk, drop, length, take};
 
 use crate::filled::{FilledBytes, count_before};
@@ -6,15 +6,15 @@ use crate::packed::{PackedSectors, packed_size};
 use std::alloc::{AllocError, Global};
 use std::marker::Model;
 
-// The ways in which a piece is held.
+// The ways to store a piece.
 #[derive(Debug, Drop)]
 enum Held {
     Filled(FilledBytes),
     Packed(PackedSectors),
 }
 
-/// A list of up to 65,536 bytes, held without the bytes at its end that are all the same. If that
-/// takes at most half of the memory, each of its sectors is held so.
+/// A list of up to 65,536 bytes. The bytes at its end that are all the same are stored once. If it
+/// takes at most half of the memory, the same is done for each sector.
 #[derive(Debug, Drop)]
 pub struct Piece {
     held: Held,
@@ -31,11 +31,11 @@ impl Model for Piece {
 }
 
 impl Piece {
-    /// Returns the bytes of a slice.
+    /// Makes a piece of the bytes of a slice.
     ///
     /// # Errors
     ///
-    /// There was no memory.
+    /// An allocation fails.
     pub fn from_slice(alloc: Global, bytes: &[u8]) -> Result<Piece, AllocError>
         requires { length bytes.now ≤ 65536 }
         ensures { IfOk result (λ copy. copy ≡ bytes.now) }
@@ -49,7 +49,7 @@ impl Piece {
         Ok(Piece { held })
     }
 
-    /// Reads a sector.
+    /// Reads the sector from byte `from` on.
     pub fn read_sector(&self, from: usize, buffer: &mut [u8])
         requires sector { length buffer.old ≡ 512 }
         requires place { from % 512 ≡ 0 }
@@ -62,11 +62,11 @@ impl Piece {
         }
     }
 
-    /// Appends the bytes to a vector. If there is no memory, a prefix of them may be appended.
+    /// Appends the bytes to a vector. If an allocation fails, it may have a prefix of them.
     ///
     /// # Errors
     ///
-    /// There was no memory.
+    /// An allocation fails.
     pub fn append_to(&self, to: &mut Vec<u8>) -> Result<(), AllocError>
         requires { length to.old.items + length self.now < 18446744073709551616 }
         ensures { OnOk result (to.new.items ≡ to.old.items ++ self.now) }

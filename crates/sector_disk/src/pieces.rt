@@ -10,7 +10,7 @@ use std::marker::Model;
 // The number of bytes of each piece but the last.
 const PIECE: usize = 65_536;
 
-// Reads a sector of the bytes that pieces make.
+// Reads the sector from byte `from` on of the joined pieces.
 fn read_piece(pieces: &[Piece], from: usize, buffer: &mut [u8])
     requires whole { AreWhole pieces.now }
     requires sector { length buffer.old ≡ 512 }
@@ -23,9 +23,9 @@ fn read_piece(pieces: &[Piece], from: usize, buffer: &mut [u8])
     }
 }
 
-/// A list of bytes, as the image of a disk, held in pieces of 65,536 bytes, the last of which may
-/// have fewer. A piece, or each sector of it if that takes at most half of the memory, is held
-/// without the bytes at its end that are all the same.
+/// A list of bytes, such as the image of a disk, in pieces of 65,536 bytes; the last piece may have
+/// fewer. In a piece, the bytes at the end that are all the same are stored once. If it takes at
+/// most half of the memory, the same is done for each sector of the piece.
 #[derive(Debug, Drop)]
 pub struct Image {
     pieces: Vec<Piece>,
@@ -55,11 +55,11 @@ impl Image {
         }
     }
 
-    /// Returns the bytes of a slice.
+    /// Makes an image of the bytes of a slice.
     ///
     /// # Errors
     ///
-    /// There was no memory.
+    /// An allocation fails.
     pub fn from_slice(alloc: Global, bytes: &[u8]) -> Result<Image, AllocError>
         ensures { IfOk result (λ image. image ≡ bytes.now) }
     {
@@ -77,7 +77,7 @@ impl Image {
     ///
     /// # Errors
     ///
-    /// There was no memory.
+    /// An allocation fails.
     pub fn to_vec(&self, alloc: Global) -> Result<Vec<u8>, AllocError>
         ensures { IfOk result (λ bytes. bytes.items ≡ self.now) }
     {
@@ -88,11 +88,11 @@ impl Image {
         Ok(bytes)
     }
 
-    /// Returns the bytes as a vector. Each piece is dropped when it was copied.
+    /// Returns the bytes as a vector. Each piece is dropped after it is copied.
     ///
     /// # Errors
     ///
-    /// There was no memory.
+    /// An allocation fails.
     pub fn into_vec(self, alloc: Global) -> Result<Vec<u8>, AllocError>
         ensures { IfOk result (λ bytes. bytes.items ≡ self) }
     {
@@ -105,7 +105,7 @@ impl Image {
         Ok(bytes)
     }
 
-    /// Returns how many bytes there are.
+    /// Returns the number of bytes.
     pub fn len(&self) -> usize
         ensures { result ≡ length self.now }
     {
@@ -116,7 +116,7 @@ impl Image {
     ///
     /// # Errors
     ///
-    /// There was no memory; nothing is changed.
+    /// An allocation fails; then nothing is changed.
     pub fn push_slice(&mut self, alloc: Global, piece: &[u8]) -> Result<(), AllocError>
         requires whole { length self.old % 65536 ≡ 0 }
         requires some { 0 < length piece.now }
@@ -130,7 +130,7 @@ impl Image {
         Ok(())
     }
 
-    /// Reads a sector.
+    /// Reads the sector from byte `from` on.
     pub fn read_sector(&self, from: usize, buffer: &mut [u8])
         requires sector { length buffer.old ≡ 512 }
         requires place { from % 512 ≡ 0 }

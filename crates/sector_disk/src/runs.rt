@@ -1,4 +1,4 @@
-//! A list of numbers, held by its runs of one number.
+//! A list of numbers, stored as runs: a number, and how often it repeats.
 ghost use Rattle.std.specs.Prelude.{◌≡◌, ◌≤◌, ◌<◌, ◌++◌, [], IfOk, drop, length, replicate};
 ghost use Rattle.std.specs.Prelude.{slice_get};
 ghost use Rattle.sector_disk.specs.inside.Runs.{unrolled};
@@ -6,23 +6,23 @@ ghost use Rattle.sector_disk.specs.inside.Runs.{unrolled};
 use std::alloc::{AllocError, Global};
 use std::marker::Model;
 
-// A value, and how many times it follows on itself.
+// A number, and how often it repeats.
 #[derive(Clone, Copy, Debug, Drop)]
 struct Run {
     count: usize,
     value: usize,
 }
 
-/// A list of numbers. Takes memory only if it has more than one run of one number.
+/// A list of numbers. Takes memory only if it has more than one run.
 #[derive(Debug, Drop)]
 pub struct Runs {
     held: Held,
 }
 
-// How the numbers are held, in two words.
+// The ways to store the numbers, in two words.
 #[derive(Debug, Drop)]
 enum Held {
-    // One number, and how many times it follows on itself.
+    // One run: a number, and how often it repeats.
     One { count: u32, value: usize },
     // Runs, one after another.
     More(Box<Vec<Run>>),
@@ -52,7 +52,7 @@ fn first_run(values: &[usize]) -> Run
     Run { count, value }
 }
 
-// Returns the value at an index in runs.
+// Returns the number at an index of the list that the runs store.
 fn value_at(runs: &[Run], index: usize) -> Option<usize>
     ensures { result ≡ slice_get (unrolled runs.now) index }
 {
@@ -90,7 +90,7 @@ impl Runs {
         Runs::repeated(0, 0)
     }
 
-    // Returns one number, `count` times. Takes no memory.
+    // Makes a list of one number, `count` times. Takes no memory.
     fn repeated(count: u32, value: usize) -> Runs
         ensures { result ≡ replicate count value }
     {
@@ -99,11 +99,11 @@ impl Runs {
         }
     }
 
-    /// Returns the numbers of a slice.
+    /// Makes a list of the numbers of a slice.
     ///
     /// # Errors
     ///
-    /// There was no memory.
+    /// An allocation fails.
     pub fn from_slice(alloc: Global, values: &[usize]) -> Result<Runs, AllocError>
         ensures { IfOk result (λ runs. runs ≡ values.now) }
     {

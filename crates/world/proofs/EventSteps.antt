@@ -1,5 +1,5 @@
--- The plan's steps for the events, one event after another:
--- the machine has them, and they leave what is wanted.
+-- The plan's steps for the events, one event after another: the machine can take them, and after
+-- them each wanted request that has ended is the newest that is settled in its sector.
 use Rattle.std.proofs.Common.{◌≡◌, ℕ, zero, suc, ◌+◌, ◌<◌, ◌≤◌, ◌==◌, Bool, true, false, not, ◌&&◌}
 use Rattle.std.proofs.Common.{◌||◌, Option, Some, None, List, [], ◌∷◌, ◌++◌, length, take, refl, ap}
 use Rattle.std.proofs.Common.{sym, ◌∙◌, subst, inl, inr, arith}

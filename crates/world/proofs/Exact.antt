@@ -1,4 +1,4 @@
--- Each content that the device could hold is left by a run.
+-- Each content that the device could hold is left by some run.
 use Rattle.std.proofs.Common.{◌≡◌, ℕ, Bool, true, false, Option, Some, None, List, ap, sym, ◌∙◌}
 use Rattle.std.proofs.Common.{inl, inr, arith}
 use Rattle.std.specs.Prelude.{slice_get, unwrap_or}

@@ -1,4 +1,4 @@
--- A fresh world that takes steps has taken a run, and its image is what that run leaves.
+-- The steps that a fresh world takes are a run, and its image is the content that the run leaves.
 use Rattle.std.proofs.Common.{◌≡◌, ℕ, zero, suc, ◌/◌, ◌<◌, Bool, true, not, ◌&&◌, Option, Some}
 use Rattle.std.proofs.Common.{None, List, [], ◌∷◌, length, replicate, refl, ap, sym, ◌∙◌, subst}
 use Rattle.std.proofs.Common.{inl, inr, arith}

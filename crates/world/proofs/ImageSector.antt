@@ -1,4 +1,4 @@
--- One sector of an image gets other bytes.
+-- An image after one of its sectors gets other bytes.
 use Rattle.std.proofs.Common.{◌≡◌, ℕ, ◌+◌, ◌-◌, ◌*◌, ◌/◌, ◌<◌, ◌≤◌, Bool, Option, Some, None, List}
 use Rattle.std.proofs.Common.{◌++◌, length, take, drop, refl, ap, sym, ◌∙◌, inl, inr, arith}
 use Rattle.std.proofs.Common.{length-append, length-drop}

@@ -1,4 +1,5 @@
--- The plan's steps for the requests that haven't ended, and power: what the whole run leaves.
+-- The plan's last steps, for the open requests and the power failure, and the content that the
+-- whole run leaves.
 use Rattle.std.proofs.Common.{◌≡◌, ℕ, zero, suc, ◌<◌, ◌≤◌, Bool, true, false, not, ◌&&◌, Option}
 use Rattle.std.proofs.Common.{Some, None, List, [], ◌∷◌, ◌++◌, length, refl, ap, sym, ◌∙◌, subst}
 use Rattle.std.proofs.Common.{inl, inr, arith}

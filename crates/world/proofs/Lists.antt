@@ -1,4 +1,4 @@
--- Lists that are kept oldest first, seen newest first.
+-- Laws of lists that the code keeps oldest first and contracts see newest first.
 use Rattle.std.proofs.Common.{◌≡◌, ℕ, zero, suc, Bool, true, false, ◌&&◌, ◌||◌, Some, List, [], ◌∷◌}
 use Rattle.std.proofs.Common.{◌++◌, take, refl, ap, sym, ◌∙◌, arith}
 use Rattle.std.proofs.lemmas.List.{reverse-append}

@@ -1,4 +1,4 @@
--- What each kind of step does to a world is the machine's step.
+-- If a world takes a step of some kind, the machine that it models takes the same step.
 use Rattle.std.proofs.Common.{◌≡◌, ℕ, zero, suc, ◌*◌, ◌/◌, ◌<◌, Bool, true, not, ◌&&◌, Option, Some}
 use Rattle.std.proofs.Common.{List, [], ◌∷◌, length, get_or, set, refl, ap, sym, ◌∙◌, subst, inl}
 use Rattle.std.proofs.Common.{inr, arith}

@@ -1,4 +1,4 @@
--- The judge's account of a possible image is a choice that a run can follow.
+-- If the device could hold an image, the judge's account of it is a choice that a run can follow.
 use Rattle.std.proofs.Common.{◌≡◌, ℕ, zero, suc, ◌^◌, ◌<◌, ◌≤◌, Bool, true, false, Option, Some}
 use Rattle.std.proofs.Common.{None, List, [], ◌∷◌, length, refl, ap, sym, ◌∙◌, subst, inl, inr}
 use Rattle.std.proofs.Common.{arith}

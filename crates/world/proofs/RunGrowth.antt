@@ -1,4 +1,4 @@
--- A run that grows by the steps of one place after another.
+-- If a run grows by the steps for one index, it has the steps for all indices up to there.
 use Rattle.std.proofs.Common.{◌≡◌, ℕ, suc, List, ◌++◌, ap, sym, ◌∙◌, append_assoc}
 use Rattle.bio.specs.Places.{collect}
 

@@ -1,4 +1,4 @@
--- The tests over cells and calls are the machine's.
+-- The tests on the cells and calls of a world agree with the tests of the machine that it models.
 use Rattle.std.proofs.Common.{◌≡◌, ℕ, Bool, not, ◌&&◌, ◌||◌, List, [], ◌∷◌, refl, ap, ◌∙◌}
 use Rattle.std.specs.List.{list_all}
 use Rattle.std.specs.Prelude.{slice_get}

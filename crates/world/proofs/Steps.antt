@@ -1,4 +1,4 @@
--- What steps leave as it was, and what the tests of a step come to.
+-- Parts of the machine that a step leaves unchanged, and what each test of a step implies.
 use Rattle.std.proofs.Common.{◌≡◌, ℕ, ◌+◌, ◌-◌, ◌==◌, Bool, true, false, not, ◌||◌, Option, Some}
 use Rattle.std.proofs.Common.{None, List, ◌∷◌, refl, ap, sym, ◌∙◌, subst, inl, inr, arith}
 use Rattle.std.proofs.lemmas.Bool.{eq-eqb, eqb-true}

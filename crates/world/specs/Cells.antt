@@ -1,4 +1,4 @@
--- What a world keeps, the machine that it is, and what a step does to it.
+-- The state of a `World`, the machine that it models, and what a step changes in it.
 use Rattle.std.specs.Prelude.{◌≡◌, ℕ, ◌<◌, ◌/◌, ◌==◌, Bool, true, false, Option, Some, None, List}
 use Rattle.std.specs.Prelude.{[], ◌∷◌, length, replicate, slice_get, if◌then◌else◌}
 use Rattle.bio.specs.Content.{Content, Patch, put, sector_of}
@@ -8,7 +8,8 @@ use Rattle.world.specs.declared.step.Step.TheVariants.{Destage}
 use Rattle.world.specs.Machine.{Machine, after, has_step, newest, start}
 use Rattle.world.specs.Runs.{durable, is_run, taken, values_of_id}
 
--- what landed in one sector, newest first, and what of it had landed when it was destaged last
+-- One sector. `landed` lists the requests that landed there, newest first; `settled` lists those
+-- that had landed when the sector was last destaged.
 pub record CellState : Type 0 where
   pub landed : List ℕ
   pub settled : List ℕ
@@ -17,7 +18,7 @@ pub record CellState : Type 0 where
 abbrev pub empty_cell : CellState
 empty_cell = record { landed = []; settled = [] }
 
--- a sector after a request landed there
+-- the sector after the request `id` landed there
 abbrev pub landing : ℕ → CellState → CellState
 landing id cell = record cell { landed = id ∷ cell.landed }
 
@@ -25,25 +26,25 @@ landing id cell = record cell { landed = id ∷ cell.landed }
 abbrev pub settling : CellState → CellState
 settling cell = record cell { settled = cell.landed }
 
--- a world: a cell for each sector, the calls so far, newest first, whether power has gone, and the
--- image of what is durable
+-- The state of a `World`: a cell for each sector, the calls so far (newest first), whether power
+-- has failed, and the bytes of the durable content.
 pub record WorldState : Type 0 where
   pub cells : List CellState
   pub calls : List Step
   pub off : Bool
   pub image : List ℕ
 
--- what landed in a sector, if it is one of the world's
+-- the requests that landed in the sector; none if the device has no such sector
 abbrev pub landed_of : Option CellState → List ℕ
 landed_of None = []
 landed_of (Some cell) = cell.landed
 
--- and what of it is settled
+-- the requests that are settled in the sector; none if the device has no such sector
 abbrev pub settled_of : Option CellState → List ℕ
 settled_of None = []
 settled_of (Some cell) = cell.settled
 
--- the machine of these cells and calls
+-- the machine with these cells, calls and power
 abbrev pub machine_in : List CellState → List Step → Bool → Machine
 machine_in cells calls off = record {
   landed = λ sector. landed_of (slice_get cells sector);
@@ -52,44 +53,43 @@ machine_in cells calls off = record {
   off = off;
 }
 
--- the machine that a world is
+-- the machine that `world` models
 abbrev pub machine_of : WorldState → Machine
 machine_of world = machine_in world.cells world.calls world.off
 
--- a world before its first step, with this image
+-- `world` has taken no step, and its image is `first`
 pub record IsFresh (first : List ℕ) (world : WorldState) : Type 0 where
   pub cells : world.cells ≡ replicate (length first / 512) empty_cell
   pub calls : world.calls ≡ []
   pub off : world.off ≡ false
   pub image : world.image ≡ first
 
--- the machines have the same in each sector, and the same
--- calls, and power is there for both or for none
+-- `a` and `b` have the same lists in each sector, the same calls, and the same power
 pub record IsLike (a b : Machine) : Type 0 where
   pub landed : (sector : ℕ) → a.landed sector ≡ b.landed sector
   pub settled : (sector : ℕ) → a.settled sector ≡ b.settled sector
   pub calls : a.calls ≡ b.calls
   pub off : a.off ≡ b.off
 
--- the content with a call's value in only one sector
+-- `old`, with the patch's value (if it has one) in the sector `at` only
 abbrev pub put_at : Patch → ℕ → Content → Content
 put_at patch at old sector = if sector == at then put patch old sector else old sector
 
--- what a sector of the image has after a step: after its
--- destage the value of the newest request that landed there
+-- The image's value of `sector` after the step. A destage gives its sector the value of the newest
+-- request that landed there; no other step changes the image.
 abbrev pub left_after : List CoreEvent → Machine → Step → Content → Content
 left_after events m (Destage at) old sector =
     put_at (values_of_id events (newest (m.landed at))) at old sector
 left_after events m _ old sector = old sector
 
--- of two images the new one has the call's value in this sector, and all else as it was
+-- `new` is the image `old` with the patch's value in the sector `at`, and nothing else changed
 pub record IsPut (patch : Patch) (at : ℕ) (old new : List ℕ) : Type 0 where
   pub size : length new ≡ length old
   pub each : (sector : ℕ) → sector < length old / 512
       → sector_of new sector ≡ put_at patch at (sector_of old) sector
 
--- the world has taken the step: the machine has it, and the world is the machine after it, with an
--- image of what is durable then
+-- `new` is `old` after it takes the step. The machine of `old` can take the step, and the machine
+-- of `new` is the one after it. The image changes as `left_after` says, and keeps its size.
 pub record Steps (events : List CoreEvent) (step : Step) (old new : WorldState) : Type 0 where
   pub may : has_step events (machine_of old) step ≡ true
   pub after : IsLike (machine_of new) (after (machine_of old) step)
@@ -98,14 +98,14 @@ pub record Steps (events : List CoreEvent) (step : Step) (old new : WorldState) 
   pub sectors : length new.cells ≡ length old.cells
   pub size : length new.image ≡ length old.image
 
--- the world has taken these steps, one after another
+-- `new` is `old` after it takes the steps, one after another
 abbrev pub AllSteps : List CoreEvent → List Step → WorldState → WorldState → Type 0
 AllSteps events [] old new = old ≡ new
 AllSteps events (step ∷ steps) old new =
     (mid : WorldState) × Steps events step old mid × AllSteps events steps mid new
 
--- the steps are a run of the machine, the world is the
--- machine after it, and its image is what is durable then
+-- `steps` is a run of the machine from its start, and `world` models the machine after it. The
+-- image of `world` is the durable content then, if `first` was there before the run.
 pub record IsRun (events : List CoreEvent) (first : List ℕ) (steps : List Step)
     (world : WorldState) : Type 0 where
   pub runs : is_run events start steps ≡ true

@@ -1,5 +1,6 @@
--- A device with a cache, as a machine that takes steps: requests land in sectors, sectors are
--- destaged, requests end, power goes.
+-- A device with a volatile cache, as a machine that takes steps: a request lands in a sector, a
+-- sector is destaged, a request ends, or power fails. A request's id is the index of the event that
+-- submits it.
 use Rattle.std.specs.Prelude.{ℕ, ◌+◌, ◌==◌, Bool, true, false, not, ◌&&◌, ◌||◌, Option, Some, None}
 use Rattle.std.specs.Prelude.{is_some, List, [], ◌∷◌, slice_get, if◌then◌else◌}
 use Rattle.std.specs.List.{list_all, list_any}
@@ -12,9 +13,9 @@ use Rattle.bio.specs.Requests.{first_sector, has_fua, sector_count}
 use Rattle.world.specs.declared.step.Step.{Step}
 use Rattle.world.specs.declared.step.Step.TheVariants.{Submit, Land, Destage, End, Power}
 
--- For each sector, the requests that landed there, newest first, and those of them that had landed
--- when it was destaged last. Also the submissions and ends so far, newest first, and whether power
--- has gone.
+-- The state of the machine. For each sector, `landed` lists the requests that landed there, newest
+-- first. `settled` lists those that had landed when the sector was last destaged. `calls` lists the
+-- submissions and ends so far, newest first. `off` is true if power has failed.
 pub record Machine : Type 0 where
   pub landed : ℕ → List ℕ
   pub settled : ℕ → List ℕ
@@ -25,11 +26,11 @@ pub record Machine : Type 0 where
 abbrev pub start : Machine
 start = record { landed = λ sector. []; settled = λ sector. []; calls = []; off = false }
 
--- the lists of all sectors, with another one for this sector
+-- `old`, except that `sector` gets the list `ids`
 abbrev pub with_sector : ℕ → List ℕ → (ℕ → List ℕ) → ℕ → List ℕ
 with_sector sector ids old other = if other == sector then ids else old other
 
--- the machine after a step
+-- `m` after it takes the step
 abbrev pub after : Machine → Step → Machine
 after m (Submit id) = record m { calls = Submit id ∷ m.calls }
 after m (Land id sector) = record m { landed = with_sector sector (id ∷ m.landed sector) m.landed }
@@ -37,58 +38,57 @@ after m (Destage sector) = record m { settled = with_sector sector (m.landed sec
 after m (End id ok) = record m { calls = End id ok ∷ m.calls }
 after m Power = record m { off = true }
 
--- the step submits the request of this place
+-- the step submits the request `id`
 abbrev pub is_submit : ℕ → Step → Bool
 is_submit id (Submit submitted) = submitted == id
 is_submit id _ = false
 
--- the step ends the request of this place
+-- the step ends the request `id`
 abbrev pub is_end : ℕ → Step → Bool
 is_end id (End ended ok) = ended == id
 is_end id _ = false
 
--- the request was submitted and hasn't ended
+-- the request `id` was submitted and hasn't ended
 abbrev pub is_pending : Machine → ℕ → Bool
 is_pending m id = list_any (is_submit id) m.calls && not (list_any (is_end id) m.calls)
 
--- the request is one of these
+-- `id` is one of `ids`
 abbrev pub is_among : List ℕ → ℕ → Bool
 is_among ids id = list_any (λ other. other == id) ids
 
--- the newest of these requests
+-- the newest request of a list that is newest first; none for an empty list
 abbrev pub newest : List ℕ → Option ℕ
 newest [] = None
 newest (id ∷ ids) = Some id
 
--- each sector of the request that this event submits passes the test
+-- each sector of the request that the event submits passes `test`; true for any other event
 abbrev pub each_sector : (ℕ → Bool) → Option CoreEvent → Bool
 each_sector test (Some (core_events.Submit bio)) =
     all_below (λ place. test (first_sector bio + place)) (sector_count bio)
 each_sector test _ = true
 
--- the request has landed on all its sectors
+-- the request `id` has landed on all its sectors
 abbrev pub has_landed : List CoreEvent → Machine → ℕ → Bool
 has_landed events m id = each_sector (λ sector. is_among (m.landed sector) id) (slice_get events id)
 
--- each of its sectors was destaged after it had landed there
+-- each sector of the request `id` was destaged after the request had landed there
 abbrev pub has_settled : List CoreEvent → Machine → ℕ → Bool
 has_settled events m id =
     each_sector (λ sector. is_among (m.settled sector) id) (slice_get events id)
 
--- the steps, newest first, that came before the request's submission
+-- the calls before the newest submission of `id`, newest first; none if `id` wasn't submitted
 abbrev pub before_submit : ℕ → List Step → List Step
 before_submit id [] = []
 before_submit id (call ∷ calls) = if is_submit id call then calls else before_submit id calls
 
--- if the step is an end with success, each sector of its
--- request was destaged after the request had landed there
+-- If the step is an end with success, its request is settled in each of its sectors.
 abbrev pub settled_if_ended : List CoreEvent → Machine → Step → Bool
 settled_if_ended events m (End id ok) = not ok || has_settled events m id
 settled_if_ended events m _ = true
 
--- The request may end with success. It has landed on all its sectors. With FUA, each was destaged
--- after that. If it has a flush, the same holds for each request that ended with success before its
--- submission.
+-- The request `id` may end with success if it has landed on all its sectors. If it has FUA, each of
+-- these must have been destaged after that. If it has a flush, each request that ended with success
+-- before the flush's submission must be settled (`settled_if_ended`).
 abbrev pub may_succeed : List CoreEvent → Machine → ℕ → Bool
 may_succeed events m id =
     has_landed events m id
@@ -96,9 +96,10 @@ may_succeed events m id =
     && (not (is_flush_submit (slice_get events id))
     || list_all (settled_if_ended events m) (before_submit id m.calls))
 
--- The step may be taken while power is there. A request is submitted once. A pending request lands
--- once on each of its sectors. A sector on which some landed is destaged. A pending request ends,
--- with success if it may.
+-- The step may be taken, if power hasn't failed. Submit: the request wasn't submitted before. Land:
+-- the request is pending, covers the sector, and hasn't landed there. Destage: some request landed
+-- in the sector. End: the request is pending, and if the end is one with success, `may_succeed`
+-- holds. Power: always.
 abbrev pub may_take : List CoreEvent → Machine → Step → Bool
 may_take events m (Submit id) =
     is_request (slice_get events id) && not (list_any (is_submit id) m.calls)
@@ -108,6 +109,6 @@ may_take events m (Destage sector) = is_some (newest (m.landed sector))
 may_take events m (End id ok) = is_pending m id && (not ok || may_succeed events m id)
 may_take events m Power = true
 
--- the machine has this step: power hasn't gone, and the step may be taken
+-- the machine can take the step: power hasn't failed, and the step may be taken
 abbrev pub has_step : List CoreEvent → Machine → Step → Bool
 has_step events m step = not m.off && may_take events m step

@@ -1,15 +1,15 @@
--- What a user reads of a step.
+-- How a step is printed.
 use Rattle.std.specs.Prelude.{ℕ, Bool, true, false, List, ◌++◌, codes}
 use Rattle.std.specs.Fmt.{decimal}
 use Rattle.world.specs.declared.step.Step.{Step}
 use Rattle.world.specs.declared.step.Step.TheVariants.{Submit, Land, Destage, End, Power}
 
--- how a request ended
+-- the word for how a request ended
 abbrev pub end_text : Bool → List ℕ
 end_text true = codes "ok"
 end_text false = codes "failed"
 
--- a step is shown by what is done, the place of its request, and its sector
+-- the step's name, then its id, its sector or its result, with spaces between them
 abbrev pub step_text : Step → List ℕ
 step_text (Submit id) = codes "submit " ++ decimal id
 step_text (Land id sector) = codes "land " ++ decimal id ++ codes " " ++ decimal sector

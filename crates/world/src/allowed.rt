@@ -1,7 +1,6 @@
-//! Which steps a world may take.
+//! Tests whether a `World` may take a step.
 //!
-//! Each test is the machine's, over the cells and over the
-//! calls so far, which are kept oldest first.
+//! The tests are those of the machine. They read the cells, and the calls so far, oldest first.
 ghost use Rattle.std.specs.Prelude.{◌≡◌, ◌+◌, ◌^◌, ◌<◌, Some, reverse, slice_get};
 ghost use Rattle.std.specs.List.{list_all, list_any};
 ghost use Rattle.bio.specs.declared.event.CoreEvent.TheVariants as core_events;
@@ -19,7 +18,7 @@ use crate::cell::Cell;
 use crate::step::Step;
 use bio::{Bio, CoreEvent, Id};
 
-/// Returns whether the step may be taken while power is there.
+/// Returns whether the step may be taken, if power hasn't failed.
 pub fn is_allowed(cells: &[Cell], calls: &[Step], events: &[CoreEvent], step: &Step) -> bool
     requires { AllEnd events.now }
     ensures { result ≡ is_allowed events.now cells.now (reverse calls.now) step.now }
@@ -39,7 +38,7 @@ pub fn is_allowed(cells: &[Cell], calls: &[Step], events: &[CoreEvent], step: &S
     }
 }
 
-// Returns whether the event of this place submits a request that is followed to its end.
+// Returns whether the event at index `id` submits a write, a discard or a flush.
 fn is_request_at(events: &[CoreEvent], id: u64) -> bool
     ensures { result ≡ is_request (slice_get events.now id) }
 {
@@ -49,7 +48,7 @@ fn is_request_at(events: &[CoreEvent], id: u64) -> bool
     }
 }
 
-/// Returns whether the event submits a request that is followed to its end.
+/// Returns whether the event submits a write, a discard or a flush.
 pub fn is_request(event: &CoreEvent) -> bool
     ensures { result ≡ is_request (Some event.now) }
 {
@@ -114,7 +113,7 @@ fn pends(calls: &[Step], id: u64) -> bool
     was_submitted(calls, id) && !has_ended(calls, id)
 }
 
-// Returns whether the event of this place submits a request that covers the sector.
+// Returns whether the event at index `id` submits a request that covers the sector.
 fn covers_at(events: &[CoreEvent], id: u64, sector: u64) -> bool
     ensures { result ≡ covers_at sector (slice_get events.now id) }
 {
@@ -141,7 +140,7 @@ fn covers(bio: &Bio, sector: u64) -> bool
     bio.is_tracked() && is_in(bio.first_sector(), bio.sector_count(), sector)
 }
 
-// Returns whether the sector is one of a range.
+// Returns whether the sector is one of the `count` sectors from `first` on.
 fn is_in(first: u64, count: u64, sector: u64) -> bool
     ensures { result ≡ is_in first count sector }
 {
@@ -158,7 +157,7 @@ fn has_landed_at(cells: &[Cell], sector: usize, id: u64) -> bool
     }
 }
 
-// Returns whether the request had landed on the sector when that was destaged last.
+// Returns whether the request had landed on the sector when the sector was last destaged.
 fn has_settled_at(cells: &[Cell], sector: usize, id: u64) -> bool
     ensures { result ≡ is_among (settled_of (slice_get cells.now sector)) id }
 {
@@ -168,7 +167,7 @@ fn has_settled_at(cells: &[Cell], sector: usize, id: u64) -> bool
     }
 }
 
-/// Returns the request that landed last in the sector.
+/// Returns the request that landed last in the sector, if any.
 pub fn newest_at(cells: &[Cell], sector: usize) -> Option<Id>
     ensures { result ≡ newest (landed_of (slice_get cells.now sector)) }
 {
@@ -192,7 +191,7 @@ fn has_landed(cells: &[Cell], bio: &Bio, id: u64) -> bool
     true
 }
 
-// Returns whether each of its sectors was destaged after it had landed there.
+// Returns whether each sector of the request was destaged after the request had landed there.
 fn has_settled(cells: &[Cell], bio: &Bio, id: u64) -> bool
     requires { first_sector bio.now + sector_count bio.now < 2 ^ 64 }
     ensures { result ≡ is_settled cells.now id (Some (core_events.Submit bio.now)) }
@@ -206,7 +205,7 @@ fn has_settled(cells: &[Cell], bio: &Bio, id: u64) -> bool
     true
 }
 
-// Returns whether the request that this event submits has landed on each of its sectors.
+// Returns whether the request that the event submits has landed on each of its sectors.
 fn is_landed(cells: &[Cell], events: &[CoreEvent], event: &CoreEvent, id: u64) -> bool
     requires within { AllEnd events.now }
     requires there { slice_get events.now id ≡ Some event.now }
@@ -219,7 +218,7 @@ fn is_landed(cells: &[Cell], events: &[CoreEvent], event: &CoreEvent, id: u64) -
     }
 }
 
-// Returns whether each of its sectors was destaged after it had landed there.
+// Returns whether the event's request is settled in each of its sectors.
 fn is_settled(cells: &[Cell], events: &[CoreEvent], event: &CoreEvent, id: u64) -> bool
     requires within { AllEnd events.now }
     requires there { slice_get events.now id ≡ Some event.now }
@@ -232,7 +231,7 @@ fn is_settled(cells: &[Cell], events: &[CoreEvent], event: &CoreEvent, id: u64) 
     }
 }
 
-// As above, for the request of this place; true if there is none.
+// As above, for the event at index `id`; true if there is none.
 fn is_settled_at(cells: &[Cell], events: &[CoreEvent], id: u64) -> bool
     requires { AllEnd events.now }
     ensures { result ≡ is_settled cells.now id (slice_get events.now id) }
@@ -243,7 +242,7 @@ fn is_settled_at(cells: &[Cell], events: &[CoreEvent], id: u64) -> bool
     }
 }
 
-// Returns whether the call is no end with success, or its request is settled.
+// Returns whether the call's request is settled; true if the call is no end with success.
 fn end_settled(cells: &[Cell], events: &[CoreEvent], call: &Step) -> bool
     requires { AllEnd events.now }
     ensures { result ≡ end_settled events.now cells.now call.now }
@@ -254,7 +253,7 @@ fn end_settled(cells: &[Cell], events: &[CoreEvent], call: &Step) -> bool
     }
 }
 
-// Returns whether each of the calls that is an end with success has its request settled.
+// Returns whether each call passes `end_settled`.
 fn ends_settled(cells: &[Cell], events: &[CoreEvent], calls: &[Step]) -> bool
     requires { AllEnd events.now }
     ensures { result ≡ list_all (end_settled events.now cells.now) (reverse calls.now) }
@@ -280,7 +279,7 @@ fn before_submit(calls: &[Step], id: u64) -> &[Step]
     &calls[..end]
 }
 
-// Returns whether the request that this event submits may end with success.
+// Returns whether the request that the event submits may end with success.
 fn succeeds(
     cells: &[Cell],
     calls: &[Step],
@@ -297,7 +296,7 @@ fn succeeds(
         && (!event.submits_flush() || ends_settled(cells, events, before_submit(calls, id)))
 }
 
-// As above, for the request of this place; true if there is none.
+// As above, for the event at index `id`; true if there is none.
 fn may_succeed(cells: &[Cell], calls: &[Step], events: &[CoreEvent], id: u64) -> bool
     requires { AllEnd events.now }
     ensures { result ≡ succeeds events.now cells.now (reverse calls.now) id

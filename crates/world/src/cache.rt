@@ -1,7 +1,6 @@
-//! A device with a cache, that takes steps.
+//! A device with a cache that takes steps.
 //!
-//! A world keeps a cell for each sector, the calls so far,
-//! oldest first, and the image of what is durable.
+//! It keeps a cell for each sector, the calls so far (oldest first), and the durable bytes.
 ghost use Rattle.std.specs.Prelude.{◌≡◌, ◌∷◌, ◌*◌, ◌/◌, ◌%◌, ◌<◌, Err, IfOk, OnErr, OnOk};
 ghost use Rattle.std.specs.Prelude.{false, true, length, replicate, get_or, reverse, slice_get};
 ghost use Rattle.std.specs.Prelude.{slice_set};
@@ -23,7 +22,8 @@ use judge::SECTOR;
 use std::alloc::{AllocError, Global};
 use std::marker::Model;
 
-/// A device with a cache. Contracts see the machine that it is (`machine_of`), and its image.
+/// A device with a cache. Contracts see its state as a `WorldState`, and the machine that it models
+/// (`machine_of`).
 #[derive(Debug, Drop)]
 pub struct World {
     cells: Vec<Cell>,
@@ -45,7 +45,7 @@ impl Model for World {
     ghost invariant = { λ world. length world.image.items ≡ 512 * length world.cells.items };
 }
 
-// Makes `sectors` sectors on which nothing landed.
+// Makes cells for `sectors` sectors on which nothing landed.
 fn empty_cells(alloc: Global, sectors: usize) -> Result<Vec<Cell>, AllocError>
     ensures { IfOk result (λ cells. cells.items ≡ replicate sectors empty_cell) }
 {
@@ -57,8 +57,8 @@ fn empty_cells(alloc: Global, sectors: usize) -> Result<Vec<Cell>, AllocError>
 }
 
 impl World {
-    /// Returns a device before its first step, with these bytes, whole sectors of 512. Takes memory
-    /// of the bytes and of 40 for each sector. Lack of memory is the only error.
+    /// Returns a device before its first step that holds the bytes `first`, whole sectors of 512.
+    /// Takes memory for the bytes and 40 bytes for each sector. Lack of memory is the only error.
     pub fn new(alloc: Global, first: &[u8]) -> Result<World, AllocError>
         requires { length first.now % 512 ≡ 0 }
         ensures { IfOk result (IsFresh first.now) }
@@ -73,10 +73,12 @@ impl World {
     }
 
     /// Takes a step. `events` is a list that a recorder of the device may have recorded
-    /// (`is_lawful`), the same for all steps. `BadStep` comes exactly if the device has no such
-    /// step then; after an error nothing has changed. Takes memory of 24 bytes for a submission or
-    /// an end and of 8 for a landing, and time by the calls so far. An end with success takes time
-    /// by the sectors of the requests that it asks for, and by what landed there.
+    /// (`is_lawful`), the same for all steps. Returns `BadStep` exactly if the device can't take
+    /// the step (`has_step`). After an error nothing has changed.
+    ///
+    /// Takes 24 bytes of memory for a submission or an end, and 8 for a landing. Takes time
+    /// proportional to the number of calls so far. An end with success takes time also for the
+    /// sectors of each request that has to be settled, and for the landings there.
     pub fn step(&mut self, events: &[CoreEvent], step: &Step) -> Result<(), StepError>
         requires { is_lawful (length self.old.image / 512) events.now ≡ true }
         ensures taken { OnOk result (Steps events.now step.now self.old self.new) }
@@ -93,7 +95,7 @@ impl World {
         Ok(())
     }
 
-    // Returns whether the device has the step.
+    // Returns whether the device can take the step.
     fn has_step(&self, events: &[CoreEvent], step: &Step) -> bool
         requires { is_lawful (length self.now.image / 512) events.now ≡ true }
         ensures has { result ≡ has_step events.now (machine_of self.now) step.now }
@@ -102,7 +104,7 @@ impl World {
         !self.off && is_allowed(&self.cells, &self.calls, events, step)
     }
 
-    // Takes a step that the device has.
+    // Takes a step that the device can take.
     fn take(&mut self, events: &[CoreEvent], step: &Step) -> Result<(), AllocError>
         requires lawful { is_lawful (length self.old.image / 512) events.now ≡ true }
         requires sectors { length self.old.image ≡ 512 * length self.old.cells }
@@ -124,7 +126,7 @@ impl World {
         }
     }
 
-    // Notes a submission or an end.
+    // Records a submission or an end.
     fn call(&mut self, step: &Step) -> Result<(), AllocError>
         ensures called { OnOk result
             (self.new ≡ record self.old { calls = step.now ∷ self.old.calls }) }
@@ -134,7 +136,7 @@ impl World {
         Ok(())
     }
 
-    // Lands a request in a sector.
+    // Records that a request lands in a sector.
     fn land(&mut self, id: u64, sector: usize) -> Result<(), AllocError>
         requires { sector < length self.old.cells }
         ensures landed { OnOk result (self.new ≡ record self.old {
@@ -146,7 +148,7 @@ impl World {
         land_in(&mut self.cells, sector, id)
     }
 
-    // Destages a sector.
+    // Destages a sector: puts the value of its newest request in the image.
     fn destage(&mut self, events: &[CoreEvent], sector: usize)
         requires { sector < length self.old.cells }
         ensures cells { self.new ≡ record self.old {
@@ -163,14 +165,14 @@ impl World {
         settle_in(&mut self.cells, sector);
     }
 
-    // Takes the power away.
+    // Turns the power off.
     fn power(&mut self)
         ensures { self.new ≡ record self.old { off = true } }
     {
         self.off = true;
     }
 
-    /// Returns what is durable: what the device holds after power goes.
+    /// Returns the durable content: the bytes that the device holds after power fails.
     pub fn image(&self) -> &[u8]
         ensures { result.now ≡ self.now.image }
     {

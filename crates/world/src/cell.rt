@@ -1,5 +1,5 @@
-//! What landed in one sector: the requests, oldest first, and
-//! how many of them had landed when it was destaged last.
+//! The requests that landed in one sector, oldest first, and how many of them had landed when the
+//! sector was last destaged.
 ghost use Rattle.std.specs.Prelude.{◌≡◌, ◌∷◌, ◌≤◌, ◌<◌, OnErr, OnOk, get_or, length, reverse};
 ghost use Rattle.std.specs.Prelude.{slice_set, take};
 ghost use Rattle.world.specs.Cells.{CellState, empty_cell, landing, settling};
@@ -27,7 +27,7 @@ impl Model for Cell {
 }
 
 impl Cell {
-    /// Returns a sector on which nothing landed.
+    /// Returns the cell of a sector on which nothing landed.
     pub fn new(alloc: Global) -> Cell
         ensures { result ≡ empty_cell }
     {
@@ -37,7 +37,7 @@ impl Cell {
         }
     }
 
-    /// Notes that a request lands.
+    /// Records that a request lands.
     pub fn land(&mut self, id: u64) -> Result<(), AllocError>
         ensures landed { OnOk result
             (self.new ≡ record self.old { landed = id ∷ self.old.landed }) }
@@ -47,14 +47,14 @@ impl Cell {
         Ok(())
     }
 
-    /// Notes that the sector is destaged.
+    /// Records that the sector is destaged.
     pub fn settle(&mut self)
         ensures { self.new ≡ record self.old { settled = self.old.landed } }
     {
         self.safe = self.ids.len();
     }
 
-    /// Returns the request that landed last.
+    /// Returns the request that landed last, if any.
     pub fn newest(&self) -> Option<Id>
         ensures { result ≡ newest self.now.landed }
     {
@@ -68,7 +68,7 @@ impl Cell {
         is_among(&self.ids, id)
     }
 
-    /// Returns whether the request had landed when the sector was destaged last.
+    /// Returns whether the request had landed when the sector was last destaged.
     pub fn has_settled(&self, id: u64) -> bool
         ensures { result ≡ is_among self.now.settled id }
     {
@@ -76,7 +76,7 @@ impl Cell {
     }
 }
 
-// Returns the last of these, oldest first.
+// Returns the last of `ids`, which are oldest first.
 fn newest_of(ids: &[u64]) -> Option<Id>
     ensures { result ≡ newest (reverse ids.now) }
 {
@@ -86,21 +86,21 @@ fn newest_of(ids: &[u64]) -> Option<Id>
     }
 }
 
-// Returns whether the request is one of these, oldest first.
+// Returns whether `id` is one of `ids`. The contract sees `ids` newest first.
 fn is_among(ids: &[u64], id: u64) -> bool
     ensures { result ≡ is_among (reverse ids.now) id }
 {
     contains(ids, id)
 }
 
-// As above, for a list seen as it is kept.
+// As above; the contract sees `ids` in their own order.
 fn contains(ids: &[u64], id: u64) -> bool
     ensures { result ≡ is_among ids.now id }
 {
     ids.iter().any(|other| *other == id)
 }
 
-/// Notes that a request lands in a sector.
+/// Records that a request lands in a sector.
 pub fn land_in(cells: &mut [Cell], sector: usize, id: u64) -> Result<(), AllocError>
     requires { sector < length cells.old }
     ensures landed { OnOk result
@@ -110,7 +110,7 @@ pub fn land_in(cells: &mut [Cell], sector: usize, id: u64) -> Result<(), AllocEr
     cells[sector].land(id)
 }
 
-/// Notes that a sector is destaged.
+/// Records that a sector is destaged.
 pub fn settle_in(cells: &mut [Cell], sector: usize)
     requires { sector < length cells.old }
     ensures { cells.new ≡ slice_set cells.old sector

@@ -1,10 +1,10 @@
 //! A device with a cache, as a machine: requests land in sectors, sectors are destaged, requests
-//! end, power goes.
+//! end, power fails.
 //!
-//! `specs/Machine` says which steps it has, `specs/Runs` which runs fit an event list and what they
-//! leave. The law `possible_is_exact` says that the judge's rule (`Possible` in `bio`) allows
-//! exactly what such a run can leave. `reach` makes a run for an image; a `World` is such a device,
-//! which takes steps.
+//! `specs/Machine` defines its steps. `specs/Runs` defines which runs fit an event list, and the
+//! content that a run leaves. By the law `possible_is_exact`, the judge's rule (`Possible` in
+//! `bio`) allows exactly the contents that such runs leave. `reach` makes a run that leaves a given
+//! image. A `World` is such a device, and takes steps one by one.
 #![tactic(auto)]
 
 pub use cache::World;

@@ -1,6 +1,7 @@
-//! The steps of one request for its sectors, as the plan of a run has them.
+//! The plan's steps for one request, sector by sector.
 //!
-//! A request lands at its submission if another one's value is wanted, and else at its end.
+//! If a request's value is wanted in a sector, the request lands there at its end, or after all
+//! events if it has no end. Else it lands there at its submission, if it ends with success.
 ghost use Rattle.std.specs.Prelude.{◌≡◌, ◌+◌, ◌^◌, ◌<◌, ◌++◌, OnOk, Some};
 ghost use Rattle.bio.specs.declared.event.CoreEvent.TheVariants as core_events;
 ghost use Rattle.bio.specs.Requests.{first_sector, sector_count};
@@ -13,7 +14,7 @@ use bio::{Bio, Id};
 use judge::Account;
 use std::alloc::AllocError;
 
-// Returns whether the request of this place is the one that is wanted.
+// Returns whether `id` is the wanted request.
 fn is_wanted(wanted: Option<usize>, id: usize) -> bool
     ensures { result ≡ is_wanted wanted id }
 {
@@ -23,7 +24,7 @@ fn is_wanted(wanted: Option<usize>, id: usize) -> bool
     }
 }
 
-// Returns whether a place was found, and this one isn't past it.
+// Returns whether there is a `last` that `id` isn't past.
 fn is_upto(id: usize, last: Option<usize>) -> bool
     ensures { result ≡ is_upto id last }
 {
@@ -33,7 +34,7 @@ fn is_upto(id: usize, last: Option<usize>) -> bool
     }
 }
 
-// Writes that the request lands on the sector, if it does, and that this is destaged, if it is.
+// If `lands`, adds a landing of the request on the sector; if also `settles`, a destage follows.
 fn touch(
     run: &mut Vec<Step>,
     lands: bool,
@@ -53,7 +54,7 @@ fn touch(
     Ok(())
 }
 
-// Writes the steps of a request for a sector at its submission, if it has to land at all.
+// Adds the steps of a request for one sector at its submission. It lands only if `has_to`.
 fn lands_early(
     run: &mut Vec<Step>,
     account: &Account,
@@ -70,7 +71,7 @@ fn lands_early(
     touch(run, lands, settles, id, sector)
 }
 
-// Adds the steps of a request for a sector at its end.
+// Adds the steps of a request for one sector at its end.
 fn lands_late(
     run: &mut Vec<Step>,
     account: &Account,
@@ -84,8 +85,8 @@ fn lands_late(
     touch(run, lands, true, id, sector)
 }
 
-/// Writes the steps of a request for all its sectors at its
-/// submission, if it has to land: it will end with success.
+/// Adds the steps of a request for all its sectors at its submission. It lands only if `has_to`: if
+/// it ends with success.
 pub fn land_early(
     run: &mut Vec<Step>,
     account: &Account,

@@ -1,4 +1,4 @@
-//! The value of a request, put in one sector of an image.
+//! Puts the value that a request has for one sector in an image.
 ghost use Rattle.std.specs.Prelude.{◌≡◌, ◌/◌, ◌<◌, Some, length, slice_get};
 ghost use Rattle.bio.specs.Possible.{values_at, values_of};
 ghost use Rattle.bio.specs.Content.{Patch, discards, writes};
@@ -8,7 +8,8 @@ ghost use Rattle.world.specs.Runs.{values_of_id};
 use bio::{Bio, CoreEvent, Id};
 use judge::{SECTOR, place_in, sector_bytes};
 
-/// Puts the value of the request of this place, if there is one.
+/// Puts the value that the request `newest` has for the sector in the image. Does nothing if there
+/// is no request.
 pub fn put_newest(image: &mut [u8], events: &[CoreEvent], newest: Option<Id>, sector: usize)
     requires { sector < length image.old / 512 }
     ensures { IsPut (values_of_id events.now newest) sector image.old image.new }
@@ -19,7 +20,7 @@ pub fn put_newest(image: &mut [u8], events: &[CoreEvent], newest: Option<Id>, se
     }
 }
 
-// As above, for the event at a place.
+// As above, for the event at index `id`.
 fn put_id(image: &mut [u8], events: &[CoreEvent], id: u64, sector: usize)
     requires { sector < length image.old / 512 }
     ensures { IsPut (values_at (slice_get events.now id)) sector image.old image.new }
@@ -30,7 +31,7 @@ fn put_id(image: &mut [u8], events: &[CoreEvent], id: u64, sector: usize)
     }
 }
 
-// Puts the value of the request that this event submits.
+// Puts the value of the request that the event submits, if any.
 fn put_event(image: &mut [u8], event: &CoreEvent, sector: usize)
     requires { sector < length image.old / 512 }
     ensures { IsPut (values_at (Some event.now)) sector image.old image.new }
@@ -42,7 +43,7 @@ fn put_event(image: &mut [u8], event: &CoreEvent, sector: usize)
     }
 }
 
-// Puts the value that a request has for the sector.
+// Puts the value that the request has for the sector, if any.
 fn put_bio(image: &mut [u8], bio: &Bio, sector: usize)
     requires { sector < length image.old / 512 }
     ensures { IsPut (values_of bio.now) sector image.old image.new }
@@ -54,7 +55,7 @@ fn put_bio(image: &mut [u8], bio: &Bio, sector: usize)
     }
 }
 
-// Puts the bytes that a write has for the sector.
+// Puts the bytes that a write has for the sector, if it covers the sector.
 fn put_written(image: &mut [u8], first: u64, bytes: &[u8], sector: usize)
     requires { sector < length image.old / 512 }
     ensures { IsPut (writes first bytes.now) sector image.old image.new }
@@ -76,7 +77,7 @@ fn put_zeroes(image: &mut [u8], first: u64, count: u64, sector: usize)
     }
 }
 
-// Puts these bytes.
+// Puts `part` in the sector.
 fn put_bytes(image: &mut [u8], sector: usize, part: &[u8])
     requires within { sector < length image.old / 512 }
     requires part { length part.now ≡ 512 }

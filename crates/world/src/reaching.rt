@@ -1,7 +1,6 @@
-//! A run that leaves an image, made from the judge's account of it.
+//! Makes a run that leaves an image, from the judge's account of the image.
 //!
-//! The plan takes the events one after another, then the
-//! requests that haven't ended, then power goes.
+//! The plan has steps for each event, then for each request that hasn't ended; at last power fails.
 ghost use Rattle.std.specs.Prelude.{◌≡◌, ℕ, ◌/◌, ◌%◌, ◌++◌, IfOk, MatchOption, OnOk, Some, length};
 ghost use Rattle.std.specs.Prelude.{slice_get, take, true};
 ghost use Rattle.bio.specs.Events.{end_of, is_open_at};
@@ -24,14 +23,15 @@ use bio::{CoreEvent, Id};
 use judge::{Account, First, Verdict, beginning};
 use std::alloc::{AllocError, Global};
 
-/// Makes a machine run that fits the first `moment` of the events and leaves the image, if `first`
-/// was on the device before the first event. Returns none if there is no such run. `events` is a
-/// list that a recorder of the device may have recorded (`is_lawful`). A later moment than its last
-/// counts as all of them. The image has the device's length in bytes, whole sectors of 512.
+/// Makes a machine run that fits the first `moment` events and leaves the image, if `first` was on
+/// the device before the first event. Returns none if there is no such run. `events` is a list that
+/// a recorder of the device may have recorded (`is_lawful`). A `moment` past the last event counts
+/// as all of them. The image has the device's length in bytes, whole sectors of 512.
 ///
-/// Takes memory of 32 bytes for each sector, 16 for each event and what the run's steps take, two
-/// for each sector that a request covers at most. Takes time by the sum of these. Lack of memory is
-/// the only error.
+/// Takes 32 bytes of memory for each sector, 16 for each event, and memory for the run's steps. A
+/// run has at most two steps for each sector of each request, one for each submission and end, and
+/// one for the power failure. Takes time proportional to the sum of these. Lack of memory is the
+/// only error.
 pub fn reach(
     alloc: Global,
     events: &[CoreEvent],
@@ -54,8 +54,8 @@ pub fn reach(
     }
 }
 
-/// Makes the same machine run. If there is none, returns the verdict of `could_hold`, from one
-/// account of the image.
+/// As `reach`, but if there is no such run, returns what rules the image out: the sector and
+/// request of the verdict of `could_hold`. Makes one account of the image for both.
 pub fn find(
     alloc: Global,
     events: &[CoreEvent],
@@ -77,7 +77,7 @@ pub fn find(
     }
 }
 
-// Returns the run of the account.
+// Returns the run that the account's plan makes.
 fn run_of(alloc: Global, events: &[CoreEvent], account: &Account) -> Result<Vec<Step>, AllocError>
     requires ends { (id : ℕ) → place_at account.now.ends.items id ≡ end_of events.now id }
     requires within { AllEnd events.now }
@@ -92,7 +92,7 @@ fn run_of(alloc: Global, events: &[CoreEvent], account: &Account) -> Result<Vec<
     Ok(run)
 }
 
-// Adds the steps for all events.
+// Adds the plan's steps for all events.
 fn follow(run: &mut Vec<Step>, events: &[CoreEvent], account: &Account) -> Result<(), AllocError>
     requires ends { (id : ℕ) → place_at account.now.ends.items id ≡ end_of events.now id }
     requires within { AllEnd events.now }
@@ -106,7 +106,7 @@ fn follow(run: &mut Vec<Step>, events: &[CoreEvent], account: &Account) -> Resul
     Ok(())
 }
 
-// Adds the steps for one event.
+// Adds the plan's steps for the event at index `place`.
 fn take_event(
     run: &mut Vec<Step>,
     events: &[CoreEvent],
@@ -135,7 +135,7 @@ fn take_event(
     }
 }
 
-// Returns whether the request of this place ended with success.
+// Returns whether the request `id` ended with success.
 fn ended_ok(events: &[CoreEvent], account: &Account, id: usize) -> bool
     requires { (id : ℕ) → place_at account.now.ends.items id ≡ end_of events.now id }
     ensures { result ≡ ended_ok events.now id }
@@ -146,7 +146,7 @@ fn ended_ok(events: &[CoreEvent], account: &Account, id: usize) -> bool
     }
 }
 
-// Returns whether an end with success is at this place.
+// Returns whether the event at index `place` is an end with success.
 fn is_success_at(events: &[CoreEvent], place: usize) -> bool
     ensures { result ≡ is_success (slice_get events.now place) }
 {
@@ -156,7 +156,7 @@ fn is_success_at(events: &[CoreEvent], place: usize) -> bool
     }
 }
 
-// Adds the steps of the request of this place at its end.
+// Adds the plan's steps for the request `id` at its end.
 fn land_at(
     run: &mut Vec<Step>,
     events: &[CoreEvent],
@@ -173,7 +173,7 @@ fn land_at(
     }
 }
 
-// As above, by the event of this place.
+// As above, for the event at index `id`.
 fn land_event(
     run: &mut Vec<Step>,
     events: &[CoreEvent],
@@ -193,7 +193,7 @@ fn land_event(
     }
 }
 
-// Adds the steps of all requests that haven't ended.
+// Adds the plan's steps for all requests that haven't ended.
 fn finish(run: &mut Vec<Step>, events: &[CoreEvent], account: &Account) -> Result<(), AllocError>
     requires ends { (id : ℕ) → place_at account.now.ends.items id ≡ end_of events.now id }
     requires within { AllEnd events.now }
@@ -206,7 +206,7 @@ fn finish(run: &mut Vec<Step>, events: &[CoreEvent], account: &Account) -> Resul
     Ok(())
 }
 
-// Writes the steps of the request of this place, if it hasn't ended.
+// Adds the plan's steps for the request `id`, if it hasn't ended.
 fn land_left(
     run: &mut Vec<Step>,
     events: &[CoreEvent],
@@ -224,7 +224,7 @@ fn land_left(
     Ok(())
 }
 
-// Returns whether the request of this place hasn't ended.
+// Returns whether `id` is a request that hasn't ended.
 fn is_open_at(events: &[CoreEvent], account: &Account, id: usize) -> bool
     requires { (id : ℕ) → place_at account.now.ends.items id ≡ end_of events.now id }
     ensures { result ≡ is_open_at events.now id }

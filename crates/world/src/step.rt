@@ -1,24 +1,24 @@
-//! A step of a device with a cache, and how it is shown.
+//! A step of a device with a cache, and its text.
 ghost use Rattle.std.specs.Prelude.{Some};
 ghost use Rattle.world.specs.Texts.{end_text, step_text};
 
 use bio::Id;
 use std::fmt;
 
-/// A step of a device with a cache. Ids are the places of submissions in the event list, sectors
-/// are counted from 0. It is shown as `submit <id>`, `land <id> <sector>`, `destage <sector>`,
-/// `end <id> ok` or `end <id> failed`, or `power`.
+/// A step of a device with a cache. An id is the index of the submission in the event list; sectors
+/// are counted from 0. The text is `submit <id>`, `land <id> <sector>`, `destage <sector>`, `end
+/// <id> ok` or `end <id> failed`, or `power`.
 #[derive(Clone, Copy, Debug, PartialEq, Eq)]
 pub enum Step {
     /// The request is submitted.
     Submit(Id),
-    /// The request's value lands in the cache for this sector, one of those that it covers.
+    /// The request's value for this sector, which the request covers, lands in the cache.
     Land(Id, u64),
     /// The newest value that landed in this sector becomes durable.
     Destage(u64),
-    /// The request ends, with or without success.
+    /// The request ends, with success if the flag is true.
     End(Id, bool),
-    /// Power goes: what is durable then stays.
+    /// Power fails: only the durable content stays.
     Power,
 }
 

@@ -9,9 +9,9 @@ use std::alloc::AllocError;
 /// Why a step isn't taken.
 #[derive(Clone, Copy, Debug, PartialEq, Eq)]
 pub enum StepError {
-    /// The device has no such step.
+    /// The device can't take this step.
     BadStep,
-    /// There was no memory.
+    /// An allocation failed.
     Memory,
 }
 

@@ -1,4 +1,4 @@
--- Which sectors of an image hold a value that the device could hold.
+-- The list `held` while the judge makes it, and the search for the lowest sector that fails.
 use Rattle.std.specs.Prelude.{◌≡◌, ◌⊎◌, ℕ, ◌<◌, ◌≤◌, Bool, false, not, ◌&&◌, ◌||◌, Option, Some}
 use Rattle.std.specs.Prelude.{List, length, is_none, is_some, true, if◌then◌else◌}
 use Rattle.std.specs.Str.{bytes_eq}
@@ -10,14 +10,13 @@ use Rattle.judge.specs.inside.Last.{is_below_last}
 use Rattle.judge.specs.declared.verdict.Verdict.{Verdict}
 use Rattle.judge.specs.declared.verdict.Verdict.TheVariants.{Yes, No}
 
--- the sector has the value of the request that this event submits, and could hold it by the
--- request's end and what is kept for each sector
+-- The sector has the value of the event's request. That request didn't end, at index `end`, before
+-- the submission of the request that `last` has for the sector.
 abbrev pub is_fit : Option CoreEvent → Option ℕ → List (Option ℕ) → Content → ℕ → Bool
 is_fit event end last now sector =
     not (is_below_last end (place_at last sector)) && is_value (values_at event sector) (now sector)
 
--- of the sectors from the one to before the other those that fit have this place now, and all
--- others the place that they had
+-- `new` is `old`, but with `place` for the sectors from `from` to before `to` that pass `is_fit`
 pub record AreFit (event : Option CoreEvent) (end : Option ℕ) (last : List (Option ℕ))
     (now : Content) (place from to : ℕ) (old new : List (Option ℕ)) : Type 0 where
   pub size : length new ≡ length old
@@ -27,25 +26,24 @@ pub record AreFit (event : Option CoreEvent) (end : Option ℕ) (last : List (Op
   pub outside : (sector : ℕ) → (sector < from) ⊎ (to ≤ sector)
       → place_at new sector ≡ place_at old sector
 
--- the list keeps for each sector the last request below
--- this place whose value the sector has and could hold
+-- `held` has, for each sector, the last request before index `below` that passes `is_held_from`
 pub record AreHeld (events : List CoreEvent) (now : Content) (sectors below : ℕ)
     (held : List (Option ℕ)) : Type 0 where
   pub size : length held ≡ sectors
   pub each : (sector : ℕ) → sector < sectors
       → place_at held sector ≡ last_below (is_held_from events now sector) below
 
--- the sector has its first value, and no durable request covers it
+-- the sector has its first value, and `last` has no durable request over it
 abbrev pub is_at_first : List (Option ℕ) → Content → Content → ℕ → Bool
 is_at_first last first now sector =
     is_none (place_at last sector) && bytes_eq (now sector) (first sector)
 
--- the sector has the value of a request, or its first value, and could hold it
+-- `held` has a request for the sector, or the sector passes `is_at_first`
 abbrev pub is_fine : List (Option ℕ) → List (Option ℕ) → Content → Content → ℕ → Bool
 is_fine held last first now sector =
     is_some (place_at held sector) || is_at_first last first now sector
 
--- the sector is the lowest that isn't fine, and this is the last durable request over it
+-- `sector` is the lowest that isn't fine, and `by` is the request that `last` has for it
 pub record IsLowest (held last : List (Option ℕ)) (first now : Content) (sectors sector : ℕ)
     (by : Option ℕ) : Type 0 where
   pub within : sector < sectors
@@ -53,7 +51,8 @@ pub record IsLowest (held last : List (Option ℕ)) (first now : Content) (secto
   pub lowest : (lower : ℕ) → lower < sector → is_fine held last first now lower ≡ true
   pub ruled_out : by ≡ place_at last sector
 
--- the verdict by what the sectors hold: each is fine, or the lowest that isn't
+-- the verdict that follows from `held` and `last`: yes if each sector is fine, else no with the
+-- lowest that isn't
 abbrev pub IsFound : List (Option ℕ) → List (Option ℕ) → Content → Content → ℕ → Verdict → Type 0
 IsFound held last first now sectors Yes =
     (sector : ℕ) → sector < sectors → is_fine held last first now sector ≡ true

@@ -1,16 +1,16 @@
--- How many sectors a change is of, and how the table of places is filled when a call is kept.
+-- The number of sectors of a change, and the table of newest calls after a call is added.
 use Rattle.std.specs.Prelude.{◌≡◌, ◌⊎◌, ℕ, ◌+◌, ◌/◌, ◌<◌, ◌≤◌, List, length}
 use Rattle.sector_disk.specs.declared.call.Change.{Change}
 use Rattle.sector_disk.specs.declared.call.Change.TheVariants.{Write, Image, Discard}
 use Rattle.sector_disk.specs.inside.Storage.{place_of}
 
--- how many sectors a change is of
+-- the number of sectors that a change covers
 abbrev pub count_of : Change → ℕ
 count_of (Write bytes) = length bytes / 512
 count_of (Image bytes) = length bytes / 512
 count_of (Discard count) = count
 
--- the sectors of a range have this place now, and the others the place that they had
+-- `new` is `old`, except that each of the `count` sectors from `first` on has `place`
 pub record IsFilled (first count place : ℕ) (old new : List ℕ) : Type 0 where
   pub size : length new ≡ length old
   pub within : (sector : ℕ) → first ≤ sector → sector < first + count → place_of new sector ≡ place

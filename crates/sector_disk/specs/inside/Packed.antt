@@ -1,44 +1,44 @@
--- Whole sectors of bytes, each held without the bytes at its end that repeat the one before them.
+-- Whole sectors, each stored without the bytes at its end that repeat the byte before them.
 use Rattle.std.specs.Prelude.{◌≡◌, ℕ, ◌+◌, ◌-◌, ◌*◌, ◌<◌, ◌≤◌, List, ◌++◌, length, replicate}
 use Rattle.std.specs.Prelude.{slice_index, slice_range}
 use Rattle.bio.specs.Content.{AgreeBelow, Content, gather, sector_of}
 
--- the sector of which these first bytes are held: the last of them fills the rest
+-- the sector of which `part` has the first bytes; the last byte of `part` fills the rest
 abbrev pub refilled : List ℕ → List ℕ
 refilled part = part ++ replicate (512 - length part) (slice_index part (length part - 1))
 
--- the bytes that are held of a sector: those between its bound and the next
+-- the stored bytes of a sector: those between its bound and the next
 abbrev pub part_at : List ℕ → List ℕ → ℕ → List ℕ
 part_at bytes bounds sector =
     slice_range bytes (slice_index bounds sector) (slice_index bounds (sector + 1))
 
--- the sectors that these bytes hold
+-- the sectors that are stored as `bytes` and `bounds`
 abbrev pub packed : List ℕ → List ℕ → Content
 packed bytes bounds sector = refilled (part_at bytes bounds sector)
 
--- the bytes of all of them
+-- the bytes of all these sectors
 abbrev pub unpacked : List ℕ → List ℕ → List ℕ
 unpacked bytes bounds = gather (packed bytes bounds) 0 (length bounds - 1)
 
--- between these bounds are at most 512 of the bytes
+-- from `from` to before `to` there are at most 512 of the bytes
 pub record IsPart (bytes : List ℕ) (from to : ℕ) : Type 0 where
   pub order : from ≤ to
   pub few : to ≤ from + 512
   pub within : to ≤ length bytes
 
--- these bytes hold a sector between each bound and the next
+-- between each bound and the next there are at most 512 of the bytes
 abbrev pub AreParts : List ℕ → List ℕ → Type 0
 AreParts bytes bounds =
     (sector : ℕ) → sector + 1 < length bounds
     → IsPart bytes (slice_index bounds sector) (slice_index bounds (sector + 1))
 
--- these bytes hold at most 128 sectors
+-- `bytes` and `bounds` store at most 128 sectors
 pub record ArePacked (bytes bounds : List ℕ) : Type 0 where
   pub some : 0 < length bounds
   pub few : length bounds ≤ 129
   pub parts : AreParts bytes bounds
 
--- these bytes hold this many of an image's first sectors
+-- `bytes` and `bounds` store the first `count` sectors of the image
 pub record IsPackedTo (image bytes bounds : List ℕ) (count : ℕ) : Type 0 where
   pub counted : length bounds ≡ count + 1
   pub last : slice_index bounds count ≡ length bytes

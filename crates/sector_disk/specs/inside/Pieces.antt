@@ -1,4 +1,4 @@
--- A list of bytes in pieces of 65,536, of which the last may have fewer.
+-- A list of bytes in pieces of 65,536 bytes; the last piece may have fewer.
 use Rattle.std.specs.Prelude.{◌≡◌, ℕ, ◌<◌, ◌≤◌, List, [], ◌∷◌, ◌++◌, length}
 
 -- the bytes of the pieces, one after another
@@ -6,13 +6,13 @@ abbrev pub joined : List (List ℕ) → List ℕ
 joined [] = []
 joined (piece ∷ rest) = piece ++ joined rest
 
--- each piece but the last has 65,536 bytes, and that one some, and no more
+-- each piece has 65,536 bytes, except the last, which has at least one and at most 65,536
 abbrev pub AreWhole : List (List ℕ) → Type 0
 AreWhole [] = Unit {0}
 AreWhole (piece ∷ []) = (0 < length piece) × (length piece ≤ 65536)
 AreWhole (piece ∷ (next ∷ rest)) = (length piece ≡ 65536) × AreWhole (next ∷ rest)
 
--- these pieces hold an image of `count` bytes
+-- the pieces are those of an image of `count` bytes
 pub record IsHeldIn (pieces : List (List ℕ)) (count : ℕ) : Type 0 where
   pub whole : AreWhole pieces
   pub counted : count ≡ length (joined pieces)

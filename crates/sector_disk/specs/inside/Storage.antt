@@ -1,5 +1,5 @@
--- How a disk stores its past: its calls in order, and for each
--- sector the place of the newest call that put a value there.
+-- How a disk stores its past: its calls in order, and for each sector the index of the newest call
+-- that put a value there.
 use Rattle.std.specs.Prelude.{◌≡◌, ℕ, suc, zero, ◌+◌, ◌-◌, ◌<◌, ◌≤◌, ◌==◌, ◌&&◌, not, nat_le}
 use Rattle.std.specs.Prelude.{nat_lt, Bool, true, false, Option, None, Some, unwrap_or, List, []}
 use Rattle.std.specs.Prelude.{◌∷◌, ◌++◌, length, replicate, slice_get}
@@ -9,7 +9,7 @@ use Rattle.sector_disk.specs.declared.call.Change.{Change}
 use Rattle.sector_disk.specs.declared.call.Change.TheVariants.{Write, Image, Discard}
 use Rattle.sector_disk.specs.Candidates.{Cache, Flushes, Puts, Step, cache_after}
 
--- the values that a change from this sector on puts
+-- the values that a change puts from sector `first` on
 abbrev pub change_values : ℕ → Change → Patch
 change_values first (Write bytes) = writes first bytes
 change_values first (Image bytes) = writes first bytes
@@ -19,16 +19,16 @@ change_values first (Discard count) = discards first count
 abbrev pub values_of : Call → Patch
 values_of call = change_values call.first call.change
 
--- a sector's value by a call; zeroes if it has none
+-- the value that a call puts in a sector; zeroes if it puts none or there is no call
 abbrev pub value_in : Option Call → Content
 value_in None sector = replicate 512 0
 value_in (Some call) sector = unwrap_or (values_of call sector) (replicate 512 0)
 
--- a sector's value by the call at a place
+-- the value that the call at index `place` puts in a sector
 abbrev pub value_at : List Call → ℕ → Content
 value_at calls place = value_in (slice_get calls place)
 
--- the place of the call that put a sector's value before a call did
+-- the index of the call that put the sector's value before this call did; 0 if there is none
 abbrev pub before_in : Option Call → ℕ → ℕ
 before_in None sector = 0
 before_in (Some call) sector = unwrap_or (slice_get call.before (sector - call.first)) 0
@@ -36,59 +36,60 @@ before_in (Some call) sector = unwrap_or (slice_get call.before (sector - call.f
 abbrev pub before_at : List Call → ℕ → ℕ → ℕ
 before_at calls place = before_in (slice_get calls place)
 
--- the call was done without FUA
+-- there is a call, and it was done without FUA
 abbrev pub is_plain : Option Call → Bool
 is_plain None = false
 is_plain (Some call) = not call.fua
 
--- the call's values aren't durable: it came after the last flush, and without FUA
+-- The call at index `place` isn't durable: it came after the last flush or crash, and without FUA.
+-- `synced` is the number of calls at that flush or crash.
 abbrev pub is_open : List Call → ℕ → ℕ → Bool
 is_open calls synced place = nat_le synced place && is_plain (slice_get calls place)
 
--- a flush, if there was one
+-- the past, with a flush after it if the flag is true
 abbrev pub flushed_if : Bool → List Step → List Step
 flushed_if true past = Flushes ∷ past
 flushed_if false past = past
 
--- the step of a call, after the flush before it if there was one
+-- the past, with the call's step after it, and before that step a flush if one came before the call
 abbrev pub step_after : Option Call → List Step → List Step
 step_after None past = past
 step_after (Some call) past = Puts (values_of call) call.fua ∷ flushed_if call.after_flush past
 
--- the steps of n calls from a place on, the newest first
+-- the steps of the `n` calls from index `begun` on, newest first
 abbrev pub steps_of : List Call → ℕ → ℕ → List Step
 steps_of calls begun zero = []
 steps_of calls begun (suc n) = step_after (slice_get calls (begun + n)) (steps_of calls begun n)
 
--- the past of a disk since it began at a place
+-- the past of a disk since its call at index `begun`
 abbrev pub past_of : List Call → ℕ → Bool → List Step
 past_of calls begun flushed = flushed_if flushed (steps_of calls begun (length calls - begun))
 
--- a sector's place; the first call's if there is no table yet
+-- the index that `places` has for a sector; 0, the first call's, if the table is empty or shorter
 abbrev pub place_of : List ℕ → ℕ → ℕ
 place_of places sector = unwrap_or (slice_get places sector) 0
 
--- the content of which each sector has the value of the call at its place
+-- the content of which each sector has the value of the call at its index
 abbrev pub content_at : List Call → List ℕ → Content
 content_at calls places sector = value_at calls (place_of places sector) sector
 
--- what a disk knows of its sectors
+-- the content of a disk with these fields, and what a crash may leave of it
 abbrev pub cache_of : List Call → List ℕ → ℕ → Bool → Cache
 cache_of calls base begun flushed =
     cache_after (content_at calls base) (past_of calls begun flushed)
 
--- the place that is n calls back from a place
+-- the index of the sector's call that is `n` calls before the one at `place`
 abbrev pub walk : List Call → ℕ → ℕ → ℕ → ℕ
 walk calls sector zero place = place
 walk calls sector (suc n) place = walk calls sector n (before_at calls place sector)
 
--- the last n values of a sector up to a place, in order
+-- the sector's last `n` values up to the call at `place`, oldest first
 abbrev pub back : List Call → ℕ → ℕ → ℕ → List (List ℕ)
 back calls sector zero place = []
 back calls sector (suc n) place =
     back calls sector n (before_at calls place sector) ++ value_at calls place sector ∷ []
 
--- n calls back from a place is the durable value, and all after it are open
+-- of the sector's last `n` calls up to the one at `place`, the oldest is durable, the others open
 abbrev pub is_chain : List Call → ℕ → ℕ → ℕ → ℕ → Bool
 is_chain calls synced sector zero place = false
 is_chain calls synced sector (suc zero) place =
@@ -98,7 +99,7 @@ is_chain calls synced sector (suc (suc n)) place =
     && (is_open calls synced place
     && is_chain calls synced sector (suc n) (before_at calls place sector))
 
--- a sector with this value and these candidates has its newest call at this place
+-- the call at `place` is the newest of a sector with the value `now` and the candidates `may`
 pub record IsPlaced (calls : List Call) (synced sector place : ℕ) (now : List ℕ)
     (may : List (List ℕ)) : Type 0 where
   pub value : value_at calls place sector ≡ now
@@ -106,22 +107,22 @@ pub record IsPlaced (calls : List Call) (synced sector place : ℕ) (now : List 
   pub chain : is_chain calls synced sector (length may) place ≡ true
   pub few : length may ≤ length calls
 
--- each of the first `sectors` sectors of a disk has its newest call at its place
+-- each of the first `sectors` sectors has its newest call at the index that `newest` has for it
 pub record ArePlaced (calls : List Call) (synced sectors : ℕ) (newest : List ℕ)
     (cache : Cache) : Type 0 where
   pub each : (sector : ℕ) → sector < sectors
       → IsPlaced calls synced sector (place_of newest sector) (cache.now sector) (cache.may sector)
 
--- each place is one of a call
+-- each index of the table is that of a call
 pub record AreWithin (calls : List Call) (places : List ℕ) : Type 0 where
   pub each : (sector : ℕ) → place_of places sector < length calls
 
--- a table of this many places has one for each sector, or there is none yet
+-- a table of this length has an entry for each sector, or is empty
 abbrev pub is_table : ℕ → ℕ → Bool
 is_table sectors zero = true
 is_table sectors (suc n) = suc n == sectors
 
--- what always holds of a disk's fields
+-- the invariant of a disk's fields
 pub record IsKept (sectors : ℕ) (calls : List Call) (newest base : List ℕ) (begun synced : ℕ)
     (flushed : Bool) : Type 0 where
   pub some : 0 < sectors

@@ -14,8 +14,8 @@ use blockdev::BlockDev;
 use std::alloc::AllocError;
 
 impl SectorDisk {
-    // Makes the table of newest places, and room for the one at a crash, if there are none yet.
-    // If there is no memory, nothing is changed.
+    // Makes the table `newest`, and room for the table `base`, unless it is made already. If an
+    // allocation fails, nothing is changed.
     fn open_tables(&mut self) -> Result<(), AllocError>
         ensures made { OnOk result (length self.new.newest.items ≡ self.new.sectors) }
         ensures same { HasPast self.old self.new (steps_of self.old) }
@@ -29,7 +29,7 @@ impl SectorDisk {
         Ok(())
     }
 
-    // Does a write or a discard, and keeps it. If there is no memory, nothing is changed.
+    // Does a write or a discard, and keeps it. If an allocation fails, nothing is changed.
     fn put(&mut self, first: u64, change: Change, fua: bool) -> Result<(), AllocError>
         requires { first + count_of change ≤ self.old.sectors }
         ensures ok { OnOk result

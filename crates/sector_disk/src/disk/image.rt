@@ -1,4 +1,4 @@
-//! Makes a disk, of zeroes or of an image, and returns its image.
+//! Makes a disk of zeroes or of an image, and returns a disk's image.
 ghost use Rattle.std.specs.Prelude.{◌≡◌, ◌*◌, ◌/◌, ◌%◌, ◌≤◌, IfOk, length, replicate};
 ghost use Rattle.sector_disk.specs.DiskView.{shown_of};
 ghost use Rattle.sector_disk.specs.Sizes.{Begins, IsDiskSize, IsImageSize};
@@ -13,7 +13,7 @@ use crate::pieces::Image;
 use crate::runs::Runs;
 use std::alloc::{AllocError, Global};
 
-// Returns a disk that is one change, which covers it from its first sector on.
+// Makes a disk from one change, which covers it from sector 0 on.
 fn make(alloc: Global, change: Change) -> Result<SectorDisk, AllocError>
     requires { IsDiskSize (count_of change) }
     ensures { IfOk result (λ disk.
@@ -41,7 +41,7 @@ fn make(alloc: Global, change: Change) -> Result<SectorDisk, AllocError>
     })
 }
 
-// Reads all the sectors of a disk.
+// Reads all sectors of a disk into `image`.
 fn read_all(calls: &[Call], places: &[usize], image: &mut Vec<u8>)
     requires whole { length image.old.items % 512 ≡ 0 }
     requires few { length image.old.items / 512 ≤ 1048576 }
@@ -51,8 +51,8 @@ fn read_all(calls: &[Call], places: &[usize], image: &mut Vec<u8>)
     read_places(calls, places, 0, image);
 }
 
-// Returns the bytes of all the sectors of a disk, which is dropped: in the bytes of its first call,
-// if that is a write of all sectors.
+// Returns the bytes of all sectors of a disk, which is dropped. If the first call is a write of all
+// sectors, its bytes are reused.
 fn give_all(
     alloc: Global,
     calls: Vec<Call>,
@@ -73,7 +73,7 @@ fn give_all(
 }
 
 impl SectorDisk {
-    /// Returns a disk of `sectors` sectors of zeroes, 1 to 1,048,576. Lack of memory is an error.
+    /// Makes a disk of `sectors` sectors of zeroes, 1 to 1,048,576. Lack of memory is an error.
     pub fn new(alloc: Global, sectors: u64) -> Result<SectorDisk, AllocError>
         requires { IsDiskSize sectors }
         ensures { IfOk result (λ disk. Begins sectors (λ _. replicate 512 0) (shown_of disk)) }
@@ -81,8 +81,8 @@ impl SectorDisk {
         make(alloc, Change::Discard(sectors))
     }
 
-    /// Returns the disk that an image is: its bytes are whole sectors, 1 to 1,048,576. They are
-    /// taken as they are, with no copy. Lack of memory is an error.
+    /// Makes a disk of an image: 1 to 1,048,576 whole sectors. The bytes aren't copied. Lack of
+    /// memory is an error.
     pub fn from_bytes(alloc: Global, bytes: Vec<u8>) -> Result<SectorDisk, AllocError>
         requires { IsImageSize (length bytes.items) }
         ensures { IfOk result (λ disk.
@@ -91,8 +91,8 @@ impl SectorDisk {
         make(alloc, Change::Write(FilledBytes::from_vec(bytes)))
     }
 
-    /// Returns a disk of the sectors of an image: 1 to 1,048,576 whole sectors. The image isn't
-    /// copied. Want of memory is an error.
+    /// Makes a disk of an image: 1 to 1,048,576 whole sectors. The image isn't copied. Lack of
+    /// memory is an error.
     pub fn from_image(alloc: Global, image: Image) -> Result<SectorDisk, AllocError>
         requires { IsImageSize (length image) }
         ensures { IfOk result (λ disk.
@@ -116,9 +116,9 @@ impl SectorDisk {
         Ok(image)
     }
 
-    /// Returns the image of the disk, which is dropped. A disk that was made of an image returns
-    /// that one, with what was written since, and takes no memory. Otherwise it may be refused as
-    /// out of memory.
+    /// Returns the image of the disk, which is dropped. If the disk was made of bytes, they are
+    /// reused with the later writes put over them, which takes no memory. Otherwise out of memory
+    /// is an error.
     pub fn into_bytes(self) -> Result<Vec<u8>, AllocError>
         ensures content { IfOk result (λ image.
             image.items ≡ gather (shown_of self).content 0 (shown_of self).size) }

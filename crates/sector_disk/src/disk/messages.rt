@@ -1,4 +1,4 @@
-//! The disk under layers that take messages: it takes none, and answers that each is a bad message.
+//! The disk under layers that take messages: it answers each message with `BadMessage`.
 ghost use Rattle.std.specs.Prelude.{◌≡◌, Err};
 ghost use Rattle.blockdev.specs.declared.message.MessageError.TheVariants.{BadMessage};
 

@@ -1,4 +1,6 @@
--- A run that leaves a content that the device could hold, made outright.
+-- The plan: the steps of a run that leaves a given content, if the device could hold that content.
+-- `wanted` gives, for a sector, the request whose value the sector is to have. `sure` says whether
+-- a request that lands on a sector at its submission is destaged there at once.
 use Rattle.std.specs.Prelude.{◌≡◌, ℕ, ◌+◌, ◌^◌, ◌==◌, ◌<◌, ◌≤◌, Bool, true, false, not, ◌&&◌}
 use Rattle.std.specs.Prelude.{Option, Some, None, List, [], ◌∷◌, ◌++◌, length, nat_le, slice_get}
 use Rattle.std.specs.Prelude.{if◌then◌else◌}
@@ -13,37 +15,38 @@ use Rattle.judge.specs.Accounts.{place_at}
 use Rattle.world.specs.declared.step.Step.{Step}
 use Rattle.world.specs.declared.step.Step.TheVariants.{Submit, Land, Destage, End, Power}
 
--- the request of this place is the one that is wanted
+-- `id` is the wanted request
 abbrev pub is_wanted : Option ℕ → ℕ → Bool
 is_wanted None id = false
 is_wanted (Some wanted) id = wanted == id
 
--- the request lands on the sector, and that is destaged
+-- the steps of `id` for `sector`: if `lands`, it lands there; if also `settles`, a destage follows
 abbrev pub touch : Bool → Bool → ℕ → ℕ → List Step
 touch lands settles id sector =
     if lands then Land id sector ∷ (if settles then Destage sector ∷ [] else []) else []
 
--- a request that isn't wanted in the sector lands there at its submission, if it has to land at
--- all; the sector is destaged if that has to be sure
+-- the steps of `id` for `sector` at its submission: it lands there if it has to and isn't the
+-- wanted request; then the sector is destaged if `sure` holds
 abbrev pub lands_if : Bool → (ℕ → Option ℕ) → (ℕ → ℕ → Bool) → ℕ → ℕ → List Step
 lands_if has_to wanted sure id sector =
     touch (not (is_wanted (wanted sector) id) && has_to) (sure id sector) id sector
 
--- it has to land if it will end with success
+-- as above; a request has to land if it ends with success
 abbrev pub lands_early : List CoreEvent → (ℕ → Option ℕ) → (ℕ → ℕ → Bool) → ℕ → ℕ → List Step
 lands_early events wanted sure id = lands_if (ended_ok events id) wanted sure id
 
--- the one that is wanted there lands at its end, and the sector is destaged
+-- the steps of `id` for `sector` at its end: it lands there if it is the wanted request, and the
+-- sector is destaged
 abbrev pub lands_late : (ℕ → Option ℕ) → ℕ → ℕ → List Step
 lands_late wanted id sector = touch (is_wanted (wanted sector) id) true id sector
 
--- steps for each sector of the request that this event submits
+-- `steps` of each sector of the request that the event submits; none if it submits no request
 abbrev pub by_sector : (ℕ → List Step) → Option CoreEvent → List Step
 by_sector steps (Some (core_events.Submit bio)) =
     collect (λ place. steps (first_sector bio + place)) (sector_count bio)
 by_sector steps _ = []
 
--- the steps for an event at this place
+-- the plan's steps for the event at index `place`
 abbrev pub steps_of : List CoreEvent → (ℕ → Option ℕ) → (ℕ → ℕ → Bool) → ℕ → Option CoreEvent
     → List Step
 steps_of events wanted sure place (Some (core_events.Submit bio)) =
@@ -52,35 +55,35 @@ steps_of events wanted sure place (Some (core_events.Complete id ok)) =
     by_sector (lands_late wanted id) (slice_get events id) ++ End id ok ∷ []
 steps_of events wanted sure place _ = []
 
--- the steps for a request that hasn't ended
+-- the plan's steps, after all events, for the request `id`: none if it has ended
 abbrev pub steps_left : List CoreEvent → (ℕ → Option ℕ) → ℕ → List Step
 steps_left events wanted id =
     if is_open_at events id then by_sector (lands_late wanted id) (slice_get events id) else []
 
--- the whole run
+-- the whole plan: the steps for each event, then those for each open request, and then power fails
 abbrev pub plan : List CoreEvent → (ℕ → Option ℕ) → (ℕ → ℕ → Bool) → List Step
 plan events wanted sure =
     collect (λ place. steps_of events wanted sure place (slice_get events place)) (length events)
     ++ (collect (steps_left events wanted) (length events) ++ Power ∷ [])
 
--- a place was found, and this one isn't past it
+-- there is a `last`, and `id` isn't past it
 abbrev pub is_upto : ℕ → Option ℕ → Bool
 is_upto id None = false
 is_upto id (Some last) = nat_le id last
 
--- what has to be sure in a sector: each request up to the last durable one over it
+-- `sure`, from the last durable request that `last` has for each sector: `id` isn't past it
 abbrev pub sure_by : List (Option ℕ) → ℕ → ℕ → Bool
 sure_by last id sector = is_upto id (place_at last sector)
 
--- no request ends past what a number of 64 bits can say
+-- the end of each submitted request, its first sector plus its count, is below 2^64
 abbrev pub AllEnd : List CoreEvent → Type 0
 AllEnd events =
     (id : ℕ) (bio : Bio) → slice_get events id ≡ Some (core_events.Submit bio)
     → first_sector bio + sector_count bio < 2 ^ 64
 
--- A choice that a run can follow. In each sector it has a request whose value isn't replaced, or
--- none if no durable request covers it. What has to be sure there are the durable requests, and
--- none that is later than all of them.
+-- `wanted` and `sure` are a choice that a run can follow. A wanted request covers its sector and
+-- isn't replaced there. If a sector has no wanted request, no durable request covers it. `sure`
+-- holds for each durable request over the sector, and for no request past the last of these.
 pub record IsChoice (events : List CoreEvent) (wanted : ℕ → Option ℕ)
     (sure : ℕ → ℕ → Bool) : Type 0 where
   pub covers : (sector id : ℕ) → wanted sector ≡ Some id

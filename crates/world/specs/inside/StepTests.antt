@@ -1,4 +1,5 @@
--- The machine's tests of a step, over the cells and the calls that a world keeps.
+-- The machine's tests of a step, for the cells and calls of a `World`. Here `calls` is newest
+-- first, except in `IsBefore`.
 use Rattle.std.specs.Prelude.{◌≡◌, ℕ, ◌+◌, ◌≤◌, Bool, true, not, ◌&&◌, ◌||◌, Option, is_some, List}
 use Rattle.std.specs.Prelude.{nat_le, nat_lt, reverse, slice_get, take}
 use Rattle.std.specs.List.{list_all, list_any}
@@ -11,12 +12,12 @@ use Rattle.world.specs.declared.step.Step.TheVariants.{Submit, Land, Destage, En
 use Rattle.world.specs.Cells.{CellState, landed_of, settled_of}
 use Rattle.world.specs.Machine.{before_submit, each_sector, is_among, is_end, is_submit, newest}
 
--- the request that this event submits has landed on all its sectors
+-- the request `id`, which the event submits, has landed on all its sectors
 abbrev pub is_landed : List CellState → ℕ → Option CoreEvent → Bool
 is_landed cells id event =
     each_sector (λ sector. is_among (landed_of (slice_get cells sector)) id) event
 
--- and each was destaged after that
+-- each sector of this request was destaged after it had landed there
 abbrev pub is_settled : List CellState → ℕ → Option CoreEvent → Bool
 is_settled cells id event =
     each_sector (λ sector. is_among (settled_of (slice_get cells sector)) id) event
@@ -26,28 +27,28 @@ abbrev pub end_settled : List CoreEvent → List CellState → Step → Bool
 end_settled events cells (End id ok) = not ok || is_settled cells id (slice_get events id)
 end_settled events cells _ = true
 
--- of the calls below a place, oldest first, those below
--- this end came before the request's last submission
+-- `calls` is oldest first. Of its first `place` calls, the first `end` are those before the last
+-- submission of `id`.
 pub record IsBefore (calls : List Step) (id place end : ℕ) : Type 0 where
   pub within : end ≤ place
   pub same : reverse (take end calls) ≡ before_submit id (reverse (take place calls))
 
--- the request that this event submits may end with success
+-- the request `id`, which the event submits, may end with success
 abbrev pub succeeds : List CoreEvent → List CellState → List Step → ℕ → Option CoreEvent → Bool
 succeeds events cells calls id event =
     is_landed cells id event
     && (not (submits has_fua event) || is_settled cells id event)
     && (not (is_flush_submit event) || list_all (end_settled events cells) (before_submit id calls))
 
--- the request was submitted and hasn't ended
+-- the request `id` was submitted and hasn't ended
 abbrev pub pends : List Step → ℕ → Bool
 pends calls id = list_any (is_submit id) calls && not (list_any (is_end id) calls)
 
--- the sector is one of a range
+-- the sector is one of the `count` sectors from `first` on
 abbrev pub is_in : ℕ → ℕ → ℕ → Bool
 is_in first count sector = nat_le first sector && nat_lt sector (first + count)
 
--- the step may be taken while power is there
+-- the step may be taken, if power hasn't failed
 abbrev pub is_allowed : List CoreEvent → List CellState → List Step → Step → Bool
 is_allowed events cells calls (Submit id) =
     is_request (slice_get events id) && not (list_any (is_submit id) calls)

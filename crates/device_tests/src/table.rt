@@ -42,7 +42,7 @@ const UPPER: &str = "0 8 linear disk 4
 0 8 dust disk 2 512
 0 8 delay disk 3 1";
 
-// Times just before and at the changes of the flakey layers, in milliseconds, and the last time.
+// Times before and at the changes of the flakey layers, in milliseconds, and the last time.
 const MOMENTS: [u64; 12] = [
     0,
     2_999,

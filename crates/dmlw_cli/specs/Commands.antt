@@ -101,7 +101,7 @@ pub record EndsPage (page : List ℕ) (writes_old writes_new : Option (List Writ
   pub unwritten : writes_new ≡ writes_old
   pub told : ReportsPage page old new t ended
 
--- How a replay ends, if the word `what` says where in the log it ends.
+-- How a replay ends, if the word `what` names its last entry.
 abbrev pub ReplaysWhat : List ℕ → Option (List ℕ) → Option (List ℕ) → Option (List ℕ) → List ℕ
     → Option (List Write) → Option (List Write) → Option (List ℕ)
     → Option (List ℕ) → ErrStream → Ended → Type 0
@@ -109,7 +109,7 @@ ReplaysWhat what log_file first_file out_file name writes_old writes_new old new
     (upto : Upto) × IsWhat what upto
     × EndsReplaying log_file first_file out_file name upto writes_old writes_new old new t ended
 
--- What a replay leaves in its output file, if the word `what` says where in the log it ends.
+-- What a replay leaves in its output file, if the word `what` names its last entry.
 abbrev pub LeavesReplayed : List ℕ → Option (List ℕ) → Option (List ℕ) → Option (List ℕ) → Type 0
 LeavesReplayed what log_file first_file written =
     (upto : Upto) × IsWhat what upto × HoldsReplayed log_file first_file upto written

@@ -36,10 +36,11 @@ use std::thread::Threads;
 
 /// Executes a command line, and returns how it ended. The first of `words` is the program's name.
 ///
-/// The exit status is 0 if the command is done, 1 if it is refused or an image is ruled out, 2 if
-/// the command line isn't one of the program's, and 3 if logging ended early. Results go to the
-/// session's `out`, and faults to its `err`. If `--explain` is among the words, advice may follow a
-/// fault. If `out` can't be written, the command is refused, as for a file that can't be written.
+/// The exit status is 0 if the command is done, and 1 if it is refused or an image is ruled out. It
+/// is 2 if the command line isn't one of the program's, and 3 if logging ended early. Results go to
+/// the session's `out`, and faults to its `err`. If `--explain` is among the words, advice may
+/// follow a fault. If `out` can't be written, the command is refused, as for a file that can't be
+/// written.
 ///
 /// `rt` starts threads and waits for them; only the command `run` needs it.
 ///

@@ -28,7 +28,7 @@ pub fn names_are_distinct()
     ensures again { (name : Name) → name_of (name_text name) ≡ Some name }
 {}
 
-/// If SCRIPT and LOG don't begin with a hyphen, they are names of files: `record SCRIPT LOG`
+/// If SCRIPT and LOG don't begin with a hyphen, they are names of files. `record SCRIPT LOG`
 /// records the script in the file SCRIPT, and asks for its log to be written to the file LOG.
 pub fn plain_words_record()
     ensures ends { (contents later : List ℕ → Option (List ℕ)) (before after : Option (List Write))
@@ -48,8 +48,8 @@ pub fn plain_words_record()
         LeavesLog script log contents later old new ended.exit }
 {}
 
-/// If SCRIPT and LOG don't begin with a hyphen, `run SCRIPT LOG` runs the seats of the script in
-/// the file SCRIPT, and asks for their log to be written to the file LOG.
+/// If SCRIPT and LOG don't begin with a hyphen, they are names of files. `run SCRIPT LOG` runs the
+/// seats of the script in the file SCRIPT, and asks for their log to be written to the file LOG.
 pub fn plain_words_run()
     ensures ends { (contents later : List ℕ → Option (List ℕ)) (before after : Option (List Write))
         (old new errors_old errors_new : Option (List ℕ)) (ended : Ended)
@@ -90,9 +90,9 @@ pub fn plain_words_status()
         (err_stream false errors_old errors_new) ended }
 {}
 
-/// If LOG, FIRST and OUT don't begin with a hyphen, and WHAT names an end of a replay, `replay LOG
-/// FIRST OUT WHAT` replays the log in the file LOG up to there on the image in the file FIRST. It
-/// asks for the resulting image to be written to the file OUT.
+/// LOG, FIRST and OUT may be any names that don't begin with a hyphen, and WHAT any end of a
+/// replay. Then `replay LOG FIRST OUT WHAT` replays the log in the file LOG up to there, on the
+/// image in the file FIRST. It asks for the resulting image to be written to the file OUT.
 pub fn plain_words_replay()
     ensures ends { (contents later : List ℕ → Option (List ℕ)) (before after : Option (List Write))
         (old new errors_old errors_new : Option (List ℕ)) (ended : Ended)
@@ -115,9 +115,10 @@ pub fn plain_words_replay()
         ended.exit ≡ Done → LeavesReplayed what (contents log) (contents first) (later out) }
 {}
 
-/// If LOG and OUT don't begin with a hyphen, and SECTORS is a number from 8 to 1,048,576, `copy LOG
-/// OUT SECTORS` copies the log in the file LOG to a new one with sectors of 4,096 bytes, on a disk
-/// of SECTORS sectors. It asks for the new log to be written to the file OUT.
+/// LOG and OUT may be any names that don't begin with a hyphen, and SECTORS a number from 8 to
+/// 1,048,576. Then `copy LOG OUT SECTORS` copies the log in the file LOG to a new one with sectors
+/// of 4,096 bytes, on a disk of SECTORS sectors. It asks for the new log to be written to the file
+/// OUT.
 pub fn plain_words_copy()
     ensures ends { (contents later : List ℕ → Option (List ℕ)) (before after : Option (List Write))
         (old new errors_old errors_new : Option (List ℕ)) (ended : Ended)
@@ -138,8 +139,9 @@ pub fn plain_words_copy()
         ended.exit ≡ Done → HoldsCopied (contents log) sectors (later out) }
 {}
 
-/// If SCRIPT and IMAGE don't begin with a hyphen, and M is a number, `judge SCRIPT M IMAGE` judges
-/// the image in the file IMAGE after the first M events of the script in the file SCRIPT.
+/// SCRIPT and IMAGE may be any names that don't begin with a hyphen, and M any number. Then `judge
+/// SCRIPT M IMAGE` judges the image in the file IMAGE after the first M events of the script in the
+/// file SCRIPT.
 pub fn plain_words_judge()
     ensures { (contents later : List ℕ → Option (List ℕ)) (before after : Option (List Write))
         (old new errors_old errors_new : Option (List ℕ)) (ended : Ended)
@@ -155,9 +157,9 @@ pub fn plain_words_judge()
         (err_stream false errors_old errors_new) ended }
 {}
 
-/// If SCRIPT and IMAGE don't begin with a hyphen, and M is a number, `path SCRIPT M IMAGE` prints
-/// how the image in the file IMAGE could have come to the disk of the script in the file SCRIPT,
-/// after its first M events.
+/// SCRIPT and IMAGE may be any names that don't begin with a hyphen, and M any number. Then `path
+/// SCRIPT M IMAGE` prints how the image in the file IMAGE could have come to the disk of the script
+/// in the file SCRIPT, after its first M events.
 pub fn plain_words_path()
     ensures { (contents later : List ℕ → Option (List ℕ)) (before after : Option (List Write))
         (old new errors_old errors_new : Option (List ℕ)) (ended : Ended)

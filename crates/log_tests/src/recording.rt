@@ -162,8 +162,8 @@ fn write_one(alloc: Global, core: &mut Core, sector: u64, flags: u64) -> Result<
     Ok(())
 }
 
-// When 8,192 writes wait, a FUA write takes the one of its own sector with it, or none if no write
-// of its sector waits.
+// When 8,192 writes wait, a FUA write takes the one of the same sector with it, or none if no write
+// of that sector waits.
 fn check_many(rt: &impl Abort, alloc: Global, core: &mut Core) -> Result<(), Fail> {
     for sector in 0..8192 {
         write_one(alloc, core, sector, 0)?;

@@ -202,7 +202,7 @@ fn links_and_modes_are_kept(rt: HostRuntime) -> Result<(), Fail> {
     )
 }
 
-// Checks that a write leaves another program's file in the same folder alone.
+// Checks that a write doesn't change another program's file in the same folder.
 fn check_beside<R: std::rt::Files + Abort, F: Files>(
     rt: &R,
     alloc: Global,

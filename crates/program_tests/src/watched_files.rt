@@ -1,5 +1,5 @@
-// Tests of how the system's files are written (the bytes, and the order of the calls), and of how a
-// file is read that gives its bytes only once, or a few at a time.
+// Tests of the system's files: the bytes that are written, the order of the calls, and files that
+// give their bytes only once, or a few at a time.
 use crate::host::{disk_with, has_bytes, holds};
 use dmlw_files::{FileError, FileFailure, Files, HostFiles};
 use sector_disk::Image;

@@ -79,13 +79,13 @@ pub record Starts (plan : ScriptValue) (run : DiskRun) : Type 0 where
   pub moment : run.moment ≡ 0
   pub short : run.short ≡ false
 
--- What is on `disk`: its content without picks; with picks, what a crash leaves by them.
+-- What is on `disk`: its content if no picks are given, else what a crash leaves by these picks.
 abbrev pub left_on : Option (List ℕ) → SectorDisk → Content
 left_on None disk = (shown_of disk).content
 left_on (Some picks) disk = left_by (cache_of disk) picks
 
--- `status` has the number of placed entries, the highest sector of 512 bytes that they use (0 if
--- there are none), and the cause that ended logging, if it ended.
+-- `status` has the number of placed entries, and the highest sector of 512 bytes that they use (0
+-- if there are none). It has the cause that ended logging, if it ended.
 pub record IsCounted (status : Status) (recorder : DiskRecorder) : Type 0 where
   pub entries : status.entries ≡ recorder.store.placed
   pub end : status.end ≡ recorder.end

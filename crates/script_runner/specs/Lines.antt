@@ -193,8 +193,8 @@ pub record RecordsMark {D L : Type 0} {d : Ghosts D} {l : Ghosts L} (mark text :
   pub short : new.short ≡ (old.short || is_refusal reply)
   pub prints : PrintsMark reply text
 
--- How the two devices of a run answer messages: `old layer text answer new` says that a device in
--- state `old` can answer a message for `layer` with `answer`, and is then in state `new`.
+-- How the two devices of a run answer messages. `old layer text answer new` says: a device in state
+-- `old` can answer a message for `layer` with `answer`, and is then in state `new`.
 pub record Answering (D L : Type 0) : Type 1 where
   pub data_device : D → ℕ → List ℕ → Result (Unit {0}) MessageError → D → Type 0
   pub log_device : L → ℕ → List ℕ → Result (Unit {0}) MessageError → L → Type 0
@@ -255,6 +255,7 @@ TakesStep m (steps.At moment) text old new = SetsTime moment text old new
 TakesStep m (steps.Message over layer asked) text old new =
     SendsToLayer m over layer asked text old new
 
+-- What a line does, given its kind.
 abbrev pub Does : {D L : Type 0} {d : Ghosts D} {l : Ghosts L} → Answering D L → List ScriptId
     → Command → List ℕ → Running D L d l → Running D L d l → Type 0
 Does m names (commands.Submit submission) text old new =

@@ -17,7 +17,7 @@ use Rattle.refusals.specs.declared.run_error.RunError.TheVariants.{LoggingEnded}
 use Rattle.recorder.specs.Fields.{core_of}
 
 -- `recorder` has recorded nothing yet. Its log was made on `device`, is empty, and its sectors have
--- `bytes` bytes. Unless the device lied, a crash leaves exactly this empty log.
+-- `bytes` bytes. Unless the device lied, whatever a crash leaves has this empty log.
 pub record IsNewOn {L : Type 0} {l : Ghosts L} (bytes : ℕ) (device : L)
     (recorder : Recorder L l) : Type 0 where
   pub core : core_of recorder ≡ sized_state bytes
@@ -31,7 +31,8 @@ pub record IsNewOn {L : Type 0} {l : Ghosts L} (bytes : ℕ) (device : L)
       IsLogOf (l.shown recorder.store.device).size left bytes []
 
 -- No log with sectors of `bytes` bytes could be made on `device`: the write of its super block
--- failed with `error`. `fault` says that logging ended by that error.
+-- failed with `error`, which is Io only if the device failed. `fault` says that logging ended by
+-- that error.
 pub record IsUnmadeOn {L : Type 0} (l : Ghosts L) (bytes : ℕ) (device : L)
     (fault : RunError) : Type 0 where
   pub last : L

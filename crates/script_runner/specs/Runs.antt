@@ -40,7 +40,7 @@ abbrev pub PrintsLines : {D L : Type 0} {d : Ghosts D} {l : Ghosts L} → Answer
 PrintsLines m names body before after old new =
     (text : List ℕ) × RunsLines m names body text old new × Appends before after text
 
--- The line at index `place` is a close, and it is refused. `text` is what the lines before it
+-- The command at index `place` is a close, and it is refused. `text` is what the lines before it
 -- print.
 pub record RefusesClose {D L : Type 0} {d : Ghosts D} {l : Ghosts L} (m : Answering D L)
     (plan : ScriptValue) (place : ℕ) (refusal : Refusal) (text : List ℕ)
@@ -54,7 +54,7 @@ pub record RefusesClose {D L : Type 0} {d : Ghosts D} {l : Ghosts L} (m : Answer
   pub ran : RunsLines m plan.names before text old mid
   pub refused : Closes (replies.Refused refusal) mid.recorder last
 
--- The line at index `place` is a message, and it is refused. `text` is what the lines before it
+-- The command at index `place` is a message, and it is refused. `text` is what the lines before it
 -- print.
 pub record RefusesLine {D L : Type 0} {d : Ghosts D} {l : Ghosts L} (m : Answering D L)
     (plan : ScriptValue) (place : ℕ) (error : MessageError) (text : List ℕ)

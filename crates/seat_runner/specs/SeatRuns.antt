@@ -84,7 +84,7 @@ pub record HasRun (lines : List SeatCall) (tallies : List Tally) (given : List (
   pub ran : IsSeatRun lines number seat tally receipts
 
 -- A recorder was closed with these seats and receipts, and the close returned `closed`. The
--- recorded device has `sectors` sectors. The log's device is as `ground` says, and the log's
+-- recorded device has `sectors` sectors. The log's device began as `ground` says, and the log's
 -- sectors have `bytes` bytes.
 pub record IsClosed (ground : Ground) (bytes sectors : ℕ) (seats : List Part)
     (receipts : List Receipt) (closed : Closed Stack Stack) : Type 0 where
@@ -99,8 +99,8 @@ pub record IsClosed (ground : Ground) (bytes sectors : ℕ) (seats : List Part)
   }) closed.placed.items closed.settled closed.store_end
       closed.done.items seats receipts
   pub receives : Each (IsReceipt closed.core.state closed.settled) receipts
-  -- the status is that of the placed entries. Unless the log's device lied, its content has a log
-  -- that is a prefix of the history's completion list, and so has whatever a crash leaves
+  -- the status is that of the placed entries. Unless the log's device lied, its content has a log:
+  -- a prefix of the history's completion list. So has whatever a crash leaves
   pub status : closed.status ≡ status_of bytes (entries_in closed.placed.items) closed.end
   pub log : (stack_shown closed.log).lies ≡ 0 →
       LeavesLog bytes (stack_shown closed.log).size closed.settled closed.core.state closed.end
@@ -203,9 +203,9 @@ pub record IsUnmadeLog (plan : RunPlan) (end : End) : Type 0 where
   pub failed : end ≡ ends.Device → HasFaulted (stack_shown old) (stack_shown new)
   pub fits : end ≡ ends.Full → ⊥
 
--- Why a run of `plan` fails: there is no memory, the writer's thread can't be started, a request is
--- open at the close, a seat or a receipt isn't the recorder's own, or no log could be made. The
--- fault names no line.
+-- Why a run of `plan` fails: there is no memory, the writer's thread can't be started, or a request
+-- is open at the close; or a seat or a receipt isn't the recorder's own; or no log could be made.
+-- The fault names no line.
 pub data FailsRun (plan : RunPlan) : RunError → Type 0 where
   memory : FailsRun plan (refused_by refusals.Memory)
   thread : FailsRun plan (refused_by refusals.NoThread)

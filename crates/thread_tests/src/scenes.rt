@@ -84,9 +84,9 @@ enum Held {
     Log,
 }
 
-// The calls of two seats. The first seat's call is held in the device or in the log, at the write
-// to `sector` after `passes` other writes to it, until the second seat's call was answered.
-// `tallies` has the expected answers.
+// The calls of two seats. The device or the log holds the first seat's call until the second seat's
+// call was answered: at the write to `sector` after `passes` other writes to it. `tallies` has the
+// expected answers.
 #[derive(Clone, Copy, Debug)]
 struct Scene {
     held: Held,

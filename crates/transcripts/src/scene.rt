@@ -193,8 +193,8 @@ impl<'a, H: Threads + Wait + Sync> Scene<'a, H> {
         SectorDisk::from_bytes(self.alloc, bytes).ok()
     }
 
-    // Runs a command line of dmlw. A word may stand before it: the name of an output that fails,
-    // `deaf` if the faults' stream can't be flushed, or `quiet`.
+    // Runs a command line of dmlw. It may follow a word: the name of an output that fails, `deaf`
+    // if the faults' stream can't be flushed, or `quiet`.
     fn dmlw(&mut self, verb: &str, command: &str, rest: &str) -> Result<(), AllocError> {
         match verb {
             "dmlw" => self.execute(Outlet::open(self.alloc), Outlet::open(self.alloc), command),
@@ -236,10 +236,9 @@ impl<'a, H: Threads + Wait + Sync> Scene<'a, H> {
         )
     }
 
-    // `narrow dmlw ..`: executes a command line again and again, over outputs with room for 0, 1, 2
-    // bytes and so on, up to one byte less than its whole output. It shows the number of these
-    // outputs. It also shows, once each, the faults that were reported after a prefix of the output
-    // was printed.
+    // `narrow dmlw ..`: executes a command line for each room from no byte up to one byte less than
+    // its whole output, on an output with that room. It shows the number of these outputs. It also
+    // shows, once each, the faults that were reported after a prefix of the output was printed.
     fn narrow(&mut self, line: &str, whole: &str) -> Result<(), AllocError> {
         let mut seen = String::new(self.alloc);
         for room in 0..whole.len() {

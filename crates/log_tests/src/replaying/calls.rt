@@ -90,8 +90,8 @@ fn image_named(alloc: Global, name: &str) -> Result<Vec<u8>, AllocError> {
     }
 }
 
-// Returns the pair of a row: the name of an image, the number of calls that its device passes, the
-// number of sectors of the target, and the number of calls that the target passes.
+// Returns the pair of a row. It has the name of an image, the number of calls that its device
+// passes, the sector count of the target, and the number of calls that the target passes.
 fn pair_in(rt: &impl Abort, alloc: Global, row: &str) -> Result<Pair, Fail> {
     let mut words = row.split(' ');
     let image = image_named(alloc, words.next().unwrap_or_default())?;
@@ -279,8 +279,8 @@ fn stale_entries_are_not_replayed(rt: HostRuntime) -> Result<(), Fail> {
     )
 }
 
-// If a reader refuses a call because of its log, it refuses each later call with 22, except a call
-// for more entries than there are. After any other refusal it goes on.
+// If a reader refuses a call because of its log, it refuses later calls with 22. Only a call for
+// more entries than there are is refused differently. After any other refusal the reader goes on.
 #[test]
 fn readers_refuse_after_a_refusal(rt: HostRuntime) -> Result<(), Fail> {
     assert_replays(

@@ -15,8 +15,8 @@ use std::test::Fail;
 use test_devices::{Watched, rows_are_told};
 
 // Logs, a line each: the number of sectors of the disk, and the steps. `w` appends a write of 8
-// sectors, `m` a mark, and `s` settles. After `=` are the status, and the count of entries and the
-// sector size in the super block that is left by a crash that keeps only what is settled.
+// sectors, `m` a mark, and `s` settles. After `=` are the status, and the super block's count of
+// entries and sector size after a crash that keeps only what is settled.
 const LOGS: &str = "64 =0 0;0 of 4096
 64 wms=2 31;2 of 4096
 64 msw=2 31;1 of 4096

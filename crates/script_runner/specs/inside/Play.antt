@@ -34,8 +34,8 @@ pub record StartsBeside {L : Type 0} {l : Ghosts L} (bytes : ℕ) (data_disk : D
   pub short : run.short ≡ false
 
 -- `plan` was played from a run with `Start`: its lines ran, and what they print was appended to the
--- output. It left `recorder`. The layers of the data device dropped `lies` calls and reported them
--- as done. `ample` says whether memory sufficed.
+-- output. It left `recorder`. The data device dropped `lies` calls and reported them as done.
+-- `ample` says whether memory sufficed.
 pub record IsPlayed {D L : Type 0} {d : Ghosts D} {l : Ghosts L} (m : Answering D L)
     (plan : ScriptValue) (Start : Running D L d l → Type 0) (before after : Option (List ℕ))
     (recorder : Recorder L l) (lies : ℕ) (ample : Bool) : Type 0 where

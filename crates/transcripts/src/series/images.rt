@@ -8,8 +8,8 @@ use std::thread::Threads;
 use test_devices::Folder;
 
 // Each row is an image: its length in bytes, the size of a log sector, the count of entries, and
-// four fields of its first entry (its sector, its number of sectors, its flags and the length of
-// its data). After `=` are four results, separated by `;`. The first is the listing after the super
+// its first entry. The entry has its sector, its number of sectors, its flags and the length of its
+// data. After `=` are four results, separated by `;`. The first is the listing after the super
 // block's line; `%` means the text of 480 zero bytes, and `-` that not even the super block's line
 // is listed. The second is the fault. The third is the status, if there is no fault. The fourth is
 // what a replay of all counted entries over 16 sectors prints.

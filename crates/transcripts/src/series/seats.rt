@@ -14,7 +14,7 @@ const WRITES: u64 = 100;
 // The longest fuse.
 const MOST_CALLS: u64 = 20;
 
-// The number of FUA writes, and of marks, of the seat that runs alone.
+// The number of FUA writes, and of marks, in a run of a single seat.
 const TURNS: u64 = 2_500;
 
 // The number of marks of each of two seats, and the most runs that are tried until their marks are
@@ -23,7 +23,7 @@ const MARKS: u64 = 1_000;
 
 const TRIES: u64 = 20;
 
-/// Runs four seats with each fuse, one seat alone, and two seats at once. Reports the number of
+/// Runs four seats with each fuse, a single seat, and two seats at once. Reports the number of
 /// runs.
 pub fn run<H: Threads + Wait + Sync>(
     rt: &H,

@@ -69,9 +69,9 @@ pub record EndsCommand (old new : Option (List Write)) (status : ℕ) : Type 0 w
   pub once : (new ≡ old) ⊎ AsksForOne old new
   pub unwritten : status ≡ 2 → new ≡ old
 
--- What the error stream gets if a command only shows clap's text. If memory ran out, it is that
--- fault's line. If help or the version can't be printed, it is that fault's line. For other kinds
--- nothing is claimed.
+-- What the error stream gets, if it can be written, from a command that only shows clap's text. If
+-- memory ran out, it is that fault's line. If help or the version can't be printed, it is that
+-- fault's line. For other kinds nothing is claimed.
 abbrev pub ReportsUntasked : ErrorKind → ErrStream → Ended → Type 0
 ReportsUntasked OutOfMemory t ended = Tells {T = Unit {0}} t (Err memory_error) ended
 ReportsUntasked DisplayHelp t ended = TellsPrinting t ended

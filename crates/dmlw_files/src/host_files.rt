@@ -34,8 +34,8 @@ const MAX_FILE_BYTES: u64 = 9_223_372_036_854_775_807;
 ///
 /// A pipe, a socket or a character device can be read only once. Its bytes are kept under its name
 /// as long as this value lives, if they are at most 4,194,304. A later read of the name returns a
-/// copy of them. If they are more than its limit, it fails with `TooLong(0)`. Else, if they weren't
-/// kept, it fails with `NotSeekable`.
+/// copy of them. If they are known to be more than its limit, it fails with `TooLong(0)`. Else, if
+/// they weren't kept, it fails with `NotSeekable`.
 #[derive(Drop)]
 pub struct HostFiles<'a, R: std::rt::Files> {
     runtime: &'a R,

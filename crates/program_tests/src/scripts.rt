@@ -25,7 +25,7 @@ fn printed(alloc: Global, script: &Script) -> Result<String, AllocError> {
 }
 
 // Returns the sizes of a script's disks, its names and its number of commands, as text; also the
-// lines of the text that have the last command and the one after it.
+// numbers of the lines that have command 4 and command 5, counted from 0.
 fn parts_of(alloc: Global, text: &[u8], script: &Script) -> Result<String, AllocError> {
     let mut names = String::new(alloc);
     for name in script.names() {

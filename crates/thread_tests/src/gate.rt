@@ -41,7 +41,7 @@ impl Sign {
         })
     }
 
-    /// Waits until a call is held, or for as long as a gate holds one at most.
+    /// Waits until a call is held, but no longer than a gate holds one.
     pub fn wait(&self, clock: &impl Clock) {
         for _ in 0..LOOKS {
             if self.state.load(Ordering::SeqCst) != IDLE {

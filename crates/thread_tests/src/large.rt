@@ -22,7 +22,7 @@ const SEATS: u64 = 4;
 
 const OWN: u64 = 100;
 
-// The byte that a seat writes after it was asked to close.
+// The byte that a seat writes after the recorder was asked to close.
 const LATE: u8 = 200;
 
 // Returns the calls of a seat that writes each of its sectors once, and then a mark with its
@@ -167,8 +167,8 @@ fn four_seats_find_a_log_full(rt: HostRuntime) -> Result<(), Fail> {
 }
 
 // Returns the calls of a seat that writes each of its sectors, reads it at once, and then flushes.
-// After it was asked to close, it writes its first sector again, and its second one with FUA. It
-// discards its third one, reads each, and marks.
+// After the recorder was asked to close, it writes its first sector again, and its second one with
+// FUA. It discards its third one, reads each of the three, and marks.
 fn writes_read_back(alloc: Global, seat: u64) -> Result<Table, AllocError>
     requires { seat < 4 }
 {

@@ -76,8 +76,8 @@ struct Called<R: Run + Names> {
 }
 
 // Starts the writer, makes all calls in a thread for each seat, asks the recorder to close, and
-// makes the late calls. Returns None if a thread couldn't be started or the close was refused. Then
-// logging is ended, so that the writer doesn't wait for more.
+// makes the late calls. Returns None if a thread couldn't be started or the close was refused. If
+// the writer runs then, logging is ended, so that the writer doesn't wait for more.
 fn run_all<
     D: BlockDev + Drop + Send,
     L: BlockDev + Drop + Send,
@@ -278,8 +278,8 @@ fn last_looks<D: BlockDev + Drop, L: BlockDev + Drop, R: Run + Names>(
     Ok((seen, rises))
 }
 
-/// Plays the tables, with a seat for each, and closes the recorder. Returns None if the recorder
-/// couldn't be started, the threads couldn't be, or the close failed.
+/// Plays the tables, with a seat for each, and closes the recorder. Returns None if the recorder or
+/// a thread couldn't be started, or if a close was refused.
 pub fn play<
     D: BlockDev + Drop + Send,
     L: BlockDev + Drop + Send,

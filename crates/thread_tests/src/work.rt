@@ -19,9 +19,10 @@ pub enum Call {
     Flush,
     Discard { first: u64 },
     Mark { byte: u8 },
-    /// Asks to close. The answer is done, or refused as busy.
+    /// Asks the recorder to close. It counts as done, as refused if the recorder is busy, or as
+    /// starved.
     AskClose,
-    /// Ends logging for lack of memory. The answer is done.
+    /// Ends logging for lack of memory. It counts as done.
     GiveUp,
 }
 

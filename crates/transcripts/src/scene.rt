@@ -194,7 +194,7 @@ impl<'a, H: Threads + Wait + Sync> Scene<'a, H> {
     }
 
     // Runs a command line of dmlw. It may follow a word: the name of an output that fails, `deaf`
-    // if the faults' stream can't be flushed, or `quiet`.
+    // if the faults' stream can't be flushed, or `quiet` if nothing is shown.
     fn dmlw(&mut self, verb: &str, command: &str, rest: &str) -> Result<(), AllocError> {
         match verb {
             "dmlw" => self.execute(Outlet::open(self.alloc), Outlet::open(self.alloc), command),

@@ -1,4 +1,4 @@
-// Calls of a device, and what each shows: the harness of all these tests. A call is written in
+// The harness of these tests: calls of a device, and the text of each answer. A call is written in
 // words, in a row, or in letters, in a line of words.
 use bio::{DevError, Ms};
 use blockdev::{BlockDev, Message};
@@ -11,7 +11,7 @@ use std::process::Abort;
 use std::test::Fail;
 use test_devices::{is_same, is_told};
 
-// The bytes of 16 sectors.
+// The number of bytes of 16 sectors.
 const MOST: usize = 8192;
 
 /// A call: its sectors, at most 16, and the byte that a write puts in each of them.
@@ -24,7 +24,8 @@ pub struct Call {
     pub fua: bool,
 }
 
-/// When a call ended, or its error, and the bytes that it read; 255 for bytes that it didn't read.
+/// The time at which a call ended, or its error; and the bytes that it read, or 255 for other
+/// bytes.
 #[derive(Drop)]
 pub struct Answer {
     pub end: Result<Ms, DevError>,
@@ -80,7 +81,7 @@ pub fn ask<D: BlockDev + Drop>(rt: &impl Abort, device: &mut D, now: Ms, call: C
 }
 
 impl Answer {
-    /// Returns the byte that fills the first sector that was read, or 254.
+    /// Returns the byte that fills the first sector that was read, or 254 if its bytes differ.
     pub fn byte(&self) -> u8 {
         byte_of(&self.bytes[..512])
     }
@@ -97,7 +98,7 @@ pub fn read_of(sector: u64) -> Call {
     }
 }
 
-/// Returns the byte that fills a sector, or 254.
+/// Returns the byte that fills a sector, or 254 if its bytes differ.
 pub fn byte_of(sector: &[u8]) -> u8 {
     let byte = sector.first().copied().unwrap_or(254);
     if sector.iter().all(|other| *other == byte) {
@@ -108,7 +109,7 @@ pub fn byte_of(sector: &[u8]) -> u8 {
 }
 
 /// Returns the result of calls on a device, and then the result of `end` for the device. For the
-/// prover: only here a device of many parts is held, and here its type is a parameter.
+/// prover: here the type of the device is a parameter, so that its parts aren't looked into.
 pub fn asked<D, T, U, F, G>(device: D, calls: F, end: G) -> Result<(T, U), Fail>
 where
     D: Drop,
@@ -125,7 +126,7 @@ where
 
 // ---- rows
 
-// Returns when a call ended, in milliseconds, or its error.
+// Returns the time at which a call ended, in milliseconds, or its error.
 fn end_text(alloc: Global, end: Result<Ms, DevError>) -> Result<String, AllocError> {
     match end {
         Ok(end) => end.milliseconds().to_string(alloc),
@@ -134,7 +135,7 @@ fn end_text(alloc: Global, end: Result<Ms, DevError>) -> Result<String, AllocErr
     }
 }
 
-// Returns the numbers of these words; 0 for each that is missing.
+// Returns the numbers of a text, and 0 for each that is missing.
 fn numbers_of(text: &str) -> [u64; 3] {
     let mut numbers = text.split(' ').map(|word| word.parse::<u64>().unwrap_or(0));
     [
@@ -144,8 +145,8 @@ fn numbers_of(text: &str) -> [u64; 3] {
     ]
 }
 
-// Returns the call of these words. `w 5 4 1` writes 1s to 4 sectors from sector 5 on, and `F` does
-// with FUA. `d 5 4` discards them, `f` flushes, and `r 5 4` reads them.
+// Returns the call of these words. `w 5 4 1` writes 1s to 4 sectors from sector 5 on, and `F` the
+// same with FUA. `d 5 4` discards them, `f` flushes, and `r 5 4` reads them.
 fn call_of(words: &str) -> Call {
     let (kind, rest) = words.split_once(' ').unwrap_or((words, ""));
     let [first, count, byte] = numbers_of(rest);
@@ -163,8 +164,8 @@ fn call_of(words: &str) -> Call {
     }
 }
 
-// Returns what a call shows: its end, and the byte of each sector if it is a read that ended Ok.
-// `#` shows the faults and the lies.
+// Makes a call, and returns the text of its answer: its end, and the byte of each sector if it is a
+// read that ended Ok. `#` returns the faults and the lies.
 fn told<D: BlockDev + Drop>(
     rt: &impl Abort,
     alloc: Global,
@@ -186,7 +187,7 @@ fn told<D: BlockDev + Drop>(
     Ok(told)
 }
 
-/// Returns the answer to a message, by its number and its name, or `ok`.
+/// Sends a message. Returns the number and the name of its refusal, or `ok`.
 pub fn answer_of<D: Message + Drop>(
     alloc: Global,
     device: &mut D,
@@ -199,7 +200,8 @@ pub fn answer_of<D: Message + Drop>(
     }
 }
 
-// Makes the call of a row: a time in milliseconds, the call, and after `|` what it shows.
+// Makes the call of a row, and checks its answer: a time in milliseconds, the call, and after `|`
+// the text of the answer.
 fn call_row<D: BlockDev + Drop>(
     rt: &(impl Abort + Print),
     alloc: Global,
@@ -214,7 +216,8 @@ fn call_row<D: BlockDev + Drop>(
     Ok(())
 }
 
-// Sends the message of a row: a layer, the message, and after `|` its answer.
+// Sends the message of a row, and checks its answer: a layer, the message, and after `|` the
+// answer.
 fn message_row<D: Message + Drop>(
     rt: &(impl Abort + Print),
     alloc: Global,
@@ -229,8 +232,8 @@ fn message_row<D: Message + Drop>(
     Ok(())
 }
 
-/// Makes the calls of these rows, one after another: a time in milliseconds, the call, and after
-/// `|` what it shows.
+/// Makes the calls of the rows, one after another, and checks their answers. A row has a time in
+/// milliseconds, the call, and after `|` the text of the answer.
 pub fn calls<D: BlockDev + Drop>(
     rt: &(impl Abort + Print),
     alloc: Global,
@@ -243,8 +246,8 @@ pub fn calls<D: BlockDev + Drop>(
     Ok(())
 }
 
-/// Makes calls and sends messages, one after another. The row of a message has `m`, a layer, the
-/// message, and after `|` its answer.
+/// Makes calls and sends messages, one after another, and checks their answers. The row of a
+/// message has `m`, a layer, the message, and after `|` its answer.
 pub fn talk<D: Message + Drop>(
     rt: &(impl Abort + Print),
     alloc: Global,
@@ -266,9 +269,9 @@ fn digit(byte: u8) -> u8 {
     byte.saturating_sub(48) % 10
 }
 
-// Returns the call of a word. `w31` writes 1s to sector 3, and `F31` does with FUA. `d32` discards
-// 2 sectors from sector 3 on, and `f` flushes. `r31` reads 1s from sector 3, and `r3` reads none.
-// No other word is a call.
+// Returns the call of a word, if it is one. `w31` writes 1s to sector 3, and `F31` the same with
+// FUA. `d32` discards 2 sectors from sector 3 on, and `f` flushes. `r31` reads 1s from sector 3,
+// and `r3` reads no sector.
 fn call_in(word: &[u8]) -> Option<Call> {
     let (kind, first, count, byte) = match word {
         [b'w' | b'F', first, byte] => (Kind::Write, digit(*first), 1, digit(*byte)),
@@ -287,8 +290,8 @@ fn call_in(word: &[u8]) -> Option<Call> {
     })
 }
 
-/// Makes the call of a word. It must end at this time, or fail by Io if the word ends with `-`.
-/// `#21` means that there were 2 faults and 1 lie.
+/// Makes the call of a word. It must end at the time `now`, or fail with Io if the word ends with
+/// `-`. A read must return its byte. `#21` means that there were 2 faults and 1 lie.
 pub fn step<D: BlockDev + Drop>(
     rt: &(impl Abort + Print),
     device: &mut D,

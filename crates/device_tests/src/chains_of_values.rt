@@ -1,4 +1,5 @@
-//! Chains of values: added, joined, taken, replaced, walked and lifted, with rows used again.
+//! Tests of chains: values are added, joined, taken, replaced, walked and lifted, and rows are used
+//! again.
 ghost use Rattle.std.specs.Prelude.{◌<◌, ◌≡◌, ◌==◌, IsTrue, None, length};
 ghost use Rattle.std.specs.List.{list_any};
 ghost use Rattle.chains.specs.Edits.{chain_in};
@@ -11,7 +12,7 @@ fn number_of(word: Option<&str>) -> u64 {
     word.unwrap_or_default().parse::<u64>().unwrap_or(0)
 }
 
-// Returns whether a chain of this number can be used.
+// Returns whether chain number `chain` can be used.
 fn is_there(chains: &Chains<u64>, chain: usize) -> bool
     ensures { IsTrue result → 0 < chain × chain < length chains.now.chains }
 {
@@ -65,8 +66,7 @@ fn go(chains: &mut Chains<u64>, word: &str, one: usize, two: usize) {
     }
 }
 
-// Returns the values of each chain, the chains separated by a bar, and the number of links that
-// were changed.
+// Returns the values of each chain, with a bar after each chain, and the number of changed links.
 fn shown(alloc: Global, chains: &Chains<u64>) -> Result<String, AllocError> {
     let mut text = String::new(alloc);
     for chain in 1..chains.chains() {
@@ -80,8 +80,8 @@ fn shown(alloc: Global, chains: &Chains<u64>) -> Result<String, AllocError> {
     Ok(text)
 }
 
-// Returns what is shown for three chains after these steps, which are separated by commas. A step
-// is a word and one or two numbers.
+// Returns the text of three chains after these steps, which are separated by commas. A step is a
+// word and one or two numbers.
 fn played(alloc: Global, steps: &str) -> Result<String, AllocError> {
     let mut chains = Chains::new(alloc, 3)?;
     for step in steps.split(",") {
@@ -97,7 +97,7 @@ fn played(alloc: Global, steps: &str) -> Result<String, AllocError> {
     shown(alloc, &chains)
 }
 
-// Steps, and what is then shown: the values of each chain, and how many links were changed.
+// Steps, and after `=` the chains: the values of each, and the number of changed links.
 const ROWS: &str = "add 1 10,add 1 11,add 2 20=10 11 | 20 | | 9
 add 1 10,add 1 11,add 2 20,join 1 2=| 20 10 11 | | 13
 add 1 10,add 1 11,add 2 20,join 2 1,join 3 1=10 11 20 | | | 13

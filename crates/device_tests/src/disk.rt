@@ -1,4 +1,4 @@
-//! The disk in memory.
+//! Tests of the disk in memory.
 use crate::calls::{ask, byte_of, look, play, read_of, step};
 use bio::{DevError, Ms};
 use blockdev::BlockDev;
@@ -9,8 +9,8 @@ use std::process::Abort;
 use std::test::Fail;
 use test_devices::{Failing, Lying, holds, is_same};
 
-// Takes the words of a line. `w31` writes 1s to sector 3, and `F31` does with FUA. `d32` discards 2
-// sectors from sector 3 on, and `c12` crashes with the picks 1 and 2.
+// Makes the calls of a line's words. `w31` writes 1s to sector 3, and `F31` the same with FUA.
+// `d32` discards 2 sectors from sector 3 on, and `c12` crashes with the picks 1 and 2.
 fn go(rt: &(impl Abort + Print), disk: &mut SectorDisk, line: &str) {
     for word in line.split(' ') {
         step(rt, disk, Ms::new(5), word, line);
@@ -26,7 +26,7 @@ fn image_after(rt: &(impl Abort + Print), alloc: Global, line: &str) -> Result<V
     Ok(disk.into_bytes()?)
 }
 
-// An image is returned with the sectors that were written since, also after a crash.
+// A disk returns its image with the sectors that were written since, also after a crash.
 #[test]
 fn images_are_given_back(rt: HostRuntime) -> Result<(), Fail> {
     for (line, wanted) in [
@@ -42,7 +42,7 @@ fn images_are_given_back(rt: HostRuntime) -> Result<(), Fail> {
     Ok(())
 }
 
-// Checks that the disk has these bytes, and is returned as them.
+// Checks that the disk has these bytes, and that it turns into them.
 fn check_bytes(rt: &impl Abort, disk: SectorDisk, wanted: &[u8]) -> Result<(), Fail> {
     assert!(rt; disk.bytes()?.as_slice() == wanted);
     assert!(rt; disk.into_bytes()?.as_slice() == wanted);
@@ -69,7 +69,8 @@ fn written(rt: &impl Abort, alloc: Global, image: &Vec<u8>) -> Result<SectorDisk
     Ok(disk)
 }
 
-// Images of `sectors` sectors of 65s and of zeroes are made, written, discarded and returned.
+// Checks that images of `sectors` sectors, filled with 65 and with 0, are made, written, discarded
+// and returned.
 fn check_size(
     rt: &impl Abort,
     alloc: Global,
@@ -99,8 +100,8 @@ fn disks_of_each_size_are_kept(rt: HostRuntime) -> Result<(), Fail> {
     Ok(())
 }
 
-// Returns the byte that a round of calls puts in a sector of 64: zero by a discard, or its number
-// by a write.
+// Returns the byte that round number `round` puts in a sector of 64: 0 by a discard, or the number
+// of the round by a write.
 fn put_in_round(round: u64, sector: u64) -> u8 {
     if (round % 16 + sector % 16) % 16 == 0 {
         (round % 200) as u8
@@ -109,7 +110,7 @@ fn put_in_round(round: u64, sector: u64) -> u8 {
     }
 }
 
-// Makes the rounds of calls up to this one.
+// Makes the first `rounds` rounds of calls.
 fn put_rounds(rt: &impl Abort, disk: &mut SectorDisk, rounds: u64) -> Result<(), DevError> {
     for round in 0..rounds {
         for sector in 0..64 {
@@ -123,7 +124,7 @@ fn put_rounds(rt: &impl Abort, disk: &mut SectorDisk, rounds: u64) -> Result<(),
     Ok(())
 }
 
-// Checks that the disk holds what this round wrote.
+// Checks that the disk holds what round number `round` put.
 fn check_round(rt: &impl Abort, disk: &mut SectorDisk, round: u64) {
     for sector in 0..64 {
         let answer = ask(rt, disk, Ms::new(7), read_of(sector));
@@ -131,8 +132,8 @@ fn check_round(rt: &impl Abort, disk: &mut SectorDisk, round: u64) {
     }
 }
 
-// 256,000 calls are kept, and each is as fast as the first. A disk that walks over its calls at
-// each call takes far longer than a test may.
+// 256,000 calls are kept, and each is as fast as the first. A disk that walked over all earlier
+// calls in each call would take far longer than a test may.
 #[test]
 fn thousands_of_calls_are_kept(rt: HostRuntime) -> Result<(), Fail> {
     let mut disk = SectorDisk::new(rt.alloc(), 64)?;
@@ -156,7 +157,7 @@ fn the_device_laws_hold() {
     blockdev::laws::devices_keep_their_size::<SectorDisk>();
 }
 
-// Other devices than the disk keep the law too: one that lies, and one that fails.
+// Other devices keep the law too: one that lies, and one that fails.
 #[test]
 fn devices_lie_and_fail(rt: HostRuntime) -> Result<(), Fail> {
     let lying = Lying::new(SectorDisk::new(rt.alloc(), 1)?);

@@ -1,4 +1,4 @@
-//! Layers with bad blocks.
+//! Tests of layers with bad blocks.
 use crate::calls::talk;
 use bio::Ms;
 use blockdev::{BlockDev, Message};
@@ -23,7 +23,7 @@ fn by_sector<D: BlockDev + Drop>(alloc: Global, lower: D) -> Dust<D> {
     Dust::new(alloc, lower, 512)
 }
 
-// Makes the calls of these rows and sends their messages, over blocks of 1,024 bytes.
+// Makes the calls of the rows, and sends their messages, over blocks of 1,024 bytes.
 fn talk_over<D: BlockDev + Drop>(
     rt: &(impl Abort + Print),
     alloc: Global,
@@ -40,8 +40,8 @@ fn disk_of_16(alloc: Global) -> Result<SectorDisk, Fail> {
     Ok(SectorDisk::new(alloc, 16)?)
 }
 
-// The write of four sectors over blocks of two. Its bad block stops it once, and leaves the list
-// the next time.
+// Writes of four sectors over blocks of two. A bad block fails the first write, and leaves the list
+// in the second one.
 const ONCE: &str = "m 1 addbadblock 3 1|ok
 m 1 enable|ok
 0 w 5 4 7|Io
@@ -71,7 +71,7 @@ fn bad_blocks_fail_once(rt: HostRuntime) -> Result<(), Fail> {
     Ok(())
 }
 
-// Lists every second one of the first 2,000 blocks.
+// Adds every second one of the first 2,000 blocks to the list.
 fn list_many<D: Message + Drop>(
     rt: &impl Abort,
     alloc: Global,
@@ -84,7 +84,7 @@ fn list_many<D: Message + Drop>(
     Ok(())
 }
 
-// Writes 5s to 2,048 sectors.
+// Fills 2,048 sectors with 5.
 fn write_many<D: BlockDev + Drop>(
     rt: &impl Abort,
     alloc: Global,
@@ -96,7 +96,7 @@ fn write_many<D: BlockDev + Drop>(
     Ok(())
 }
 
-// A write of 2,048 sectors over a thousand listed blocks, each of which leaves the list.
+// Writes 2,048 sectors over a thousand listed blocks, each of which leaves the list.
 fn mend_many<D: Message + Drop>(
     rt: &(impl Abort + Print),
     alloc: Global,

@@ -1,4 +1,4 @@
-//! Layers that fail or drop calls.
+//! Tests of layers that fail or drop calls.
 use crate::calls::{calls, look, play};
 use bio::Ms;
 use blockdev::BlockDev;
@@ -10,10 +10,11 @@ use std::test::Fail;
 use table_line::Feature;
 
 // Layers over a disk of 8 sectors of zeroes, a line each: the layer, then its calls. `@12` sets the
-// time of the later calls, in milliseconds. `w31+` writes 1s to sector 3, and `F31+` does with FUA.
-// `d32+` discards 2 sectors from sector 3 on. `f+` flushes, and `r31+` reads 1s from sector 3. `+`
-// is an Ok at that time, and `-` is Io. `#21` is 2 faults and 1 lie. `=` gives the content of the
-// disk below after all calls, and `!` its content after a crash with no picks.
+// time of the later calls, in milliseconds. `w31+` writes 1s to sector 3, and `F31+` the same with
+// FUA. `d32+` discards 2 sectors from sector 3 on. `f+` flushes, and `r31+` reads 1s from sector 3.
+// `+` means that the call ends Ok at that time, and `-` that it fails with Io. `#21` means 2 faults
+// and 1 lie. `=` has the content of the disk below after all calls, and `!` its content after a
+// crash without picks.
 const CALLS: &str = "error w31- F31- d32- r3- f- #50 =00000000
 fuse0 r30+ w31- d31- f- r30+ #30 =00000000
 fuse1 r30+ F31+ r31+ w32- r31+ d31- f- #30 =00010000 !00010000
@@ -29,7 +30,7 @@ flakey-fuse w31+ w32- @10000 w33+ @15000 r31+ w34- #21 =00010000
 fuse-flakey @10000 w33+ w34- @15000 r30+ #11 =00000000
 linear-linear w01+ F02+ r02+ #00 =12325678 !12325678";
 
-// Returns what a flakey layer of this name does while it is down, and its load time.
+// Returns the feature of a flakey layer of this name, and its load time.
 fn turns_of(name: &str) -> Option<(Feature, u64)> {
     match name {
         "none" => Some((Feature::None, 0)),
@@ -68,7 +69,7 @@ fn played(rt: &(impl Abort + Print), disk: SectorDisk, line: &str) -> SectorDisk
     }
 }
 
-// As above, for a part of the disk, and for two layers.
+// As above, for a layer over a part of the disk, and for two layers.
 fn played_deep(rt: &(impl Abort + Print), disk: SectorDisk, line: &str) -> SectorDisk {
     let start = Ms::new(0);
     assert_eq!(rt; disk.sectors(), 8);
@@ -97,7 +98,7 @@ fn played_deep(rt: &(impl Abort + Print), disk: SectorDisk, line: &str) -> Secto
     }
 }
 
-// What each layer passes, fails and drops was computed by hand.
+// The expected results were computed by hand.
 #[test]
 fn layers_do_what_their_rules_say(rt: HostRuntime) -> Result<(), Fail> {
     for line in CALLS.lines() {
@@ -115,8 +116,8 @@ fn layers_do_what_their_rules_say(rt: HostRuntime) -> Result<(), Fail> {
     Ok(())
 }
 
-// A delay of reads, of writes and discards, and of flushes; then one of flushes only, over a flakey
-// layer.
+// Calls of a layer that delays reads, writes and discards, and flushes; then of one that delays
+// only flushes, over a flakey layer.
 const DELAYED: &str = "100 w 0 1 1|120
 100 r 0 1|110 1
 100 d 0 1|120
@@ -128,7 +129,7 @@ const LATER: &str = "9979 f|9999
 9980 f|Io
 0 #|1 0";
 
-// A delayed call ends later by the delay of its kind. A discard is delayed like a write.
+// A delayed call ends later, by the delay of its kind. A discard is delayed like a write.
 #[test]
 fn delayed_calls_begin_later(rt: HostRuntime) -> Result<(), Fail> {
     let disk = SectorDisk::new(rt.alloc(), 1)?;

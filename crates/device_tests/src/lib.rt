@@ -1,6 +1,6 @@
-//! Tests of `refusals`, `bio`, `judge`, `world` and `chains`, and of the devices: `sector_disk`,
-//! `fault_layers`, `dust_layer` and `layer_table`, through what these make public. They are apart
-//! from the crates that they test, so that these aren't proved a second time with their tests.
+//! Tests of `refusals`, `bio`, `judge`, `world` and `chains`, and of the devices `sector_disk`,
+//! `fault_layers`, `dust_layer` and `layer_table`, through their public functions. They are in
+//! their own crate, so that the tested crates aren't proved again with their tests.
 #![tactic(auto)]
 
 #[cfg(test)]

@@ -1,10 +1,10 @@
-//! How a fault is shown.
+//! Tests of how a fault is printed.
 
 use refusals::{Fault, Refusal};
 use std::test::Fail;
 use test_devices::is_told;
 
-// Returns a fault without a line, or at one.
+// Returns a fault with or without a line.
 fn fault(line: Option<u64>, refusal: Refusal) -> Fault {
     Fault { line, refusal }
 }

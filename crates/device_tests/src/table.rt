@@ -1,4 +1,4 @@
-//! Stacks of layers by their table lines.
+//! Tests of stacks of layers, which are made from their table lines.
 ghost use Rattle.std.specs.Prelude.{◌≡◌};
 ghost use Rattle.std.specs.List.{AllByRecursion};
 ghost use Rattle.table_line.specs.declared.layer_spec.Target.TheVariants.{Linear};
@@ -21,8 +21,8 @@ use test_devices::is_same;
 
 mod plain;
 
-// Lines for the lower layer over a disk of 16 sectors, which counts time from 0 on. Then lines for
-// the upper one, which counts from 3000 on.
+// Lines for the lower layer over a disk of 16 sectors, which is loaded at time 0. Then lines for
+// the upper layer, which is loaded at time 3000.
 const LOWER: &str = "0 12 linear disk 2
 0 12 error
 0 12 flakey disk 1 10 5
@@ -42,7 +42,7 @@ const UPPER: &str = "0 8 linear disk 4
 0 8 dust disk 2 512
 0 8 delay disk 3 1";
 
-// Times on both sides of each bound of the flakey layers, in milliseconds, and the last time.
+// Times before and at the changes of the flakey layers, in milliseconds, and the last time.
 const MOMENTS: [u64; 12] = [
     0,
     2_999,
@@ -68,7 +68,7 @@ fn spec_of(rt: &impl Abort, line: &str) -> LayerSpec
     }
 }
 
-// Returns either stack, and the refusal if one was refused.
+// Returns the stack of either result, and the refusal if there is one.
 fn either<D: Drop>(put: Result<D, (D, Refusal)>) -> (D, Option<Refusal>) {
     match put {
         Ok(device) => (device, None),
@@ -77,7 +77,7 @@ fn either<D: Drop>(put: Result<D, (D, Refusal)>) -> (D, Option<Refusal>) {
 }
 
 // Returns the disk under the layers of these lines, the lowest first, each loaded at its time. A
-// line that is refused puts no layer. Checks that `ends` is the refusal of the last line.
+// line that is refused adds no layer. Checks that `ends` is the refusal of the last line.
 fn stack_of(
     rt: &impl Abort,
     alloc: Global,
@@ -135,7 +135,7 @@ fn call_in(round: usize, kind: Kind) -> Call {
     }
 }
 
-// Returns the answer to a call: the byte that is read or 0, or none if it failed.
+// Makes a call. Returns the byte that was read, 0 for another call, or None if the call failed.
 fn told<D: BlockDev + Drop>(rt: &impl Abort, device: &mut D, now: Ms, call: Call) -> Option<u8> {
     let answer = ask(rt, device, now, call);
     // A delay of a millisecond may be among the layers.
@@ -164,7 +164,7 @@ fn play<D: BlockDev + Drop>(
     }
 }
 
-// Returns these layers as plain layers.
+// Returns the layers of these lines as plain layers.
 fn plain_layers(rt: &impl Abort, alloc: Global, lines: &[(&str, u64)]) -> Result<Vec<Plain>, Fail> {
     let mut layers = Vec::new(alloc);
     for (line, load) in lines {
@@ -173,8 +173,7 @@ fn plain_layers(rt: &impl Abort, alloc: Global, lines: &[(&str, u64)]) -> Result
     Ok(layers)
 }
 
-// Makes the calls on a device and on plain layers, and checks the counts. Returns the content of
-// the plain layers' disk.
+// As above, for all calls, and checks the counts. Returns the content of the plain layers' disk.
 fn play_all<D: BlockDev + Drop>(
     rt: &(impl Abort + Print),
     alloc: Global,
@@ -239,7 +238,7 @@ fn linear(length: u64, offset: u64) -> LayerSpec
     }
 }
 
-// Returns the sectors of the device that was put, or the refusal.
+// Returns the sector count of the stack that was made, or the refusal.
 fn sectors_of<D: BlockDev + Drop>(put: Result<D, (D, Refusal)>) -> Result<u64, Refusal> {
     match put {
         Ok(device) => Ok(device.sectors()),
@@ -247,7 +246,7 @@ fn sectors_of<D: BlockDev + Drop>(put: Result<D, (D, Refusal)>) -> Result<u64, R
     }
 }
 
-// Puts these layers at once over a disk of 16 sectors. Returns the sectors of their top, or the
+// Puts these layers together over a disk of 16 sectors. Returns the sector count of the top, or the
 // refusal.
 fn under(alloc: Global, layers: &[LayerSpec]) -> Result<Result<u64, Refusal>, Fail>
     requires { AllByRecursion IsLayerSpec layers.now }

@@ -1,4 +1,4 @@
-//! Which images are judged possible, and which lists of events are lawful.
+//! Tests of which images are judged possible, and which lists of events are lawful.
 
 use bio::{Bio, Bytes, CoreEvent, End, Id};
 use judge::{First, Verdict, could_hold, is_lawful};
@@ -7,7 +7,7 @@ use std::process::Abort;
 use std::test::Fail;
 use test_devices::{holds, rows_are_told};
 
-// Returns a write of `length` bytes, each this one, with no flush.
+// Returns a write of `length` bytes `byte`, without flush.
 fn write(
     alloc: Global,
     first: u64,
@@ -24,7 +24,7 @@ fn write(
     }))
 }
 
-// Returns a mark whose text is this byte.
+// Returns a mark whose text is the byte `byte`.
 fn mark(alloc: Global, byte: u8) -> Result<CoreEvent, AllocError> {
     Ok(CoreEvent::Mark(Bytes::from_vec(vec![in alloc; byte; 1]?)))
 }
@@ -95,8 +95,8 @@ fn has_zeroes(bytes: &[u8]) -> bool {
     bytes.iter().all(|byte| *byte == 0)
 }
 
-// Returns the verdict on images of one length, if the events are lawful. It names a sector, and the
-// place of a request.
+// Returns the verdict on `image`, after the first image `first` of the same length, if the events
+// are lawful. A no names a sector, and the index of the request that rules it out, if one does.
 fn verdict_of(
     alloc: Global,
     events: &[CoreEvent],
@@ -124,8 +124,8 @@ fn verdict_of(
     }
 }
 
-// Returns the verdict of a row: the number of sectors, the events, the moment, and the sectors of
-// both images that aren't zeroes.
+// Returns the verdict of a row. It has the number of sectors, the events, the moment, and for both
+// images the sectors that aren't zeroes.
 fn judged(alloc: Global, row: &str) -> Result<String, AllocError> {
     let mut parts = row.split("|");
     let sectors = parts.next().unwrap_or_default().parse::<u8>().unwrap_or(0);
@@ -136,10 +136,10 @@ fn judged(alloc: Global, row: &str) -> Result<String, AllocError> {
     verdict_of(alloc, &events, moment, &first, &image)
 }
 
-// Two writes of one sector, at moments before a flush and after it. Then: three writes, two of them
-// flushed; a FUA write over a plain one; two flushes of which the later ends first. A discard after
-// a write; a flush and a FUA write that failed; a value that isn't submitted yet. A write of three
-// sectors, in part; a first content that isn't zero; no event, and no sector.
+// Two writes of one sector, at moments before and after a flush. Then three writes, two of them
+// flushed; a FUA write over a plain one; two flushes of which the later one ends first. A discard
+// after a write; a flush and a FUA write that failed; a value that isn't submitted yet. A write of
+// three sectors, in part; a first content that isn't zero; no event, and no sector.
 pub const ROWS: &str = "16|w 3 1,w 3 2,c 0,c 1,f,c 4|4||=yes
 16|w 3 1,w 3 2,c 0,c 1,f,c 4|4||3:1=yes
 16|w 3 1,w 3 2,c 0,c 1,f,c 4|4||3:2=yes
@@ -192,10 +192,10 @@ fn images_are_judged(rt: HostRuntime) -> Result<(), Fail> {
     Ok(())
 }
 
-// Lists, with `=` if they are lawful for 8 sectors, and `!` if they break one rule. Broken rules
-// for ends: an end of what wasn't submitted, of what has ended, of itself, of an end or of a read.
-// Events after a stop or a close; a close with an open request; a read; a mark with a zero byte. A
-// request that isn't whole, that is past the end, or before another.
+// Lists of events, with `=` if they are lawful for 8 sectors, and `!` if they break one rule. The
+// broken rules are: the end of what wasn't submitted, of what has ended, of itself, of an end or of
+// a read; events after a stop or a close; a close with an open request; a read; a mark with a zero
+// byte; a request that isn't whole, that is past the end, or before another.
 const LISTS: &str = "
 =w 7 1
 =w 7 1,c 0,d 0,f,m 0 120,x 2,c 3,close
@@ -237,7 +237,7 @@ fn lawful_lists_are_told_apart(rt: HostRuntime) -> Result<(), Fail> {
     Ok(())
 }
 
-// Returns writes of each of the first `count` numbers to a sector of 4,096, and a flush.
+// Returns `count` writes of their numbers to the sectors of 4,096, one after another, and a flush.
 fn many_writes(alloc: Global, count: u64) -> Result<Vec<CoreEvent>, AllocError> {
     let mut events = Vec::new(alloc);
     for number in 0..count {
@@ -251,7 +251,7 @@ fn many_writes(alloc: Global, count: u64) -> Result<Vec<CoreEvent>, AllocError> 
     Ok(events)
 }
 
-// Returns the image that these writes leave.
+// Returns the image that `count` of these writes leave.
 fn many_sectors(alloc: Global, count: u64) -> Result<Vec<u8>, AllocError> {
     let mut image = vec![in alloc; 0; 4096 * 512]?;
     for number in 0..count {

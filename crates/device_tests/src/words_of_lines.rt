@@ -1,4 +1,4 @@
-//! How texts are cut, and which words are numbers.
+//! Tests of how a line is cut into words, and which words are numbers.
 
 use refusals::{count_words, cut, number_of, push_number, word_at};
 use std::alloc::{AllocError, Global};
@@ -6,7 +6,7 @@ use std::process::Abort;
 use std::test::Fail;
 use test_devices::rows_are_told;
 
-// Returns what a word is parsed as, and printed as again; or that it is no number.
+// Parses a word as a number, and prints it again. Returns that text, or that it is no number.
 fn answer(alloc: Global, word: &str) -> Result<String, Fail> {
     match number_of(word.as_bytes()) {
         Some(number) => {
@@ -18,7 +18,7 @@ fn answer(alloc: Global, word: &str) -> Result<String, Fail> {
     }
 }
 
-// Words, and what each is parsed as.
+// Words, and after `=` the number that each is parsed as.
 const NUMBERS: &str = "0=0
 7=7
 00000000000000000042=42
@@ -63,7 +63,7 @@ fn barred(rt: &impl Abort, alloc: Global, line: &str) -> Result<String, AllocErr
     Ok(shown)
 }
 
-// Lines, and their words.
+// Lines, and after `=` their words.
 const LINES: &str = "=
    =
 one=one|

@@ -1,4 +1,4 @@
-//! Which runs a device with a cache has, and what they leave.
+//! Tests of which machine runs a device with a cache has, and what they leave.
 
 use crate::verdicts::{ROWS, events_of, image_of};
 use bio::{CoreEvent, Id};
@@ -9,7 +9,7 @@ use std::test::Fail;
 use test_devices::{holds, rows_are_told};
 use world::{Step, StepError, World, reach};
 
-// Returns a device that holds these bytes, up to the last whole sector.
+// Returns a device that holds these bytes, except for those after the last whole sector.
 fn world_of(alloc: Global, first: &[u8]) -> Result<World, AllocError> {
     let whole = first.len() / 512 * 512;
     World::new(alloc, &first[..whole])
@@ -23,7 +23,7 @@ fn take(world: &mut World, events: &[CoreEvent], step: &Step) -> Result<(), Step
     world.step(events, step)
 }
 
-// Returns whether a device that held the first image takes each step, and leaves the other image.
+// Returns whether a device that held the image `first` takes each step, and leaves the other image.
 fn leaves(
     alloc: Global,
     events: &[CoreEvent],
@@ -78,8 +78,8 @@ fn path(
     }
 }
 
-// Returns the run of a row: the number of sectors, the events, the moment, and the sectors of both
-// images that aren't zeroes.
+// Returns the run of a row. It has the number of sectors, the events, the moment, and for both
+// images the sectors that aren't zeroes.
 fn path_of(alloc: Global, row: &str) -> Result<String, AllocError> {
     let mut parts = row.split("|");
     let sectors = parts.next().unwrap_or_default().parse::<u8>().unwrap_or(0);
@@ -90,9 +90,8 @@ fn path_of(alloc: Global, row: &str) -> Result<String, AllocError> {
     path(alloc, &events, moment, &first, &image)
 }
 
-// Two writes of one sector, at moments before a flush and after it.
-// Then: an open request, and one that failed; a discard; a flush
-// that failed; no sector, with a mark, a stop and a close; no event.
+// Two writes of one sector, at moments before and after a flush. Then an open request, and one that
+// failed; a discard; a flush that failed; no sector, with a mark, a stop and a close; no event.
 const RUNS: &str =
     "16|w 3 1,w 3 2,c 0,c 1,f,c 4|4||=submit 0,land 0 3,submit 1,land 1 3,end 0 ok,end 1 ok,power
 16|w 3 1,w 3 2,c 0,c 1,f,c 4|4||3:1=submit 0,submit 1,land 1 3,land 0 3,destage 3,end 0 ok,end 1 ok,power
@@ -148,7 +147,7 @@ fn step_of(text: &str) -> Step {
     }
 }
 
-// Returns the answer to the last of these steps, after the others: `ok`, or its refusal.
+// Takes the steps of a row. Returns the answer to the last one: `ok`, or its refusal.
 fn answer_of(alloc: Global, row: &str) -> Result<String, AllocError> {
     let (list, steps) = row.split_once("|").unwrap_or_default();
     let events = events_of(alloc, list)?;
@@ -170,10 +169,11 @@ fn answer_of(alloc: Global, row: &str) -> Result<String, AllocError> {
     }
 }
 
-// A second submission, and one of an end. Landings before a submission, after an end, elsewhere and
-// twice. A destage of a sector on which nothing landed, and past the device's end. Ends before a
-// landing, or with half of the sectors landed. The end of a FUA write that isn't destaged after it
-// landed, and of a flush while something is only in the cache. Steps after power.
+// Steps, and after `=` the answer to the last one. A second submission, and the submission of an
+// end. Landings before a submission, after an end, in another sector, and twice. A destage of a
+// sector on which nothing landed, and past the device's end. Ends before a landing, or with half of
+// the sectors landed. The end of a FUA write that isn't destaged after it landed, and of a flush
+// while something is only in the cache. Steps after power.
 const STEPS: &str = "w 3 1|submit 0=ok
 w 3 1|submit 0,submit 0=35 BadStep
 w 3 1,c 0|submit 1=35 BadStep
@@ -214,7 +214,8 @@ fn steps_are_answered(rt: HostRuntime) -> Result<(), Fail> {
     Ok(())
 }
 
-// A write that lands later isn't durable until the next destage, and a discard leaves zeroes.
+// Steps, and after `=` the image that they leave. A write that lands later isn't durable until the
+// next destage. A discard leaves zeroes.
 const IMAGES: &str = "w 3 1,w 3 2|submit 0,submit 1,land 0 3,destage 3,land 1 3=3:1
 w 3 1,w 3 2|submit 0,submit 1,land 0 3,destage 3,land 1 3,destage 3=3:2
 w 3 1,w 3 2|submit 0,submit 1,land 1 3,land 0 3,destage 3,power=3:1

@@ -1,13 +1,16 @@
-//! dmlw records block requests in a log, as the kernel's
-//! dm-log-writes does, and reads such logs back.
+//! dmlw records block requests in a log, as the kernel's dm-log-writes does, and reads such logs
+//! back.
 //!
-//! `dmlw record SCRIPT LOG` runs a script of writes, flushes and their ends, and writes the log of
-//! the whole run, byte for byte; `dmlw run SCRIPT LOG` runs one of several seats, each in a thread.
-//! `dmlw list LOG` prints a log's entries up to the first fault, `dmlw status LOG` how far the log
-//! has come. `dmlw replay LOG FIRST OUT WHAT` puts a prefix of a log on an image,
-//! `dmlw judge SCRIPT M IMAGE` says whether an image could have been on the device after M events,
-//! had power failed there. Here `dmlw_cli::execute` is called over the system's files and streams,
-//! of which no clause knows what they hold.
+//! `dmlw record SCRIPT LOG` runs a script of requests and their ends, and writes its log. `dmlw run
+//! SCRIPT LOG` runs a script of several seats, each in a thread. `dmlw list LOG` prints a log's
+//! entries up to the first fault. `dmlw status LOG` prints how many entries it has and how far they
+//! reach. `dmlw replay LOG FIRST OUT WHAT` replays a prefix of a log on an image. `dmlw copy LOG
+//! OUT SECTORS` copies a log to one with sectors of 4,096 bytes. `dmlw judge SCRIPT M IMAGE` says
+//! whether an image could have been on the device, had power failed after M events. `dmlw path
+//! SCRIPT M IMAGE` prints how.
+//!
+//! The program calls `dmlw_cli::execute` with the system's files and streams. Nothing is proved
+//! about what these hold.
 #![tactic(auto)]
 
 use dmlw_cli::{execute, refuse};
@@ -28,9 +31,9 @@ fn main(rt: HostRuntime) -> ExitCode {
     ExitCode::from(status)
 }
 
-// Does the process's command line, with the word `--explain` added if the variable DMLW_EXPLAIN is
-// `1`. If nobody reads the output on, the rest of it is dropped. An error comes only from before a
-// command is begun.
+// Executes the process's command line. If the variable DMLW_EXPLAIN is `1`, it adds the word
+// `--explain`. If nobody reads the output any more, the rest of it is dropped. An error is returned
+// only if no command has begun.
 fn run<R: Files + Env + Print + AllocGlobal + Threads + Wait + Sync, E: Write>(
     rt: &R,
     err: &mut E,

@@ -1,4 +1,4 @@
--- What a chain of calls makes of a command, as clap reads it.
+-- The commands that chains of builder calls make for clap.
 use Rattle.std.proofs.Common.{◌≡◌, ◌∙◌, Result, Ok, Err, IfOk, ap, false, refl}
 use Rattle.clap.specs.declared.builder.arg.Arg.{Arg}
 use Rattle.clap.specs.declared.builder.command.Command.{Command}

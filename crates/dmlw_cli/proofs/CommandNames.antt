@@ -1,4 +1,4 @@
--- The names of commands are told apart.
+-- The names of the commands are distinct.
 use Rattle.std.proofs.Common.{◌≡◌, ◌∙◌, ℕ, Bool, true, false, List, Option, Some, ap, cond, refl}
 use Rattle.std.proofs.Common.{subst, sym}
 use Rattle.std.specs.Cmp.Lexicographic.{same_text}

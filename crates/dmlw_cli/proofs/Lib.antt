@@ -1,4 +1,4 @@
--- The lemmas of `dmlw_cli`; the proof of a function stands in the folder of its source file.
+-- The lemmas of `dmlw_cli`. The proof of a function is in the folder named after its source file.
 pub mod CommandNames
 pub mod Walks
 pub mod PlainWords

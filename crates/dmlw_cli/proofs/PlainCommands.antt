@@ -1,4 +1,4 @@
--- Plain words are read as the command that they name.
+-- Words that don't begin with a hyphen are parsed as the command that they name.
 use Rattle.std.proofs.Common.{◌≡◌, ◌∙◌, ◌==◌, ℕ, Bool, List, [], ◌∷◌, Option, Some, Err, arith, ap}
 use Rattle.std.proofs.Common.{false, inl, inr, not, refl, subst, sym, true}
 use Rattle.std.proofs.lemmas.Bool.{and_parts}

@@ -1,4 +1,4 @@
--- What clap makes of a command's name and plain words behind it.
+-- How clap parses a command's name, if the words after it don't begin with a hyphen.
 use Rattle.std.proofs.Common.{◌≡◌, ◌∙◌, true, false, List, [], ◌∷◌, Some, ap, codes, fold, is_some}
 use Rattle.std.proofs.Common.{refl}
 use Rattle.clap.proofs.OnLiterals.{clap_on_literals}

@@ -1,4 +1,4 @@
--- The command that words enter, and the task that it asks for.
+-- Which command some words enter, and which task it asks for.
 use Rattle.std.proofs.Common.{◌≡◌, ◌∙◌, ℕ, List, [], ◌∷◌, ap, drop, map, refl, subst, sym, true}
 use Rattle.std.specs.List.{list_any}
 use Rattle.clap.proofs.OnLiterals.{clap_on_literals}

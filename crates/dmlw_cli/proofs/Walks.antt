@@ -1,4 +1,4 @@
--- The walk of clap over plain words, of which each goes to the next place.
+-- clap's walk over words that don't begin with a hyphen: each goes to the next argument.
 use Rattle.std.proofs.Common.{◌≡◌, ◌∙◌, ◌==◌, ℕ, Bool, true, false, not, List, [], ◌∷◌, ◌++◌}
 use Rattle.std.proofs.Common.{Option, Some, None, ap, arith, fold, refl, ◌&&◌}
 use Rattle.std.specs.List.{AllByRecursion}

@@ -1,5 +1,5 @@
--- The command line of the program as clap reads it: its commands, their words and `--explain`.
--- `Tasks` says what such a command line asks for.
+-- The program's command line as clap parses it: its commands, their arguments, and `--explain`.
+-- `Tasks` says which task a command line asks for.
 use Rattle.std.specs.Prelude.{◌≡◌, ℕ, ◌==◌, ◌&&◌, Bool, true, false, not, List, [], ◌∷◌, Some}
 use Rattle.std.specs.Prelude.{codes, fold}
 use Rattle.std.specs.List.{filter, list_any}
@@ -16,41 +16,41 @@ abbrev pub is_positional : List ℕ → Bool
 is_positional [] = true
 is_positional (x ∷ xs) = not (x == 45)
 
--- a command line that enters a command with these words; its first word is the program's name
+-- The command line that enters the command `name` with these words.
 abbrev pub command_words : List ℕ → Name → List (List ℕ) → List (List ℕ)
 command_words program name words = program ∷ name_text name ∷ words
 
--- the word that asks a command to explain itself
+-- The word is `--explain`.
 abbrev pub is_explain : List ℕ → Bool
 is_explain word = is_same word (codes "--explain")
 
--- whether a command line asks the command to explain itself; its first word is the program's name
+-- `--explain` is among the words after the program's name.
 abbrev pub has_explain : List (List ℕ) → Bool
 has_explain [] = false
 has_explain (program ∷ words) = list_any is_explain words
 
--- a command line without the words that ask for that
+-- The command line without the words `--explain`. The program's name stays.
 abbrev pub without_explain : List (List ℕ) → List (List ℕ)
 without_explain [] = []
 without_explain (program ∷ words) = program ∷ filter (λ word. not (is_explain word)) words
 
--- a command line that asks for the page of the formats
+-- The command line is `help formats`.
 abbrev pub is_formats : List (List ℕ) → Bool
 is_formats (program ∷ first ∷ second ∷ []) =
     is_same first (codes "help") && is_same second (codes "formats")
 is_formats _ = false
 
--- a word that a command's line has to have
+-- A required argument of a command.
 abbrev pub needed : Text → Rule
 needed name = record (new_rule name) { required = true }
 
--- a command, as clap reads it: each of its arguments has to have a word
+-- A command as clap parses it: all its arguments are required.
 abbrev pub command_app : Name → App
 command_app name =
     fold (λ app argument. with_rule app (needed argument)) (new_app (name_text name))
     (arguments name)
 
--- the program's command line without its commands, as clap reads it
+-- The program without its commands, as clap parses it.
 abbrev pub bare_app : App
 bare_app =
     on_top (λ top. record top {
@@ -59,20 +59,20 @@ bare_app =
       arg_required_else_help = true;
     }) (new_app (codes "dmlw"))
 
--- the program's command line, as clap reads it
+-- The program as clap parses it.
 abbrev pub program_app : App
 program_app = fold (λ app name. with_subcommand app (command_app name).top) bare_app all_names
 
--- this is a command as clap reads it, with no argument of the program's own
+-- clap parses `command` as `app`, and it has no global argument.
 pub record IsCommandOf (app : App) (command : Command) : Type 0 where
   pub reads : app_of command ≡ app
   pub own : (fields_of command).has_globals ≡ false
 
--- the command that was entered: its name, and the rows of its words
+-- A command that was entered: its name, and its words with their arguments.
 abbrev pub Entered : Type 0
 Entered = Text × List Row
 
--- clap finds no fault in the words of a command line, and they enter this command
+-- clap finds no fault in `words`, and they enter the command `entered`.
 pub record Enters (words : List Text) (entered : Entered) : Type 0 where
   pub faultless : fault_of program_app words ≡ []
   pub enters : subcommand_of program_app words ≡ Some entered

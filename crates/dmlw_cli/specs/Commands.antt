@@ -1,4 +1,4 @@
--- The result of a command line.
+-- What a command line does: its exit, what it prints, and which file it asks to be written.
 use Rattle.std.specs.Prelude.{◌≡◌, ◌≤◌, ◌⊎◌, ◌++◌, ℕ, Bool, true, false, Err, IfErr, List}
 use Rattle.std.specs.Prelude.{MatchResult, Option, Result, codes}
 use Rattle.std.specs.declared.io.ErrorKind.{ErrorKind as IoErrorKind}
@@ -33,54 +33,53 @@ use Rattle.replay.specs.declared.upto.Upto.{Upto}
 use Rattle.dmlw_cli.specs.CommandLine.{has_explain, without_explain}
 use Rattle.dmlw_cli.specs.Tasks.{IsRead}
 
--- How a command line ends that has no task, by what clap makes of
--- it: memory running out is a refusal, help and the version are done
--- unless they can't be printed, and the others are usage faults.
+-- The exit if clap finds no task: `Refused` without memory, `Done` or `Refused` for help and the
+-- version, else `Usage`.
 abbrev pub EndsUntasked : ErrorKind → Exit → Type 0
 EndsUntasked OutOfMemory exit = exit ≡ Refused
 EndsUntasked DisplayHelp exit = (exit ≡ Done) ⊎ (exit ≡ Refused)
 EndsUntasked DisplayVersion exit = (exit ≡ Done) ⊎ (exit ≡ Refused)
 EndsUntasked _ exit = exit ≡ Usage
 
--- the text was asked for: help or the version, which goes to the output
+-- The user asked for clap's text: it is help or the version.
 abbrev pub is_asked_for : ErrorKind → Bool
 is_asked_for DisplayHelp = true
 is_asked_for DisplayVersion = true
 is_asked_for _ = false
 
--- help or the version was printed, or the output can't be written
+-- Printing help or the version had some result. If it failed, the output can't be written or there
+-- is no memory, and the error stream got that line. Nothing is claimed about the output.
 abbrev pub TellsPrinting : ErrStream → Ended → Type 0
 TellsPrinting t ended =
     (done : Result (Unit {0}) RunError) × IfErr done IsFileError × Tells t done ended
 
--- how a command line ends that couldn't be read: a word
--- that is no text is a usage fault, and the rest is refused
+-- The exit if the words of the command line can't be read: `Usage` if a word isn't UTF-8 text, else
+-- `Refused`.
 abbrev pub unread_exit : IoErrorKind → Exit
 unread_exit InvalidData = Usage
 unread_exit _ = Refused
 
--- one more write was asked for, of a file of some name
+-- One more file write was asked for, of some name.
 abbrev pub AsksForOne : Option (List Write) → Option (List Write) → Type 0
 AsksForOne old new = (name : List ℕ) × AsksFor name old new
 
--- How every command line ends: with a status from 0 to 3, and it has asked for one file at most to
--- be written, and for none if the status is 2.
+-- A command exits with 0 to 3 and asks for at most one file write; with 2, for none.
 pub record EndsCommand (old new : Option (List Write)) (status : ℕ) : Type 0 where
   pub known : status ≤ 3
   pub once : (new ≡ old) ⊎ AsksForOne old new
   pub unwritten : status ≡ 2 → new ≡ old
 
--- What is told on the error stream of a text that is shown, as one of this kind: of memory that ran
--- out its line, of help and the version the line of the file's error where they can't be printed;
--- the others are told themselves.
+-- What the error stream gets, if it can be written, from a command that only shows clap's text. If
+-- memory ran out, it is that fault's line. If help or the version can't be printed, it is that
+-- fault's line. For other kinds nothing is claimed.
 abbrev pub ReportsUntasked : ErrorKind → ErrStream → Ended → Type 0
 ReportsUntasked OutOfMemory t ended = Tells {T = Unit {0}} t (Err memory_error) ended
 ReportsUntasked DisplayHelp t ended = TellsPrinting t ended
 ReportsUntasked DisplayVersion t ended = TellsPrinting t ended
 ReportsUntasked _ t ended = Unit {0}
 
--- How a text ends that is shown, as one of this kind: no file was asked to be written, it ends as
--- its kind has it, and nothing was printed on the output unless it was asked for.
+-- How a command that only shows clap's text ends. It asks for no file write, and exits as
+-- `EndsUntasked` says. Unless the user asked for help or the version, nothing goes to the output.
 pub record EndsText (kind : ErrorKind) (writes_old writes_new : Option (List Write))
     (old new : Option (List ℕ)) (t : ErrStream) (ended : Ended) : Type 0 where
   pub unwritten : writes_new ≡ writes_old
@@ -88,20 +87,21 @@ pub record EndsText (kind : ErrorKind) (writes_old writes_new : Option (List Wri
   pub silent : is_asked_for kind ≡ false → Keeps old new
   pub tells : ReportsUntasked kind t ended
 
--- How the printing of a page ends: it was printed, or the output can't be written.
+-- How printing a page ends: it was printed on the output; or the output can't be written or there
+-- is no memory, and the error stream got that line.
 pub record ReportsPage (page : List ℕ) (old new : Option (List ℕ)) (t : ErrStream)
     (ended : Ended) : Type 0 where
   pub done : Result (Unit {0}) RunError
   pub printed : MatchResult done (λ _. Appends old new page) IsFileError
   pub tells : Tells t done ended
 
--- a page is printed, and no file was asked to be written
+-- How a command that prints a page ends. It asks for no file write.
 pub record EndsPage (page : List ℕ) (writes_old writes_new : Option (List Write))
     (old new : Option (List ℕ)) (t : ErrStream) (ended : Ended) : Type 0 where
   pub unwritten : writes_new ≡ writes_old
   pub told : ReportsPage page old new t ended
 
--- How the replay of the log in a file ends, up to what a word names.
+-- How a replay ends, if the word `what` names its last entry.
 abbrev pub ReplaysWhat : List ℕ → Option (List ℕ) → Option (List ℕ) → Option (List ℕ) → List ℕ
     → Option (List Write) → Option (List Write) → Option (List ℕ)
     → Option (List ℕ) → ErrStream → Ended → Type 0
@@ -109,12 +109,12 @@ ReplaysWhat what log_file first_file out_file name writes_old writes_new old new
     (upto : Upto) × IsWhat what upto
     × EndsReplaying log_file first_file out_file name upto writes_old writes_new old new t ended
 
--- What the replay of the log in a file leaves in its file, up to what a word names.
+-- What a replay leaves in its output file, if the word `what` names its last entry.
 abbrev pub LeavesReplayed : List ℕ → Option (List ℕ) → Option (List ℕ) → Option (List ℕ) → Type 0
 LeavesReplayed what log_file first_file written =
     (upto : Upto) × IsWhat what upto × HoldsReplayed log_file first_file upto written
 
--- the argument of such a word, the forms that are possible there, and where help is
+-- For a word of a wrong form: its argument, the allowed forms, and the command that prints help.
 abbrev pub flaw_forms : Flaw → List ℕ
 flaw_forms flaws.What =
     codes
@@ -126,13 +126,13 @@ flaw_forms flaws.Moment =
     codes
     "'<M>'\n  [possible values: a number of 1 to 20 digits, below 2^64]\n\nFor more information, try 'dmlw help judge'."
 
--- what a user reads about a word that isn't one of those that are possible in its place
+-- The message about a word of a wrong form.
 abbrev pub flaw_text : Flaw → List ℕ → List ℕ
 flaw_text flaw word =
     codes "error: invalid value '" ++ (word ++ (codes "' for " ++ (flaw_forms flaw ++ codes "\n")))
 
--- How a command line ends that has such a word: as a usage fault, whose text was printed.
--- Nothing was printed on the output, and no file was asked to be written.
+-- How a command line with a word of a wrong form ends: with `Usage`. If the error stream could be
+-- written, it got the message. Nothing goes to the output, and no file write is asked for.
 pub record EndsFlawed (flaw : Flaw) (word : List ℕ) (writes_old writes_new : Option (List Write))
     (old new : Option (List ℕ)) (t : ErrStream) (ended : Ended) : Type 0 where
   pub unwritten : writes_new ≡ writes_old
@@ -140,7 +140,7 @@ pub record EndsFlawed (flaw : Flaw) (word : List ℕ) (writes_old writes_new : O
   pub silent : new ≡ old
   pub told : ended.err_taken ≡ true → Appends t.before t.after (flaw_text flaw word)
 
--- how a task ends, over files that hold this
+-- How a task ends if the files hold `contents`.
 abbrev pub EndsTask : Task → (List ℕ → Option (List ℕ)) → Option (List Write) → Option (List Write)
     → Option (List ℕ) → Option (List ℕ) → ErrStream → Ended → Type 0
 EndsTask (tasks.Record script log) contents writes_old writes_new old new t ended =
@@ -175,27 +175,27 @@ EndsTask (tasks.Show error) contents writes_old writes_new old new t ended =
 EndsTask (tasks.Flawed flaw word) contents writes_old writes_new old new t ended =
     EndsFlawed flaw word.now writes_old writes_new old new t ended
 
--- What a recording or a run leaves in its log's file, by how it ends: what `holds` says of it, if
--- it is done; also if logging ended, unless each file holds what it held.
+-- What `record` or `run` leaves in the file `log`. If it is done, `holds` says what the file holds.
+-- If logging ended, `holds` says it too, unless no file changed.
 pub record LeavesBy (holds : Exit → Option (List ℕ) → Type 0) (log : List ℕ)
     (contents later : List ℕ → Option (List ℕ)) (exit : Exit) : Type 0 where
   pub done : exit ≡ Done → holds Done (later log)
   pub ended : exit ≡ LoggingEnded → KeepsFiles contents later ⊎ holds LoggingEnded (later log)
 
--- what a recording leaves in its log's file: the log
+-- What `record` leaves in the file `log`: the log.
 abbrev pub LeavesLog : List ℕ → List ℕ → (List ℕ → Option (List ℕ)) → (List ℕ → Option (List ℕ))
     → Option (List ℕ) → Option (List ℕ) → Exit → Type 0
 LeavesLog script log contents later old new exit =
     LeavesBy (λ by written. HoldsLog (contents script) by old new written) log contents later exit
 
--- what a run of seats leaves in its log's file: the log
+-- What `run` leaves in the file `log`: the log.
 abbrev pub LeavesRun : List ℕ → List ℕ → (List ℕ → Option (List ℕ)) → (List ℕ → Option (List ℕ))
     → Option (List ℕ) → Option (List ℕ) → Exit → Type 0
 LeavesRun script log contents later old new exit =
     LeavesBy (λ by written. HoldsRun (contents script) by old new written) log contents later exit
 
--- what a task leaves in the file that it asks to be written: a recording and a run their log, a
--- replay that is done the image that came of it, and a copy that is done the new log
+-- What a task leaves in its output file: the log after `record` or `run`; after a `replay` or a
+-- `copy` that is done, the image or the new log. For other tasks nothing is claimed.
 abbrev pub TaskLeaves : Task → (List ℕ → Option (List ℕ)) → (List ℕ → Option (List ℕ))
     → Option (List ℕ) → Option (List ℕ) → Exit → Type 0
 TaskLeaves (tasks.Record script log) contents later old new exit =
@@ -209,9 +209,10 @@ TaskLeaves (tasks.Copy files sectors) contents later old new exit =
     exit ≡ Done → HoldsCopied (contents files.log.now) sectors (later files.out.now)
 TaskLeaves task contents later old new exit = Unit {0}
 
--- The result of a command line, over files that hold this and then that. Its words but `--explain`
--- are read as a task. That task ends, and explains itself if that word is among them. It leaves what
--- it makes in its file.
+-- What the command line `words` does, if the files hold `contents` before it and `later` after it.
+-- Its words without `--explain` are parsed as a task. The task ends as `EndsTask` says, and its
+-- output file holds what `TaskLeaves` says. If `--explain` is among the words, more may follow a
+-- fault's line.
 pub record DoesWords (words : List (List ℕ)) (contents later : List ℕ → Option (List ℕ))
     (writes_old writes_new : Option (List Write)) (old new : Option (List ℕ))
     (errors_old errors_new : Option (List ℕ)) (ended : Ended) : Type 0 where
@@ -221,22 +222,21 @@ pub record DoesWords (words : List (List ℕ)) (contents later : List ℕ → Op
       (err_stream (has_explain words) errors_old errors_new) ended
   pub leaves : TaskLeaves task contents later old new ended.exit
 
--- the line of a fault by which a command ends so
+-- `line` reports a fault whose exit is `exit`.
 pub record IsFaultLine (exit : Exit) (line : List ℕ) : Type 0 where
   pub cause : RunError
   pub ends : exit ≡ exit_of cause
   pub is : line ≡ fault_line cause
 
--- One line was told, of a fault by which the command ends
--- so, and nothing else, where the error stream took it.
+-- If the error stream could be written, it got exactly one line, that of a fault with this exit.
 pub record ReportsOneLine (ended : Ended) (old new : Option (List ℕ)) : Type 0 where
   pub line : List ℕ
   pub is : IsFaultLine ended.exit line
   pub told : ended.err_taken ≡ true → Appends old new line
 
--- What is told of how a command ends so, which doesn't explain itself: of a refusal one line, and
--- nothing if it is done or ruled out. Where logging ended, a line where no log could be made,
--- and nothing where the log came as far as it did.
+-- What the error stream gets from a command without `--explain`, given its exit. If it is refused,
+-- it gets one line. If it is done or an image is ruled out, it gets nothing. If logging ended, it
+-- gets nothing or one line. For `Usage` nothing is claimed.
 abbrev pub ReportsBy : Exit → Ended → Option (List ℕ) → Option (List ℕ) → Type 0
 ReportsBy Done ended old new = new ≡ old
 ReportsBy Refused ended old new = ReportsOneLine ended old new

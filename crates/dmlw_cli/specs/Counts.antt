@@ -1,8 +1,8 @@
--- The number of sectors of a new disk, as a word.
+-- The sector count of a copied log's disk, as a word.
 use Rattle.std.specs.Prelude.{ℕ, ◌≤◌, List}
 use Rattle.refusals.specs.Words.{IsNumber}
 
--- the word is a number of sectors that the disk of a copied log may have
+-- `word` is a number, and `count` is its value, from 8 to 1,048,576.
 pub record IsSectorCount (word : List ℕ) (count : ℕ) : Type 0 where
   pub number : IsNumber word count
   pub least : 8 ≤ count

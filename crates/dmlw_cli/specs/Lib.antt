@@ -1,4 +1,4 @@
--- The definitions that the contracts of `dmlw_cli` are written in.
+-- The definitions of `dmlw_cli`'s contracts.
 pub mod Names
 pub mod Counts
 pub mod CommandLine

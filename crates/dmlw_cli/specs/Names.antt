@@ -1,4 +1,4 @@
--- The names of the commands, and the words that each takes.
+-- The names of the commands, and the arguments of each.
 use Rattle.std.specs.Prelude.{◌≡◌, ℕ, Bool, true, List, [], ◌∷◌, Option, Some, None, codes}
 use Rattle.std.specs.Prelude.{if◌then◌else◌, is_some, nat_eq}
 use Rattle.std.specs.Cmp.Lexicographic.{pointwise}
@@ -7,11 +7,11 @@ use Rattle.clap.specs.Words.{Row, Text, first_of}
 use Rattle.dmlw_cli.specs.declared.name.Name.{Name}
 use Rattle.dmlw_cli.specs.declared.name.Name.TheVariants as names
 
--- both words are one
+-- Both words are the same.
 abbrev pub is_same : List ℕ → List ℕ → Bool
 is_same = pointwise nat_eq
 
--- the word by which a command is entered
+-- The word that enters a command.
 abbrev pub name_text : Name → List ℕ
 name_text names.Record = codes "record"
 name_text names.Run = codes "run"
@@ -22,11 +22,11 @@ name_text names.Copy = codes "copy"
 name_text names.Judge = codes "judge"
 name_text names.Path = codes "path"
 
--- the command, if the word is its name; else what the word is otherwise
+-- `name` if `word` is its name, else `other`.
 abbrev pub named_or : Name → List ℕ → Option Name → Option Name
 named_or name word other = if is_same word (name_text name) then Some name else other
 
--- the command that a word names
+-- The command that a word names, if it names one.
 abbrev pub name_of : List ℕ → Option Name
 name_of word =
     named_or names.Record word
@@ -50,7 +50,7 @@ arguments names.Copy = codes "LOG" ∷ codes "OUT" ∷ codes "SECTORS" ∷ []
 arguments names.Judge = codes "SCRIPT" ∷ codes "M" ∷ codes "IMAGE" ∷ []
 arguments names.Path = codes "SCRIPT" ∷ codes "M" ∷ codes "IMAGE" ∷ []
 
--- each argument of a command has a word among these rows
+-- The rows have a word for each argument of the command.
 abbrev pub HasWords : Name → List Row → Type 0
 HasWords name rows =
     AllByRecursion (λ argument. is_some (first_of argument rows) ≡ true) (arguments name)

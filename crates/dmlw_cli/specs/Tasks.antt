@@ -1,5 +1,5 @@
--- Which task the words of a command line ask for, and why some ask for none.
--- The contracts in `command_line` and `asking` are stated with it.
+-- Which task the words of a command line ask for, and why some ask for none. The contracts in
+-- `command_line` and `asking` cite it.
 use Rattle.std.specs.Prelude.{◌≡◌, ℕ, Bool, List, [], Option, Some, false, true}
 use Rattle.clap.specs.Words.{IsAmong, Row, Text, fault_of, first_of, kind_of, subcommand_of}
 use Rattle.std.specs.Prelude.{codes}
@@ -17,12 +17,12 @@ use Rattle.dmlw_cli.specs.declared.task.Task.TheVariants as tasks
 use Rattle.dmlw_commands.specs.Whats.{IsNoWhat, IsWhat}
 use Rattle.refusals.specs.Words.{IsNumber, is_number}
 
--- this is the word of an argument, among these rows
+-- `word` was entered for `argument`.
 abbrev pub IsWord : List Row → Text → Text → Type 0
 IsWord rows argument word = first_of argument rows ≡ Some word
 
--- The task is what a command asks for with the words of these rows. If a WHAT, a SECTORS or an M
--- isn't one, the task reports that; or there was no memory to parse the command line.
+-- The command `name` with the words of `rows` asks for this task. If WHAT, SECTORS or M has a wrong
+-- form, the task reports that. `Show` is the task if there was no memory to parse the command line.
 abbrev pub AsksBy : Name → List Row → Task → Type 0
 AsksBy names.Record rows (tasks.Record script log) =
     IsWord rows (codes "SCRIPT") script.now × IsWord rows (codes "LOG") log.now
@@ -54,25 +54,27 @@ AsksBy names.Path rows (tasks.Flawed flaws.Moment m) =
 AsksBy name rows (tasks.Show error) = kind_of error ≡ OutOfMemory
 AsksBy name rows task = ⊥
 
--- the task is what the entered command asks for, which is one of the program's
+-- The entered command is one of the program's, and asks for `task`.
 abbrev pub Asks : Entered → Task → Type 0
 Asks entered task = (name : Name) × (entered.0 ≡ name_text name) × AsksBy name entered.1 task
 
--- the task is what the entered command asks for, if one was entered
+-- A command was entered, and it asks for `task`.
 abbrev pub IsAskedBy : Option Entered → Task → Type 0
 IsAskedBy found task = (entered : Entered) × (found ≡ Some entered) × Asks entered task
 
--- the entered command is one of the program's, and has its words
+-- The entered command is one of the program's, and each of its arguments has a word.
 abbrev pub IsComplete : Entered → Type 0
 IsComplete entered = (name : Name) × (entered.0 ≡ name_text name) × HasWords name entered.1
 
--- clap finds no fault in these words, and they ask for the task
+-- clap finds no fault in `words`, and they ask for `task`.
 abbrev pub IsAsked : List Text → Task → Type 0
 IsAsked words task =
     (fault_of program_app words ≡ []) × IsAskedBy (subcommand_of program_app words) task
 
--- Why these words have no task: there is no memory to read them, clap finds a fault of this kind in
--- them, or a word is missing though it finds none.
+-- Why `words` have no task, and the kind of clap's error.
+-- - `memory`: there is no memory to parse them.
+-- - `fault`: clap finds a fault of this kind.
+-- - `missing`: clap finds no fault, but they don't enter a command with all its words.
 pub data IsUntasked (words : List Text) (kind : ErrorKind) : Type 0 where
   memory : kind ≡ OutOfMemory → IsUntasked words kind
   fault : IsAmong kind (fault_of program_app words) → IsUntasked words kind
@@ -80,24 +82,23 @@ pub data IsUntasked (words : List Text) (kind : ErrorKind) : Type 0 where
       → ((entered : Entered) → Enters words entered → IsComplete entered → ⊥)
       → kind ≡ MissingRequiredArgument → IsUntasked words kind
 
--- The task is what clap makes of these words: to show why they have none, or what they ask for, in
--- which it finds no fault.
+-- The task that clap makes of `words`: the one that they ask for, or `Show` if they have none.
 abbrev pub IsReadByClap : List Text → Task → Type 0
 IsReadByClap words (tasks.Show error) = IsUntasked words (kind_of error)
 IsReadByClap words task = IsAsked words task
 
--- the task is to print the page of the formats; or there was no memory to read the command line
+-- The task is to print the page of the formats. It is `Show` if there was no memory to parse the
+-- command line.
 abbrev pub IsFormats : Task → Type 0
 IsFormats (tasks.Formats page) = Unit {0}
 IsFormats (tasks.Show error) = kind_of error ≡ OutOfMemory
 IsFormats task = ⊥
 
--- the task is what words are read as that ask for the page of the formats, or that don't
+-- The task of `words`, given whether they are `help formats`.
 abbrev pub IsReadAs : Bool → List Text → Task → Type 0
 IsReadAs true words task = IsFormats task
 IsReadAs false words task = IsReadByClap words task
 
--- The task is what these words are read as: `help formats` asks for the page of the formats, and of
--- other words it is what clap makes of them.
+-- The task of `words`: `help formats` asks for the page of the formats; clap parses other words.
 abbrev pub IsRead : List Text → Task → Type 0
 IsRead words task = IsReadAs (is_formats words) words task

@@ -1,4 +1,4 @@
-//! Parses a command line by `clap`, and finds the task that it asks for.
+//! Parses a command line with `clap`, and finds the task that it asks for.
 ghost use Rattle.std.specs.Prelude.{◌≡◌, ◌⊎◌, List, ℕ, ◌++◌, IfOk, IfSome, None, OnOk, Some, false};
 ghost use Rattle.std.specs.Prelude.{is_some, map, not, true};
 ghost use Rattle.std.specs.List.{filter, list_any};
@@ -32,7 +32,7 @@ fn task_of<'a>(matches: &ArgMatches<'a>) -> Option<Task<'a>>
     task_by(name, found)
 }
 
-// The name of the command that was entered, and its parsed words.
+// Returns the name of the command that was entered, and its parsed words.
 fn entered<'m, 'a>(matches: &'m ArgMatches<'a>) -> Option<(&'a str, &'m ArgMatches<'a>)>
     ensures some { IfSome result
         (λ found. subcommand_rows_of matches.now
@@ -68,7 +68,7 @@ fn parse<'a, S: AsStr>(alloc: Global, words: &'a [S]) -> Result<ArgMatches<'a>, 
     program_command(alloc)?.try_get_matches_from(words)
 }
 
-// The error for a command line that lacks a word; no parse lets that through.
+// Returns the error for a command line that lacks a word though clap found no fault in it.
 fn incomplete(alloc: Global) -> Error
     ensures { (kind_of result ≡ ErrorKind.OutOfMemory)
         ⊎ (kind_of result ≡ ErrorKind.MissingRequiredArgument) }
@@ -150,9 +150,9 @@ fn is_formats(words: &[&str]) -> bool
     }
 }
 
-/// Parses a command line without `--explain`; the first word is the program's name. `help formats`
-/// asks for the page of the formats. `clap` parses all other words; a file's name is taken as it is
-/// if it doesn't begin with a hyphen.
+/// Parses a command line without `--explain`; its first word is the program's name. `help formats`
+/// asks for the page of the formats, and `clap` parses all other words. A file's name isn't
+/// changed. It can't begin with a hyphen.
 pub fn read_words<'a>(alloc: Global, words: &'a [&'a str]) -> Task<'a>
     ensures { IsRead (map (λ word. word.now) words.entry.now) result }
 {
@@ -162,14 +162,14 @@ pub fn read_words<'a>(alloc: Global, words: &'a [&'a str]) -> Task<'a>
     read_commands(alloc, words)
 }
 
-/// The task of a command line that couldn't be parsed for lack of memory.
+/// Returns the task of a command line that couldn't be parsed for lack of memory.
 pub fn unread<'a>(error: AllocError) -> Task<'a>
     ensures { (words : List (List ℕ)) → IsRead words result }
 {
     Task::Show(Error::from(error))
 }
 
-// Parses a command line by `clap`.
+// Parses a command line with `clap`.
 fn read_commands<'a, S: AsStr>(alloc: Global, words: &'a [S]) -> Task<'a>
     ensures { IsReadByClap (map S.text words.entry.now) result }
 {

@@ -34,16 +34,18 @@ use std::io::Write;
 use std::sync::Wait;
 use std::thread::Threads;
 
-/// Executes a command line, and returns how it ended. Its exit status is 0 if it is done, 1 if it
-/// is refused or an image is ruled out, 2 if the command line isn't one of the program's, 3 if
-/// logging ended early. The first of `words` is the program's name. Results go to the session's
-/// `out`, faults to its `err`; if `--explain` is among the words, what helps follows each fault. If
-/// `out` can't be written, the command is refused, as for a file that can't be written.
+/// Executes a command line, and returns how it ended. The first of `words` is the program's name.
 ///
-/// `rt` starts threads and waits for them: only the command `run` does that.
+/// The exit status is 0 if the command is done, and 1 if it is refused or an image is ruled out. It
+/// is 2 if the command line isn't one of the program's, and 3 if logging ended early. Results go to
+/// the session's `out`, and faults to its `err`. If `--explain` is among the words, advice may
+/// follow a fault. If `out` can't be written, the command is refused, as for a file that can't be
+/// written.
 ///
-/// Whatever the words are, it does what they are parsed as, and no more. `crate::laws` says which
-/// words are parsed as which command.
+/// `rt` starts threads and waits for them; only the command `run` needs it.
+///
+/// The contract holds for all words: `execute` does what they are parsed as, and no more.
+/// `crate::laws` says which words are parsed as which command.
 pub fn execute<'a, S: AsStr, F: Files, O: Write, E: Write, H: Threads + Wait + Sync>(
     rt: &H,
     words: &'a [S],
@@ -56,16 +58,16 @@ pub fn execute<'a, S: AsStr, F: Files, O: Write, E: Write, H: Threads + Wait + S
     ensures command { EndsCommand (F.writes session.old.files) (F.writes session.new.files)
         (status_of result.exit) }
 
-    // If it is refused, each file holds what it held. That is also so if logging ended and no log
-    // was asked to be written.
+    // If the command is refused, no file changes. If logging ended, no file changes, or one file
+    // write was asked for.
     ensures kept { IsRefusal result.exit
         → KeepsFiles (F.contents session.old.files) (F.contents session.new.files) }
     ensures unmade { result.exit ≡ LoggingEnded
         → KeepsFiles (F.contents session.old.files) (F.contents session.new.files)
         ⊎ AsksForOne (F.writes session.old.files) (F.writes session.new.files) }
 
-    // Without `--explain` nothing goes to `err` if it is done,
-    // and for a refusal its one line, as far as `err` takes it.
+    // Without `--explain`, `err` gets nothing if the command is done, and one line if it is refused
+    // and `err` can be written.
     ensures told { has_explain (map S.text words.entry.now) ≡ false
         → ReportsBy result.exit result (E.contents session.old.err) (E.contents session.new.err) }
 {
@@ -162,7 +164,7 @@ fn write_page<O: Write>(page: &str, out: &mut O) -> Result<(), RunError>
     Ok(())
 }
 
-// Reports that a word isn't one of those that are possible in its place.
+// Reports that a word has a wrong form for its argument.
 fn tell_flaw<E: Write>(flaw: Flaw, word: &str, err: &mut E) -> Ended
     ensures usage { result.exit ≡ Usage }
     ensures told { result.err_taken ≡ true
@@ -184,7 +186,7 @@ fn write_flaw<E: Write>(flaw: Flaw, word: &str, err: &mut E) -> io::Result<()>
     Ok(())
 }
 
-// Prints the text of a command line that has no other task.
+// Prints clap's text: help, the version, or why the command line has no task.
 fn show<O: Write, E: Write>(alloc: Global, text: Error, out: &mut O, err: &mut E) -> Ended
     ensures ends { EndsUntasked (kind_of text) result.exit }
     ensures silent { is_asked_for (kind_of text) ≡ false

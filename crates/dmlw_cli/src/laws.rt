@@ -28,8 +28,8 @@ pub fn names_are_distinct()
     ensures again { (name : Name) → name_of (name_text name) ≡ Some name }
 {}
 
-/// Words that don't begin with a hyphen are names of files. If `record SCRIPT LOG` is done, the
-/// script in that file was recorded in that log.
+/// If SCRIPT and LOG don't begin with a hyphen, they are names of files. `record SCRIPT LOG`
+/// records the script in the file SCRIPT, and asks for its log to be written to the file LOG.
 pub fn plain_words_record()
     ensures ends { (contents later : List ℕ → Option (List ℕ)) (before after : Option (List Write))
         (old new errors_old errors_new : Option (List ℕ)) (ended : Ended)
@@ -38,7 +38,7 @@ pub fn plain_words_record()
         (script ∷ log ∷ [])) contents later before after old new errors_old errors_new ended →
         EndsRecording (contents script) log before after old new
         (err_stream false errors_old errors_new) ended }
-    // The file LOG then holds the log.
+    // If the command is done, the file LOG holds the log.
     ensures leaves { (contents later : List ℕ → Option (List ℕ))
         (before after : Option (List Write)) (old new errors_old errors_new : Option (List ℕ))
         (ended : Ended)
@@ -48,8 +48,8 @@ pub fn plain_words_record()
         LeavesLog script log contents later old new ended.exit }
 {}
 
-/// If `run SCRIPT LOG` is done, the seats of the script
-/// in that file were run, and recorded in that log.
+/// If SCRIPT and LOG don't begin with a hyphen, they are names of files. `run SCRIPT LOG` runs the
+/// seats of the script in the file SCRIPT, and asks for their log to be written to the file LOG.
 pub fn plain_words_run()
     ensures ends { (contents later : List ℕ → Option (List ℕ)) (before after : Option (List Write))
         (old new errors_old errors_new : Option (List ℕ)) (ended : Ended)
@@ -58,7 +58,7 @@ pub fn plain_words_run()
         (script ∷ log ∷ [])) contents later before after old new errors_old errors_new ended →
         EndsRunning (contents script) log before after old new
         (err_stream false errors_old errors_new) ended }
-    // The file LOG then holds the log.
+    // If the command is done, the file LOG holds the log.
     ensures leaves { (contents later : List ℕ → Option (List ℕ))
         (before after : Option (List Write)) (old new errors_old errors_new : Option (List ℕ))
         (ended : Ended)
@@ -68,7 +68,7 @@ pub fn plain_words_run()
         LeavesRun script log contents later old new ended.exit }
 {}
 
-/// If `list LOG` is done, the list of the log in that file was printed.
+/// If LOG doesn't begin with a hyphen, `list LOG` prints the entries of the log in the file LOG.
 pub fn plain_words_list()
     ensures { (contents later : List ℕ → Option (List ℕ)) (before after : Option (List Write))
         (old new errors_old errors_new : Option (List ℕ)) (ended : Ended)
@@ -79,7 +79,7 @@ pub fn plain_words_list()
         (err_stream false errors_old errors_new) ended }
 {}
 
-/// If `status LOG` is done, the status of the log in that file was printed.
+/// If LOG doesn't begin with a hyphen, `status LOG` prints the status of the log in the file LOG.
 pub fn plain_words_status()
     ensures { (contents later : List ℕ → Option (List ℕ)) (before after : Option (List Write))
         (old new errors_old errors_new : Option (List ℕ)) (ended : Ended)
@@ -90,8 +90,9 @@ pub fn plain_words_status()
         (err_stream false errors_old errors_new) ended }
 {}
 
-/// If `replay LOG FIRST OUT WHAT` is done, the log in that file was replayed, up to what WHAT
-/// names, on the image in the file FIRST, for the file OUT.
+/// LOG, FIRST and OUT may be any names that don't begin with a hyphen, and WHAT any end of a
+/// replay. Then `replay LOG FIRST OUT WHAT` replays the log in the file LOG up to there, on the
+/// image in the file FIRST. It asks for the resulting image to be written to the file OUT.
 pub fn plain_words_replay()
     ensures ends { (contents later : List ℕ → Option (List ℕ)) (before after : Option (List Write))
         (old new errors_old errors_new : Option (List ℕ)) (ended : Ended)
@@ -102,7 +103,7 @@ pub fn plain_words_replay()
         later before after old new errors_old errors_new ended →
         ReplaysWhat what (contents log) (contents first) (contents out) out before after old new
         (err_stream false errors_old errors_new) ended }
-    // The file OUT then holds the resulting image.
+    // If the command is done, the file OUT holds the resulting image.
     ensures leaves { (contents later : List ℕ → Option (List ℕ))
         (before after : Option (List Write)) (old new errors_old errors_new : Option (List ℕ))
         (ended : Ended)
@@ -114,8 +115,10 @@ pub fn plain_words_replay()
         ended.exit ≡ Done → LeavesReplayed what (contents log) (contents first) (later out) }
 {}
 
-/// If `copy LOG OUT SECTORS` is done, the log in that file was copied to a new one with sectors
-/// of 4,096 bytes, on a disk of SECTORS sectors, for the file OUT.
+/// LOG and OUT may be any names that don't begin with a hyphen, and SECTORS a number from 8 to
+/// 1,048,576. Then `copy LOG OUT SECTORS` copies the log in the file LOG to a new one with sectors
+/// of 4,096 bytes, on a disk of SECTORS sectors. It asks for the new log to be written to the file
+/// OUT.
 pub fn plain_words_copy()
     ensures ends { (contents later : List ℕ → Option (List ℕ)) (before after : Option (List Write))
         (old new errors_old errors_new : Option (List ℕ)) (ended : Ended)
@@ -125,7 +128,7 @@ pub fn plain_words_copy()
         (log ∷ out ∷ word ∷ [])) contents later before after old new errors_old errors_new ended →
         EndsCopying (contents log) out sectors before after old new
         (err_stream false errors_old errors_new) ended }
-    // The file OUT then holds the new log.
+    // If the command is done, the file OUT holds the new log.
     ensures leaves { (contents later : List ℕ → Option (List ℕ))
         (before after : Option (List Write)) (old new errors_old errors_new : Option (List ℕ))
         (ended : Ended)
@@ -136,8 +139,9 @@ pub fn plain_words_copy()
         ended.exit ≡ Done → HoldsCopied (contents log) sectors (later out) }
 {}
 
-/// If `judge SCRIPT M IMAGE` is done, the image in that file was judged by the script in that
-/// file, after its first M events.
+/// SCRIPT and IMAGE may be any names that don't begin with a hyphen, and M any number. Then `judge
+/// SCRIPT M IMAGE` judges the image in the file IMAGE after the first M events of the script in the
+/// file SCRIPT.
 pub fn plain_words_judge()
     ensures { (contents later : List ℕ → Option (List ℕ)) (before after : Option (List Write))
         (old new errors_old errors_new : Option (List ℕ)) (ended : Ended)
@@ -153,8 +157,9 @@ pub fn plain_words_judge()
         (err_stream false errors_old errors_new) ended }
 {}
 
-/// If `path SCRIPT M IMAGE` is done, it printed how the image in that file could have come to the
-/// device of the script in that file, after its first M events.
+/// SCRIPT and IMAGE may be any names that don't begin with a hyphen, and M any number. Then `path
+/// SCRIPT M IMAGE` prints how the image in the file IMAGE could have come to the disk of the script
+/// in the file SCRIPT, after its first M events.
 pub fn plain_words_path()
     ensures { (contents later : List ℕ → Option (List ℕ)) (before after : Option (List Write))
         (old new errors_old errors_new : Option (List ℕ)) (ended : Ended)

@@ -1,9 +1,8 @@
-//! Executes command lines of dmlw, over files and writers of any kind.
+//! Executes command lines of dmlw, with files and writers of any kind.
 //!
-//! `execute` executes one command line. For each command its contract says what is printed and
-//! which file is asked to be written, in the words of `specs/Commands`. The commands are in
-//! `dmlw_commands`; `command_line` parses the words, and `laws` says which plain words are which
-//! command.
+//! `execute` executes one command line. Its contract says, for each command, what is printed and
+//! which file it asks to be written (`specs/Commands`). The commands are in `dmlw_commands`.
+//! `command_line` parses the words, and `laws` says how words without a hyphen in front are parsed.
 #![tactic(auto)]
 
 pub use executing::{execute, refuse};

@@ -8,8 +8,8 @@ ghost use Rattle.dmlw_cli.specs.declared.name.Name.TheVariants as names;
 use clap::{Arg, Command};
 use std::alloc::{AllocError, Global};
 
-// What `help` prints. It has the commands of `program_command`,
-// and `help formats`, which isn't one of them.
+// The text of `help`. It lists the commands of `program_command`, and `help formats`, which isn't
+// one of them.
 const HELP: &str = "\
 Records block requests in a log, and reads logs back
 
@@ -36,7 +36,7 @@ Options:
 Exit status: 0 done, 1 refused or ruled out, 2 usage, 3 logging ended before its time.
 A status such as 3 4 says: 3 entries, of which the last uses sector 4.";
 
-// What counts as an event for `judge` and `path`.
+// The help on events, for `judge` and `path`.
 const EVENTS: &str = "\
 An event is a line of the script that submits a request (w, f, d) or ends one (c), a mark, or the
 close; so is the end of logging, if that comes first. Events count from 0. Other lines aren't events.
@@ -72,7 +72,7 @@ pub fn program_command<'a>(alloc: Global) -> Result<Command<'a>, AllocError>
     with_command(program, path_command(alloc))
 }
 
-// The program's command without its subcommands.
+// Makes the program's command without its subcommands.
 fn bare_command<'a>(alloc: Global) -> Command<'a>
     ensures { app_of result ≡ bare_app }
 {
@@ -83,7 +83,7 @@ fn bare_command<'a>(alloc: Global) -> Command<'a>
         .arg_required_else_help(true)
 }
 
-// The program's command with one more subcommand.
+// Adds a subcommand to the program's command.
 fn with_command<'a>(
     program: Command<'a>,
     made: Result<Command<'a>, AllocError>,
@@ -94,7 +94,7 @@ fn with_command<'a>(
     program.subcommand(made?)
 }
 
-// A required word of a command.
+// Makes a required argument of a command.
 fn argument<'a>(alloc: Global, name: &'a str, help: &'a str) -> Arg<'a>
     ensures rule { rule_of result ≡ needed name.entry.now }
     ensures own { result.global ≡ false }
@@ -120,7 +120,7 @@ fn run_command<'a>(alloc: Global) -> Result<Command<'a>, AllocError>
         .arg(argument(alloc, "LOG", "The log to write"))
 }
 
-// A command that reads a log.
+// Makes a command that reads a log.
 fn log_command<'a>(alloc: Global, name: &'a str, about: &'a str) -> Result<Command<'a>, AllocError>
     ensures { IfOk result (IsCommandOf
         (with_rule (new_app name.entry.now) (needed (codes "LOG")))) }

@@ -1,12 +1,12 @@
-//! The number of sectors of a new disk, as a word of a command line.
+//! The sector count of a copied log's disk, as a word of a command line.
 ghost use Rattle.std.specs.Prelude.{◌≡◌, ◌≤◌, IfSome, None, ℕ};
 ghost use Rattle.dmlw_cli.specs.Counts.{IsSectorCount};
 
 use refusals::number_of;
 use std::marker::Model;
 
-/// How many sectors of 512 bytes the disk of a copied log has: 8, which is one log sector, to
-/// 1,048,576. Contracts see it as that number.
+/// The number of sectors of 512 bytes on a copied log's disk: from 8, which is one log sector, to
+/// 1,048,576. Its value in contracts is this number.
 #[derive(Debug, Drop)]
 pub struct SectorCount {
     sectors: u64,
@@ -23,8 +23,8 @@ impl Model for SectorCount {
 }
 
 impl SectorCount {
-    /// Parses a word: 1 to 20 decimal digits of a value
-    /// from 8 to 1,048,576. None for any other word.
+    /// Parses a number of 1 to 20 decimal digits, from 8 to 1,048,576. Returns None for any other
+    /// word.
     pub fn of(word: &[u8]) -> Option<SectorCount>
         ensures some { IfSome result (IsSectorCount word.now) }
         ensures none { result ≡ None → (count : ℕ) → IsSectorCount word.now count → ⊥ }

@@ -28,7 +28,7 @@ pub enum Task<'a> {
     Status {
         log: &'a str,
     },
-    /// Replay a log on an image, up to a named entry.
+    /// Replay a prefix of a log on an image. `upto` says where it ends.
     Replay {
         names: ReplayNames<'a>,
         upto: Upto<'a>,
@@ -38,39 +38,40 @@ pub enum Task<'a> {
         names: CopyNames<'a>,
         sectors: SectorCount,
     },
-    /// Judge whether an image could have been on the disk of a script after its first events.
+    /// Judge whether an image could have been on the disk of a script after its first `moment`
+    /// events.
     Judge {
         script: &'a str,
         moment: u64,
         image: &'a str,
     },
-    /// Print how an image could have come to the disk of a script after its first events.
+    /// Print how an image could have come to the disk of a script after its first `moment` events.
     Path {
         script: &'a str,
         moment: u64,
         image: &'a str,
     },
-    /// Print this page: what is read and printed.
+    /// Print the page of the formats.
     Formats(&'static str),
-    /// Print a text: help, the version, or why the line isn't one of the program's.
+    /// Print clap's text: help, the version, or why the command line has no task.
     Show(Error),
-    /// Report that this word isn't one of those that are possible in its place.
+    /// Report that a word has a wrong form for its argument.
     Flawed(Flaw, &'a str),
 }
 
-/// A word that `clap` lets through, and that isn't one of the program's.
+/// Why a word is wrong that `clap` accepts.
 #[derive(Clone, Copy, Debug, PartialEq, Eq)]
 pub enum Flaw {
-    /// WHAT names no end of a replay.
+    /// WHAT isn't `entries:<n>`, `mark:<text>` or `flush`.
     What,
-    /// SECTORS is no number from 8 to 1,048,576.
+    /// SECTORS isn't a number from 8 to 1,048,576.
     Sectors,
-    /// M is no number of 1 to 20 decimal digits below 2^64.
+    /// M isn't a number of 1 to 20 decimal digits below 2^64.
     Moment,
 }
 
 impl Flaw {
-    /// The argument of the word, the forms that are possible there, and where help is.
+    /// Returns the argument, the forms that it may have, and the command that prints help.
     pub fn forms(self) -> &'static str
         ensures { result.now ≡ flaw_forms self }
     {

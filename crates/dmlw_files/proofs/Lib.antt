@@ -1,3 +1,3 @@
--- The lemmas of `dmlw_files`; the proof of a function stands in the folder of its source file.
+-- The lemmas of `dmlw_files`. The proof of a function is in the folder named after its source file.
 mod Ranges
 mod Rests

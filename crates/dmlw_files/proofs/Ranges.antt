@@ -1,4 +1,4 @@
--- What the pieces of a disk's image come to.
+-- The pieces of a disk's image, one after another, are the image.
 use Rattle.std.proofs.Common.{◌≡◌, ◌∙◌, ℕ, zero, suc, ◌+◌, ◌++◌, List, Option, None}
 use Rattle.std.proofs.Common.{Some, ap, arith, sym}
 use Rattle.std.proofs.lemmas.List.{append_assoc, append-nil}

@@ -1,4 +1,4 @@
--- What a reader gives in several reads.
+-- What several reads take from a reader.
 use Rattle.std.proofs.Common.{List, ℕ, ◌++◌, Option, Some, None, sym, ap, ◌∙◌, append_assoc}
 use Rattle.std.specs.Io.KnownBytes.{Consumes}
 

@@ -7,12 +7,12 @@ use Rattle.refusals.specs.declared.refusal.Refusal.TheVariants as refusals
 use Rattle.dmlw_files.specs.declared.files.FileError.{FileError}
 use Rattle.dmlw_files.specs.declared.files.FileError.TheVariants.{Unusable, Memory}
 
--- the error of a call on a file that failed for this kind of reason
+-- The error of a failed call on a file, given the kind of the system's error.
 abbrev pub file_error : ErrorKind → FileError
 file_error kinds.OutOfMemory = Memory
 file_error _ = Unusable
 
--- the refusal that a file's error is shown by
+-- The refusal that reports a file's error.
 abbrev pub file_refusal : FileError → Refusal
 file_refusal Unusable = refusals.File
 file_refusal Memory = refusals.Memory

@@ -6,7 +6,7 @@ use Rattle.sector_disk.specs.declared.disk.SectorDisk.{SectorDisk}
 use Rattle.sector_disk.specs.DiskView.{shown_of}
 use Rattle.dmlw_files.specs.Files.{IsWithin, MatchesContents}
 
--- the bytes are those of an image: whole sectors, at least one, and 2 ^ 29 bytes at most
+-- The bytes are an image: whole sectors, at least one, and at most 2 ^ 29 bytes.
 pub record IsImage (bytes : List ℕ) : Type 0 where
   pub whole : length bytes % 512 ≡ 0
   pub least : 512 ≤ length bytes
@@ -16,12 +16,13 @@ pub record IsImage (bytes : List ℕ) : Type 0 where
 abbrev pub image_of : SectorDisk → List ℕ
 image_of disk = gather (shown_of disk).content 0 (shown_of disk).size
 
--- what a file holds is known, and is an image
+-- What a file holds is known, and it is an image.
 abbrev pub HoldsImage : Option (List ℕ) → Type 0
 HoldsImage None = ⊥
 HoldsImage (Some known) = IsImage known
 
--- so it isn't too long, and what is read of it is an image
+-- If a file is known to hold an image, it isn't too long, and the bytes that are read from it are
+-- an image.
 pub image_within : (file : Option (List ℕ)) → HoldsImage file → IsWithin 536870912 file
 image_within None is = is
 image_within (Some known) is = is.most

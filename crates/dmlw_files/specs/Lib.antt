@@ -1,4 +1,4 @@
--- The definitions that the contracts of `dmlw_files` are written in.
+-- The definitions of `dmlw_files`' contracts.
 pub mod Files
 pub mod FileErrors
 pub mod Images

@@ -1,4 +1,4 @@
-//! The files that a command reads and writes, by their names, and why one isn't read or written.
+//! Files that a command reads and writes by name, and why a call on one fails.
 ghost use Rattle.std.specs.Prelude.{◌≡◌, ◌≤◌, Bool, IfErr, IfOk, List, OnErr, OnOk, Option, false};
 ghost use Rattle.std.specs.Prelude.{is_some, length, true, ℕ};
 ghost use Rattle.refusals.specs.Errors.{refused_by};
@@ -53,13 +53,13 @@ impl From<FileError> for RunError {
     }
 }
 
-/// Why a file wasn't read or written, as the system has it.
+/// Why a file wasn't read or written, with the system's error.
 #[derive(Debug, Drop)]
 pub enum FileFailure {
     /// It can't be read.
     Read(io::Error),
-    /// It is longer than it may be: this many bytes, as the
-    /// system has it. A pipe or a device has fewer there.
+    /// It is longer than allowed. The number is the length that the system reports; for a pipe or a
+    /// device the system reports less.
     TooLong(u64),
     /// It can't be written.
     Write(io::Error),
@@ -67,17 +67,17 @@ pub enum FileFailure {
 
 /// The files that a command reads and writes, by name.
 pub trait Files {
-    /// What the file of a name holds, if it is known.
+    /// What each file holds, if that is known.
     ghost contents: { Self → List ℕ → Option (List ℕ) };
 
     /// The writes that were asked for, in order, if they are known.
     ghost writes: { Self → Option (List Write) };
 
-    /// Whether there is a reason why the last call failed.
+    /// Whether it is known why the last call failed.
     ghost has_failure: { Self → Bool };
 
-    /// Returns the whole of a file of at most `limit` bytes. A longer file is refused. If a file's
-    /// bytes are known and aren't too many, only lack of memory refuses it.
+    /// Returns all bytes of a file. A file of more than `limit` bytes is refused. If a file is
+    /// known to have at most `limit` bytes, only lack of memory refuses it.
     fn read(&mut self, alloc: Global, name: &str, limit: u64) -> Result<Image, FileError>
         ensures contents { IfOk result
             (λ image. MatchesContents (contents self.old name.now) image) }
@@ -86,12 +86,12 @@ pub trait Files {
             → IfErr result (λ error. error ≡ FileError.Memory) }
         ensures kept { KeepsFiles (contents self.old) (contents self.new) }
         ensures writes { writes self.new ≡ writes self.old }
-        // A reason of an earlier call is gone.
+        // After a success no earlier failure is kept.
         ensures cleared { OnOk result (has_failure self.new ≡ false) };
 
-    /// Makes the file hold the image of a disk and no other bytes, or, if it fails, leaves each
-    /// file as it was. The disk is dropped: its bytes may be taken out of it piece by piece, so
-    /// that the image need not be in memory as a whole.
+    /// Replaces the file's bytes with the image of a disk. If that fails, no file changes. The call
+    /// drops the disk. So it may take the bytes out of the disk piece by piece, and needs no second
+    /// copy of them in memory.
     fn write(&mut self, alloc: Global, name: &str, disk: SectorDisk) -> Result<(), FileError>
         ensures holds { OnOk result (MatchesContents (contents self.new name.now) (image_of disk)) }
         ensures kept { OnErr result (KeepsFiles (contents self.old) (contents self.new)) }
@@ -102,15 +102,15 @@ pub trait Files {
     fn failure(&self) -> Option<&FileFailure>
         ensures { is_some result ≡ has_failure self.now };
 
-    /// Returns whether both names are those of one file.
+    /// Returns whether both names lead to the same file.
     fn is_same(&self, first: &str, second: &str) -> bool
         ensures named { first.now ≡ second.now → result ≡ true }
-        // It holds one thing, whichever name it is asked for by.
+        // Then both names have the same content.
         ensures held { result ≡ true
             → contents self.now first.now ≡ contents self.now second.now };
 }
 
-// Files that are lent are files.
+// A mutable reference to `Files` is `Files` too.
 impl<F: Files> Files for &mut F {
     ghost contents = { λ files. F.contents files.now };
 

@@ -16,8 +16,8 @@ pub(crate) trait Skip: Write {
         ensures kept { OnErr result (Keeps (Self.contents self.old) (Self.contents self.new)) };
 }
 
-/// A new file, whose content isn't proved. Zeroes that were skipped are there when later bytes are
-/// written or its length is set.
+/// A new file. Nothing is proved about its content. Skipped zeroes are in the file once later bytes
+/// are written or its length is set.
 #[derive(Drop)]
 pub(crate) struct NewFile<'a, F> {
     file: &'a mut F,
@@ -46,7 +46,7 @@ impl<F: Write + Seek> Skip for NewFile<'_, F> {
     }
 }
 
-/// A writer that skips what it is given if that is zeroes, `count` at most.
+/// A writer that skips each piece of at most `count` zeroes, and writes other pieces.
 #[derive(Drop)]
 pub(crate) struct Holes<W> {
     writer: W,
@@ -62,7 +62,7 @@ impl<W: Skip + Drop> Holes<W> {
         Ok(Holes { writer, zeroes })
     }
 
-    // Returns whether these bytes are zeroes, and few enough to be skipped.
+    // Returns whether the bytes are zeroes, and few enough to be skipped.
     fn skips(&self, bytes: &[u8]) -> bool
         ensures { result ≡ true → bytes.now ≡ replicate (length bytes.now) 0 }
     {

@@ -16,26 +16,26 @@ use std::io::{Read, Seek, Write};
 use std::os::unix::fs::{FileTypeExt, MetadataExt};
 use std::{fs, io};
 
-// The number of names that are tried for the new file in a log's folder.
+// How many names are tried for the new file in a file's folder.
 const MAX_BESIDE: u32 = 1000;
 
-// The number of bytes of a file that are read at a time: those of a piece of an `Image`.
+// How many bytes of a file are read at a time: as many as a piece of an `Image` has.
 const READ_BYTES: usize = 65_536;
 
 // The most bytes that a file can have.
 const MAX_FILE_BYTES: u64 = 9_223_372_036_854_775_807;
 
-/// The system's files. Their contents aren't proved.
+/// The system's files. Nothing is proved about their contents.
 ///
-/// A regular file is written whole or not at all: as `NAME.dmlw-tmp-<n>` in its folder, and then
-/// renamed over it. A link stays, and the file that it leads to is replaced. A pipe or a device is
-/// written as it is. So is a file that a stream of the process leads to, as `/dev/stdout`, after
-/// what it holds.
+/// A regular file is replaced as a whole or not at all: the bytes go to `NAME.dmlw-tmp-<n>` in its
+/// folder, which is then renamed. A link stays, and the file that it leads to is replaced. A pipe
+/// or a device is written directly. So is a stream of the process, such as `/dev/stdout`: the bytes
+/// are appended to its file.
 ///
-/// A pipe, a socket or a character device gives its bytes once. They are kept under its name for as
-/// long as this value lives, if they are at most 4,194,304 bytes. Each later read of the name
-/// returns a copy of them. If they weren't kept, it fails with `NotSeekable`, or, if they are more
-/// than it may read, with `TooLong(0)`.
+/// A pipe, a socket or a character device can be read only once. Its bytes are kept under its name
+/// as long as this value lives, if they are at most 4,194,304. A later read of the name returns a
+/// copy of them. If they are known to be more than its limit, it fails with `TooLong(0)`. Else, if
+/// they weren't kept, it fails with `NotSeekable`.
 #[derive(Drop)]
 pub struct HostFiles<'a, R: std::rt::Files> {
     runtime: &'a R,
@@ -43,19 +43,20 @@ pub struct HostFiles<'a, R: std::rt::Files> {
     spent: Vec<Spent>,
 }
 
-// A file that was opened and read, to its end or not, and that can't be read again.
+// A file that was opened and read, and that can't be read again. The read may have failed.
 #[derive(Drop)]
 struct Spent {
     name: String,
-    // At least this many bytes are in the file: all of them, or one more than the read's limit; 0
-    // if the read failed.
+    // The file has at least this many bytes. It is the number of bytes that were read; the read's
+    // limit plus one, if the file has more; or 0, if the read failed.
     length: u64,
     // All its bytes, unless they are too many or there was no memory for a copy.
     bytes: Option<Vec<u8>>,
 }
 
 impl Spent {
-    // Returns the bytes of the file, or 0 if they are more than the limit.
+    // Returns the bytes of the file, or `Err(0)` if they are more than the limit. Fails if they
+    // weren't kept.
     fn read(&self, alloc: Global, limit: u64) -> io::Result<Result<Image, u64>>
         ensures { IfOk result (λ found. IfOk found (λ image. length image ≤ limit)) }
     {
@@ -78,8 +79,8 @@ impl<'a, R: std::rt::Files> HostFiles<'a, R> {
         }
     }
 
-    // Returns the whole of a file, or how long it is, as the system has it, if it is longer than
-    // the limit.
+    // Returns all bytes of a file. If they are more than the limit, returns the length that the
+    // system reports.
     fn find(&mut self, alloc: Global, name: &str, limit: u64) -> io::Result<Result<Image, u64>>
         ensures within { IfOk result (λ found. IfOk found (λ image. length image ≤ limit)) }
         ensures failure { self.new.failure ≡ self.old.failure }
@@ -93,12 +94,12 @@ impl<'a, R: std::rt::Files> HostFiles<'a, R> {
         self.read_once(alloc, name, limit)
     }
 
-    // Reads a file that can't be read again, and keeps what it had.
+    // Reads a file that can't be read again, and keeps its bytes.
     fn read_once(&mut self, alloc: Global, name: &str, limit: u64) -> io::Result<Result<Image, u64>>
         ensures within { IfOk result (λ found. IfOk found (λ image. length image ≤ limit)) }
         ensures failure { self.new.failure ≡ self.old.failure }
     {
-        // Memory for its name is there before it is read.
+        // The memory for its name is allocated before it is read.
         let kept_name = String::from_str(alloc, name)?;
         self.spent.reserve(1)?;
         let file = fs::open(self.runtime, name)?;
@@ -117,7 +118,7 @@ impl<'a, R: std::rt::Files> HostFiles<'a, R> {
         found
     }
 
-    // Keeps why a call failed.
+    // Keeps why a call failed, and returns the error for that.
     fn keep(&mut self, failure: FileFailure) -> FileError {
         let error = match &failure {
             FileFailure::Read(error) | FileFailure::Write(error) => FileError::from(error.kind()),
@@ -178,7 +179,7 @@ fn reads_again<R: std::rt::Files>(runtime: &R, name: &str) -> bool {
     }
 }
 
-// Returns a copy of these bytes, if they are few enough to be kept and there is memory.
+// Returns a copy of the bytes, if they are few enough to be kept and there is memory.
 fn kept(alloc: Global, image: &Image) -> Option<Vec<u8>> {
     if image.len() as u64 > MAX_SCRIPT_BYTES {
         return None;
@@ -186,8 +187,8 @@ fn kept(alloc: Global, image: &Image) -> Option<Vec<u8>> {
     image.to_vec(alloc).ok()
 }
 
-// Returns the whole of a file, or how long it is, as the system has it, if it is longer than the
-// limit.
+// Returns all bytes of a file. If they are more than the limit, returns the length that the system
+// reports.
 fn read_file<R: std::rt::Files>(
     runtime: &R,
     alloc: Global,
@@ -200,7 +201,7 @@ fn read_file<R: std::rt::Files>(
     read_open::<R>(file, alloc, limit)
 }
 
-// Returns the whole of an open file, likewise.
+// As above, for an open file.
 fn read_open<R: std::rt::Files>(
     file: R::File,
     alloc: Global,
@@ -209,7 +210,7 @@ fn read_open<R: std::rt::Files>(
     ensures { IfOk result (λ found. IfOk found (λ image. length image ≤ limit)) }
 {
     let length = file.metadata()?.len();
-    // One byte more than the limit says a file that is too long. No file has 2 ^ 63 bytes.
+    // If one byte more than the limit can be read, the file is too long. No file has 2 ^ 63 bytes.
     let most = limit.min(MAX_FILE_BYTES) + 1;
     let mut room = vec![in alloc; 0; READ_BYTES]?;
     let image = read_rest(alloc, &mut file.take(most), most, &mut room)?;
@@ -219,8 +220,8 @@ fn read_open<R: std::rt::Files>(
     Ok(Ok(image))
 }
 
-// Returns what a reader has left, if that is at most `most` bytes. It is read into `room`, piece by
-// piece.
+// Returns the bytes that a reader has left, if they are at most `most`. It reads them into `room`,
+// piece by piece.
 fn read_rest<R: Read>(
     alloc: Global,
     reader: &mut R,
@@ -241,7 +242,7 @@ fn read_rest<R: Read>(
     Ok(image)
 }
 
-// Appends the next bytes that a reader has, 65,536 or, at its end, fewer, and returns how many.
+// Appends the reader's next 65,536 bytes to an image, or fewer at its end. Returns how many.
 fn append_piece<R: Read>(
     alloc: Global,
     reader: &mut R,
@@ -296,8 +297,8 @@ fn fill<R: Read>(reader: &mut R, buffer: &mut [u8]) -> io::Result<usize>
     Ok(count)
 }
 
-// Writes the image of a disk to the file of a name. The
-// buffer for its pieces is there before any file is touched.
+// Writes the image of a disk to the file `name`. The buffer is allocated before any file is
+// touched.
 fn write_file<R: std::rt::Files>(
     runtime: &R,
     alloc: Global,
@@ -309,7 +310,7 @@ fn write_file<R: std::rt::Files>(
     write_image(runtime, alloc, name, &mut disk, &mut buffer)
 }
 
-// Writes the file of a name in the way that its kind asks for.
+// Writes the file `name`: replaces a regular file, and writes to any other one directly.
 fn write_image<R: std::rt::Files>(
     runtime: &R,
     alloc: Global,
@@ -330,7 +331,7 @@ fn write_image<R: std::rt::Files>(
         }
         Ok(_) => write_through(runtime, name, disk, buffer),
         Err(error) => {
-            // A link to no file has a name.
+            // A link that leads to no file is refused.
             if error.kind() != io::ErrorKind::NotFound
                 || fs::symlink_metadata(runtime, name).is_ok()
             {
@@ -349,7 +350,7 @@ fn is_stream(name: &str) -> bool {
         || name.starts_with("/proc/self/fd/")
 }
 
-// Writes to what has no length of its own, as a pipe or a device.
+// Appends the image to a pipe, a device or a stream.
 fn write_through<R: std::rt::Files>(
     runtime: &R,
     name: &str,
@@ -362,7 +363,7 @@ fn write_through<R: std::rt::Files>(
     write_sectors(disk, disk.sectors(), buffer, &mut file)
 }
 
-// Makes a regular file hold the image of this disk, or leaves it as it was.
+// Replaces a regular file with the image of a disk, or leaves it as it was.
 fn replace<R: std::rt::Files>(
     runtime: &R,
     alloc: Global,
@@ -384,7 +385,7 @@ fn replace<R: std::rt::Files>(
     done
 }
 
-// Returns a new file in the folder of another one, and its name, which no other file has.
+// Creates a file with a new name in the folder of another one. Returns its name and the file.
 fn create_beside<R: std::rt::Files>(
     runtime: &R,
     alloc: Global,
@@ -416,7 +417,7 @@ fn fill_file<R: std::rt::Files>(
 {
     let mut file = file;
     write_pieces(alloc, &mut file, disk, buffer)?;
-    // Zeroes that were skipped at the end are there only then.
+    // This adds the zeroes that were skipped at the end.
     file.set_len(disk.sectors().saturating_mul(SECTOR_BYTES))?;
     if let Some(permissions) = permissions {
         let _ = file.set_permissions(permissions);

@@ -1,4 +1,4 @@
-//! Reads an image from a file: whole sectors, 512 MiB at most.
+//! Reads an image from a file: whole sectors, at most 512 MiB.
 ghost use Rattle.std.specs.Prelude.{◌≡◌, IfErr, IfOk};
 ghost use Rattle.refusals.specs.Errors.{IsFileError, memory_error};
 ghost use Rattle.dmlw_files.specs.Files.{KeepsFiles, MatchesContents};
@@ -10,12 +10,12 @@ use refusals::{Refusal, RunError};
 use sector_disk::Image;
 use std::alloc::Global;
 
-/// The most bytes of an image: those of 1,048,576 sectors.
+/// The most bytes of an image: 1,048,576 sectors.
 pub const MAX_IMAGE_BYTES: u64 = 536_870_912;
 
-/// Reads the image in the file of a name: whole sectors of 512 bytes, at least one. Any other file
-/// is refused with `File`, as is one that can't be read. If a file's bytes are known and are an
-/// image, only memory can refuse it.
+/// Reads the image in the file `name`: whole sectors of 512 bytes, at least one and at most 512
+/// MiB. Any other file is refused with `File`, and so is one that can't be read. If the file is
+/// known to hold an image, only lack of memory refuses it.
 #[tactic(auto, using(crate::specs::Images::image_within, crate::specs::Images::image_read))]
 pub fn read_image<F: Files>(alloc: Global, name: &str, files: &mut F) -> Result<Image, RunError>
     ensures contents { IfOk result

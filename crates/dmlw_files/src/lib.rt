@@ -1,9 +1,9 @@
 //! The files and streams of the commands.
 //!
-//! `Files` is what a command asks of a file system (`specs/Files`); `HostFiles` is the system's;
-//! its contents aren't proved. A script's text and an image are read by the rules for their sizes
-//! (`specs/Images`). `Output` is a writer whose reader may go away. A `Session` is what a command
-//! is lent: its files and streams.
+//! `Files` is a command's access to files by name (`specs/Files`). `HostFiles` is the system's
+//! files; nothing is proved about their contents. `read_text` and `read_image` check the sizes of
+//! scripts and images (`specs/Images`). `Output` is a writer whose reader may go away. A `Session`
+//! has the files and streams of a command.
 #![tactic(auto)]
 
 pub use files::{FileError, FileFailure, Files};

@@ -2,8 +2,8 @@
 use std::io;
 use std::io::Write;
 
-/// A writer whose reader may go away, as that of a pipe: from then on what is written is dropped,
-/// and no call fails for that. No clause knows what it holds.
+/// A writer whose reader may go away, such as a pipe. From then on it drops what is written, and no
+/// call fails because of that. Nothing is proved about what it holds.
 #[derive(Drop)]
 pub struct Output<W: Write> {
     writer: W,

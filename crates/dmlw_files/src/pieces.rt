@@ -1,5 +1,5 @@
-//! How the image of a disk is written, piece by piece in
-//! one buffer, so that it is never in memory as a whole.
+//! Writes the image of a disk piece by piece, through one buffer, so that no second copy of it is
+//! in memory.
 ghost use Rattle.std.specs.Prelude.{◌≡◌, ◌≤◌, ◌<◌, ◌/◌, ◌%◌, ◌+◌, OnOk, length};
 ghost use Rattle.std.specs.Io.KnownBytes.{Appends};
 ghost use Rattle.bio.specs.Content.{gather};
@@ -11,13 +11,13 @@ use sector_disk::SectorDisk;
 use std::io;
 use std::io::Write;
 
-/// A sector's size in bytes.
+/// The size of a sector in bytes.
 const SECTOR: usize = SECTOR_BYTES as usize;
 
 /// The most sectors of a piece.
 const PIECE_SECTORS: u64 = 128;
 
-/// The number of bytes of the buffer for pieces.
+/// The size of the buffer for pieces in bytes.
 pub(crate) const PIECE: usize = PIECE_SECTORS as usize * SECTOR;
 
 // Reads a piece of a disk's image, which is whole sectors.
@@ -33,8 +33,7 @@ fn read_piece(disk: &mut SectorDisk, first: u64, piece: &mut [u8])
     let _ = disk.read(Ms::new(0), first, piece);
 }
 
-/// Writes the image of the first `sectors` sectors of a disk, in pieces that are put in this buffer
-/// one after another.
+/// Writes the first `sectors` sectors of a disk, piece by piece through `buffer`.
 pub(crate) fn write_sectors<W: Write>(
     disk: &mut SectorDisk,
     sectors: u64,

@@ -1,7 +1,7 @@
-//! What a command is lent: the allocator of its memory, its files and its streams.
+//! What a command works with: the allocator, its files and its streams.
 use std::alloc::Global;
 
-/// What a command is lent. It reads and writes `files`, prints on `out`, and reports a fault on
+/// What a command works with. It reads and writes `files`, prints on `out`, and reports a fault on
 /// `err`. If it `explains`, advice follows the fault.
 #[derive(Debug, Drop)]
 pub struct Session<F, O, E> {

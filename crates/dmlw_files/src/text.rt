@@ -1,4 +1,4 @@
-//! Reads a script's text from a file: 4 MiB at most.
+//! Reads a script's text from a file: at most 4 MiB.
 ghost use Rattle.std.specs.Prelude.{◌≡◌, ◌≤◌, IfErr, IfOk, length};
 ghost use Rattle.dmlw_files.specs.declared.files.FileError.{FileError};
 ghost use Rattle.dmlw_files.specs.Files.{IsWithin, KeepsFiles, MatchesContents};
@@ -9,8 +9,8 @@ use std::alloc::Global;
 /// The most bytes of a script.
 pub const MAX_SCRIPT_BYTES: u64 = 4_194_304;
 
-/// Returns the text in a script's file: at most 4,194,304 bytes.
-/// Any other file is refused, as is one that can't be read.
+/// Returns the bytes of a script's file. A file of more than 4,194,304 bytes is refused, and so is
+/// one that can't be read.
 pub fn read_text<F: Files>(alloc: Global, script: &str, files: &mut F) -> Result<Vec<u8>, FileError>
     ensures contents { IfOk result
         (λ text. MatchesContents (F.contents files.old script.now) text.items) }

@@ -1,6 +1,6 @@
 //! Tests of `log_format`, `pending`, `log_reader`, `log_store`, `recorder` and `replay`, through
-//! what these make public. They are apart from the crates that they test, so that these aren't
-//! proved a second time with their tests.
+//! their public functions. They are in their own crate, so that the tested crates aren't proved
+//! again with their tests.
 #![tactic(auto)]
 
 #[cfg(test)]

@@ -1,4 +1,4 @@
-//! How many links the core changes, and that its rows are used again.
+//! Tests of how many links the core changes, and that it uses its rows again.
 use bio::{Bio, Id};
 use pending::*;
 use std::alloc::{AllocError, Global};
@@ -16,7 +16,7 @@ fn submit(core: &mut Core, sector: u64) -> Result<u64, AllocError> {
     }
 }
 
-// Ends the request that is open at a place.
+// Ends the request with the id `place`, if it is open.
 fn end(core: &mut Core, place: u64) {
     let id = Id::new(place);
     if core.is_open(id) {
@@ -24,7 +24,8 @@ fn end(core: &mut Core, place: u64) {
     }
 }
 
-// Submits and ends `count` requests, every seventh first. They have the places from `from` on.
+// Submits `count` requests with the ids from `from` on. Ends them in steps of seven, modulo
+// `count`.
 fn end_all(core: &mut Core, from: u64, count: u64) -> Result<(), AllocError> {
     for sector in 0..count {
         submit(core, sector)?;
@@ -38,7 +39,7 @@ fn end_all(core: &mut Core, from: u64, count: u64) -> Result<(), AllocError> {
     Ok(())
 }
 
-// Returns the place of the next entry.
+// Takes the next entry, and returns its id.
 fn next_place(core: &mut Core) -> Option<u64> {
     let (id, _entry) = core.take()?;
     Some(id.place())
@@ -75,7 +76,7 @@ fn a_flush_changes_few_links(rt: HostRuntime) -> Result<(), Fail> {
     Ok(())
 }
 
-// Returns the number of rows of the core's chains, as it is shown.
+// Returns the number of rows in the core's chains, counted in its debug text.
 fn rows_shown(alloc: Global, core: &Core) -> Result<usize, AllocError> {
     let shown = format!(in alloc; "{core:?}")?;
     let (_, links) = shown.as_str().split_once("next: [").unwrap_or(("", ""));

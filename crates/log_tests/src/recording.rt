@@ -1,4 +1,4 @@
-//! The core: events, and the completion list of them.
+//! Tests of the core: events, and their completion list.
 use bio::{Bio, Bytes, End, Id};
 use pending::*;
 use std::alloc::{AllocError, Global};
@@ -6,7 +6,7 @@ use std::process::Abort;
 use std::test::Fail;
 use test_devices::rows_are_told;
 
-// Returns a write of `length` bytes; the number has a bit each for flush, FUA and meta.
+// Returns a write of `length` bytes. `flags` has a bit each for flush, FUA and meta.
 fn write(alloc: Global, first: u64, length: usize, flags: u64) -> Result<Bio, AllocError> {
     Ok(Bio::Write {
         first,
@@ -35,7 +35,7 @@ fn request(alloc: Global, word: &str, number: u64) -> Result<Bio, AllocError> {
     }
 }
 
-// Returns the place that a submission got; a passed one has none.
+// Returns the id of a submission; a passed one has none.
 fn place_of(answer: Submitted) -> u64 {
     match answer {
         Submitted::Tracked(id) => id.place(),
@@ -43,7 +43,7 @@ fn place_of(answer: Submitted) -> u64 {
     }
 }
 
-// Ends the request that was submitted at this place, if it is open.
+// Ends the request with the id `place`, if it is open.
 fn end(core: &mut Core, place: u64, ok: bool) {
     let id = Id::new(place);
     if core.is_open(id) {
@@ -51,7 +51,7 @@ fn end(core: &mut Core, place: u64, ok: bool) {
     }
 }
 
-// Returns all that can be taken: the place, the sector and the flags of each.
+// Takes all entries, and returns the id, the sectors and the flags of each.
 fn taken(alloc: Global, core: &mut Core) -> Result<String, AllocError> {
     let mut shown = String::new(alloc);
     for _ in 0..100 {
@@ -70,7 +70,7 @@ fn taken(alloc: Global, core: &mut Core) -> Result<String, AllocError> {
     Ok(shown)
 }
 
-// Sets a mark of `length` times this byte; returns what is shown if the mark isn't queued.
+// Records a mark whose text is `length` times `byte`. Returns a text if the mark isn't queued.
 fn marked(alloc: Global, core: &mut Core, byte: u8, length: u64) -> Result<String, AllocError> {
     match core.mark(&Bytes::from_vec(vec![in alloc; byte; length as usize]?)) {
         Ok(Marked::Queued(_)) => Ok(String::new(alloc)),
@@ -79,7 +79,7 @@ fn marked(alloc: Global, core: &mut Core, byte: u8, length: u64) -> Result<Strin
     }
 }
 
-// Does what a step's word and its number mean.
+// Takes a step, given its word and its number.
 fn play(alloc: Global, core: &mut Core, word: &str, number: u64) -> Result<String, AllocError> {
     match word {
         "end" => end(core, number, true),
@@ -101,7 +101,7 @@ fn play(alloc: Global, core: &mut Core, word: &str, number: u64) -> Result<Strin
     Ok(String::new(alloc))
 }
 
-// Returns what is shown of these steps.
+// Takes these steps, and returns what they show.
 fn play_all(alloc: Global, core: &mut Core, steps: &str) -> Result<String, AllocError> {
     let mut shown = String::new(alloc);
     for step in steps.split(',') {
@@ -112,17 +112,17 @@ fn play_all(alloc: Global, core: &mut Core, steps: &str) -> Result<String, Alloc
     Ok(shown)
 }
 
-// Returns what is shown of a row's steps, and how many events were recorded.
+// As above, and returns also the number of recorded events.
 fn played(alloc: Global, core: &mut Core, steps: &str) -> Result<String, AllocError> {
     let shown = play_all(alloc, core, steps)?;
     format!(in alloc; "{shown}{}", core.events().len())
 }
 
-// Steps, and what is shown of them. A flush takes what ended before it. A FUA write is queued when
-// it ends, failed or not. It follows an older write or discard of its sector, and is before those
-// of other sectors. A busy core isn't closed. Nothing is queued after a stop. For two flushes, the
-// one that ends first takes what ended before it, also if it has data. Recording goes on after a
-// take. A mark waits for nothing.
+// Steps, and after `=` what they show. A flush takes what ended before it. A FUA write is queued
+// when it ends, failed or not. It comes after an older write or discard of its sector, and before
+// those of other sectors. A busy core isn't closed. Nothing is queued after a stop. Of two flushes,
+// the one that ends first takes what ended before it was submitted, also if it has data. Recording
+// goes on after a take. A mark waits for nothing.
 const ROWS: &str =
     "write 10,write 20,write 30,end 2,end 1,flush,end 0,end 5,close,take=2 30+1 0;1 20+1 0;5 0+0 1;0 10+1 0;8 0+0 8;9
 fua 5,fail 0,take,take=0 5+1 2;2
@@ -149,21 +149,21 @@ fn steps_are_answered(rt: HostRuntime) -> Result<(), Fail> {
     Ok(())
 }
 
-// Returns the place of what is taken next.
+// Takes the next entry, and returns its id.
 fn next_place(core: &mut Core) -> Option<u64> {
     let (id, _entry) = core.take()?;
     Some(id.place())
 }
 
-// Submits a write of this sector, and ends it.
+// Submits a write of sector `sector`, and ends it.
 fn write_one(alloc: Global, core: &mut Core, sector: u64, flags: u64) -> Result<(), AllocError> {
     let place = place_of(core.submit(&write(alloc, sector, 512, flags)?)?);
     end(core, place, true);
     Ok(())
 }
 
-// When 8,192 writes wait, a FUA write takes the one of its sector. Over another sector it takes
-// none.
+// When 8,192 writes wait, a FUA write takes the one of the same sector with it, or none if no write
+// of that sector waits.
 fn check_many(rt: &impl Abort, alloc: Global, core: &mut Core) -> Result<(), Fail> {
     for sector in 0..8192 {
         write_one(alloc, core, sector, 0)?;
@@ -182,7 +182,7 @@ fn one_of_many_is_taken(rt: HostRuntime) -> Result<(), Fail> {
     check_many(&rt, rt.alloc(), &mut Core::new(rt.alloc())?)
 }
 
-// Returns a request of the mix; flushes, and writes with flush, only if they are asked for.
+// Returns a request of the mix. Only with `flushes` it may be a flush, or a write with flush.
 fn mixed(alloc: Global, random: u64, flushes: bool) -> Result<Bio, AllocError> {
     match random % 4096 {
         0..64 if flushes => Ok(Bio::Flush),
@@ -196,7 +196,7 @@ fn mixed(alloc: Global, random: u64, flushes: bool) -> Result<Bio, AllocError> {
     }
 }
 
-// Submits a number of requests of the mix, and ends some of the open ones, so that at most 200 stay
+// Submits `count` requests of the mix, and ends some of the open ones, so that at most 200 stay
 // open.
 fn submit_mixed(
     alloc: Global,
@@ -235,7 +235,7 @@ fn record_mix(alloc: Global, core: &mut Core) -> Result<(), Fail> {
     Ok(())
 }
 
-// Sets ten thousand marks.
+// Records ten thousand marks.
 fn mark_often(alloc: Global, core: &mut Core) -> Result<(), Fail> {
     let text = Bytes::from_vec(vec![in alloc; 65; 512]?);
     for _ in 0..10_000 {
@@ -244,7 +244,8 @@ fn mark_often(alloc: Global, core: &mut Core) -> Result<(), Fail> {
     Ok(())
 }
 
-// No request of a long mix is refused, with 200 open at a time and many waiting, and all are taken.
+// In a long mix, with 200 requests open at a time and many waiting, none is refused, and all
+// entries are taken.
 fn check_mix(rt: &impl Abort, alloc: Global, core: &mut Core) -> Result<(), Fail> {
     record_mix(alloc, core)?;
     assert!(rt; core.events().len() == 58_001);

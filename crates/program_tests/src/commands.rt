@@ -13,8 +13,8 @@ use test_devices::{Folder, OneFile, holds, is_told};
 // A script of a write, a flush and a close.
 const FIRST: &str = "data 16\nlog 32\nw a 5 1 41\nc a\nf b\nc b\nclose\n";
 
-/// Returns what a command line, after the program's name, prints for a folder's files: its status,
-/// its output and its faults, separated by `|`. A line feed is shown as `;`.
+/// Executes a command line, which is given without the program's name, with these files. Returns
+/// its status, its output and its faults, separated by `|`, with `;` for each line feed.
 pub fn output_of<F: Files>(
     rt: &(impl Threads + Wait + Sync),
     alloc: Global,
@@ -72,7 +72,8 @@ const OUTPUTS: &str = "record script log=a ok;b ok;3 4;
 list log=super version 1 entries 3 sectorsize 512;0 @1 write 5+1;1 @3 flush;2 @4 mark dm-log-writes-end;
 status log=3 4;";
 
-// Checks that a command line prints this output, or a lack of memory.
+// Checks that a command line is done and prints this output; or that it fails, and reports nothing,
+// a lack of memory or an unusable file.
 fn check_output<F: Files>(
     rt: &(impl Abort + Print + Threads + Wait + Sync),
     alloc: Global,
@@ -92,7 +93,7 @@ fn check_output<F: Files>(
     Ok(())
 }
 
-// As above, for each of these.
+// As above, for each row of `OUTPUTS`.
 fn check_outputs<F: Files>(
     rt: &(impl Abort + Print + Threads + Wait + Sync),
     alloc: Global,
@@ -105,14 +106,15 @@ fn check_outputs<F: Files>(
     Ok(())
 }
 
-// If an allocation fails (`rt try --test --fail-alloc N`), the output says so and has no answer.
+// If an allocation fails (`rt try --test --fail-alloc N`), the command fails, and no other fault is
+// reported.
 #[test]
 fn shows_want_of_memory(rt: HostRuntime) -> Result<(), Fail> {
     let mut folder = folder_of(rt.alloc(), FIRST)?;
     check_outputs(&rt, rt.alloc(), &mut folder)
 }
 
-// Returns the log of the first script, recorded in its folder.
+// Records the script in a folder, and returns the log.
 fn log_of(
     rt: &(impl Threads + Wait + Sync),
     alloc: Global,
@@ -122,7 +124,7 @@ fn log_of(
     Ok(Vec::from_slice(alloc, folder.bytes("log").unwrap_or_default())?)
 }
 
-// Checks that a command line ends with this status.
+// Checks that a command line ends with a status.
 fn check_status<F: Files>(
     rt: &(impl Abort + Print + Threads + Wait + Sync),
     alloc: Global,
@@ -192,7 +194,7 @@ fn tells_a_fault_in_one_write(rt: HostRuntime) {
     assert!(rt; ended.exit.status() == 1 && session.err.writes == 1);
 }
 
-// Rows of the page: the exit statuses, and numbers and names of refusals.
+// Rows of the page of the formats: the exit statuses, and numbers and names of refusals.
 const ROWS: &str = "| 0 | done |
 | 1 | refused: a line on standard error says by which number and name;
 | 2 | the command line isn't one of the program's |
@@ -210,7 +212,7 @@ const ROWS: &str = "| 0 | done |
 | 33 | PastEntries |
 | 34 | BadMoment |";
 
-// Returns a session over a file of no bytes.
+// Returns a session with an empty file.
 fn session_of_nothing(alloc: Global) -> Session<OneFile<'static>, Vec<u8>, Vec<u8>> {
     Session {
         alloc,
@@ -221,7 +223,7 @@ fn session_of_nothing(alloc: Global) -> Session<OneFile<'static>, Vec<u8>, Vec<u
     }
 }
 
-// The page of the formats is printed as it is (`bench/outside.py` compares it with
+// The page of the formats is printed unchanged (`bench/outside.py` compares it with
 // docs/FORMATS.md).
 #[test]
 fn prints_the_formats(rt: HostRuntime) {
@@ -241,7 +243,7 @@ fn check_page(rt: &(impl Abort + Print), page: &str) {
     }
 }
 
-// A command line without a word isn't one of the program's.
+// A command line without words isn't one of the program's.
 #[test]
 fn shows_help_where_no_word_is_given(rt: HostRuntime) {
     let mut session = session_of_nothing(rt.alloc());
@@ -250,7 +252,7 @@ fn shows_help_where_no_word_is_given(rt: HostRuntime) {
     assert!(rt; ended.exit.status() == 2 && session.out.is_empty() && !session.err.is_empty());
 }
 
-// Returns the status of a word that can't be read for this reason.
+// Returns the exit status if the words can't be read for a reason of this kind.
 fn refused(alloc: Global, kind: io::ErrorKind, err: &mut Vec<u8>) -> u8 {
     refuse(alloc, io::Error::from(kind), err)
 }
@@ -266,7 +268,7 @@ fn refuses_unreadable_words(rt: HostRuntime) {
     assert!(rt; err.as_slice() == shown.as_bytes());
 }
 
-// Checks the reasons that are printed for files.
+// Checks the reasons that `--explain` prints for files that can't be read.
 fn check_reasons<F: Files>(
     rt: &(impl Abort + Print + Threads + Wait + Sync),
     alloc: Global,
@@ -289,7 +291,7 @@ fn check_reasons<F: Files>(
     Ok(())
 }
 
-// The system's reason for a file.
+// The system's reasons are printed.
 #[test]
 fn explains_files(rt: HostRuntime) -> Result<(), Fail> {
     let mut files = HostFiles::new(&rt, rt.alloc());

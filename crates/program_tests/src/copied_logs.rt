@@ -1,5 +1,5 @@
-// On generated scripts: each prefix of a copied log replays to the same content as that prefix of
-// the log.
+// Tests on generated scripts: each prefix of a copied log replays to the same content as the same
+// prefix of the old log.
 use crate::crashed_logs::{SECTORS, Sizes, log_of, script_of};
 use bio::SectorSize;
 use blockdev::BlockDev;
@@ -13,7 +13,7 @@ use std::process::Abort;
 use std::test::Fail;
 use test_devices::is_same;
 
-// Logs with sectors of 512 bytes, in which each request is whole sectors of 4,096 bytes.
+// Logs with sectors of 512 bytes, in which each request covers whole sectors of 4,096 bytes.
 const WIDE: Sizes = Sizes {
     log: SectorSize::B512,
     unit: 8,

@@ -1,6 +1,6 @@
-// Generated scripts under layers, crashed at each of their lines. The log that is found lists with
-// no fault. Each prefix of it replays to an image that the judge allows at one of the moments at
-// least.
+// Tests on generated scripts under layers, which crash at each of their lines. The log that is left
+// is listed without a fault. Each prefix of it replays to an image that the judge allows at one
+// moment at least.
 use crate::commands::{folder_of, output_of};
 use std::alloc::{AllocError, Global};
 use std::io::Print;
@@ -10,7 +10,8 @@ use std::test::Fail;
 use std::thread::Threads;
 use test_devices::{Folder, Numbers, holds};
 
-// The heads of scripts: their disks, and layers that fail calls and never lie.
+// The heads of scripts: disks, layers that may fail or drop calls, and messages. No layer of a log
+// lies.
 const HEADS: [&str; 7] = [
     "data 6\nlog 40\n",
     "data 6\nlog 40\nlog-layer 0 40 fuse disk 0 9\n",
@@ -21,12 +22,12 @@ const HEADS: [&str; 7] = [
     "data 6\nlog 12\nlog-layer 0 12 fuse disk 0 30\nlog-layer 0 11 linear disk 0\n",
 ];
 
-// The number of sectors that a script's requests use, and of its lines after its head.
+// The number of sectors that a script's requests use, and the number of lines after its head.
 const SECTORS: u64 = 6;
 
 const LINES: u64 = 12;
 
-// Returns a line that submits the request of a number.
+// Returns a line that submits the request with the id `id`.
 fn submission(alloc: Global, numbers: &mut Numbers, id: u64) -> Result<String, AllocError> {
     let first = numbers.below(SECTORS);
     let options = match numbers.below(6) {
@@ -45,7 +46,7 @@ fn submission(alloc: Global, numbers: &mut Numbers, id: u64) -> Result<String, A
     }
 }
 
-// Returns the next line of a script, when these requests are open.
+// Returns the next line of a script, if the requests in `open` are open.
 fn next_line(
     alloc: Global,
     numbers: &mut Numbers,
@@ -78,7 +79,7 @@ fn lines_of(alloc: Global, numbers: &mut Numbers) -> Result<Vec<String>, AllocEr
     Ok(lines)
 }
 
-// Returns a script up to one of its lines, and a crash there.
+// Returns a script with only its first lines, and a crash after them.
 fn crashed(
     alloc: Global,
     numbers: &mut Numbers,
@@ -103,7 +104,7 @@ fn push_crash(alloc: Global, numbers: &mut Numbers, text: &mut String) -> Result
     Ok(())
 }
 
-// What was seen of all cases.
+// The counts of all cases.
 #[derive(Debug, Drop)]
 struct Seen {
     // The logs that were found after a crash, and their prefixes.
@@ -135,7 +136,7 @@ fn folder_with_zeroes(alloc: Global, script: &str) -> Result<Folder, AllocError>
     Ok(folder)
 }
 
-// Replays `entries` entries of the log, and judges the result.
+// Replays the first `count` entries of the log, and judges the image.
 fn judge_beginning(
     rt: &(impl Abort + Print + Threads + Wait + Sync),
     alloc: Global,
@@ -150,7 +151,7 @@ fn judge_beginning(
     Ok(())
 }
 
-// Records a script that ends by a crash. Replays and judges each prefix of the log that is found.
+// Records a script that ends with a crash. Replays and judges each prefix of the log that is left.
 fn force(
     rt: &(impl Abort + Print + Threads + Wait + Sync),
     alloc: Global,

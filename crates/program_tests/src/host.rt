@@ -1,4 +1,4 @@
-// The system's files.
+// Tests of the system's files.
 ghost use Rattle.std.specs.Prelude.{◌<◌, ◌≤◌};
 
 use bio::Ms;
@@ -14,7 +14,8 @@ use std::{fs, io};
 // The most bytes that these tests read.
 const LIMIT: u64 = 1_000_000;
 
-// Returns a disk of `sectors` sectors of zeroes, except that one sector is filled with this byte.
+// Returns a disk of `sectors` sectors: sector `sector` is filled with `byte`, and the others are
+// zeroes.
 pub(crate) fn disk_with(
     alloc: Global,
     sectors: u64,
@@ -29,12 +30,12 @@ pub(crate) fn disk_with(
     Ok(disk)
 }
 
-// Returns a disk of one sector, which is filled with this byte.
+// Returns a disk of one sector, which is filled with `byte`.
 pub(crate) fn disk_of(alloc: Global, byte: u8) -> Result<SectorDisk, Fail> {
     disk_with(alloc, 1, 0, byte)
 }
 
-// Returns whether the file of a name has these bytes.
+// Returns whether the file `name` has these bytes.
 pub(crate) fn holds<R: std::rt::Files>(
     runtime: &R,
     alloc: Global,
@@ -47,7 +48,7 @@ pub(crate) fn holds<R: std::rt::Files>(
     }
 }
 
-// Returns whether an image is these bytes.
+// Returns whether an image has these bytes.
 pub(crate) fn has_bytes(alloc: Global, image: &Image, bytes: &[u8]) -> bool {
     match image.to_vec(alloc) {
         Ok(read) => read.as_slice() == bytes,
@@ -55,7 +56,7 @@ pub(crate) fn has_bytes(alloc: Global, image: &Image, bytes: &[u8]) -> bool {
     }
 }
 
-// A file is replaced by a shorter one, and read if it isn't too long.
+// Checks that a file is replaced by a shorter one, and that it is read unless it is too long.
 fn check_lengths<F: Files>(
     rt: &impl Abort,
     alloc: Global,
@@ -70,8 +71,8 @@ fn check_lengths<F: Files>(
     Ok(())
 }
 
-// The image of a disk is written and read again. It has several pieces, with zeroes before and
-// after the one sector that has this byte.
+// Checks that the image of a disk is written, and reads back the same. It has several pieces. All
+// bytes are zeroes, except for one sector that is filled with `byte`.
 fn check_written<F: Files>(
     rt: &impl Abort,
     alloc: Global,
@@ -90,7 +91,8 @@ fn check_written<F: Files>(
     Ok(())
 }
 
-// Zeroes are there before, between and after what was written, though none was written.
+// Checks that an image has its zeroes before, between and after other bytes, though zeroes aren't
+// written.
 fn check_zeroes<F: Files>(
     rt: &impl Abort,
     alloc: Global,
@@ -104,8 +106,8 @@ fn check_zeroes<F: Files>(
     check_written(rt, alloc, files, name, 1499, 7)
 }
 
-// Nothing else is left next to a file that was written. A file that doesn't exist, or has no
-// folder, is refused.
+// Checks that a write leaves no other file in the folder. A file that doesn't exist, or whose
+// folder doesn't exist, is refused.
 fn check_gone<R: std::rt::Files + Abort, F: Files>(
     rt: &R,
     alloc: Global,
@@ -155,7 +157,7 @@ fn mode_of<R: std::rt::Files>(runtime: &R, name: &str) -> io::Result<u32> {
     Ok(fs::metadata(runtime, name)?.permissions().mode() % 0o1000)
 }
 
-// A link stays, its target is replaced, and keeps its mode.
+// Checks that a link stays, and that its target is replaced and keeps its mode.
 fn check_link<R: std::rt::Files + Abort, F: Files>(
     rt: &R,
     alloc: Global,
@@ -171,7 +173,7 @@ fn check_link<R: std::rt::Files + Abort, F: Files>(
     Ok(())
 }
 
-// A link that leads nowhere is refused, and a device is written as it is.
+// Checks that a link that leads to no file is refused, and that a device is written directly.
 fn check_links<R: std::rt::Files + Abort, F: Files>(
     rt: &R,
     alloc: Global,
@@ -200,7 +202,7 @@ fn links_and_modes_are_kept(rt: HostRuntime) -> Result<(), Fail> {
     )
 }
 
-// Somebody else's file next to a file that is written stays.
+// Checks that a write doesn't change another program's file in the same folder.
 fn check_beside<R: std::rt::Files + Abort, F: Files>(
     rt: &R,
     alloc: Global,
@@ -221,8 +223,8 @@ fn files_beside_are_kept(rt: HostRuntime) -> Result<(), Fail> {
     check_beside(&rt, rt.alloc(), &mut HostFiles::new(&rt, rt.alloc()))
 }
 
-// A file in the machine's memory is a file like any other: it is replaced, though its name begins
-// with /dev/.
+// A file of a file system in memory is a regular file: it is replaced, though its name begins with
+// /dev/.
 #[test]
 fn files_in_memory_are_replaced(rt: HostRuntime) -> Result<(), Fail> {
     let alloc = rt.alloc();

@@ -1,4 +1,4 @@
-//! Layers under the log that fail calls, and what the log then has.
+//! Tests of logs on a disk under layers that fail calls.
 use crate::commands::{folder_of, output_of};
 use dmlw_files::Files;
 use std::alloc::Global;
@@ -9,7 +9,7 @@ use std::test::Fail;
 use std::thread::Threads;
 use test_devices::holds;
 
-// The log of a whole run of the script below, as it is listed after its first line.
+// The entries of the log that a whole run of the script below leaves, as they are listed.
 const WHOLE: &str = "0 @1 write 5+1;1 @3 flush;2 @4 mark dm-log-writes-end;";
 
 const LOWER: [&str; 4] = [
@@ -26,7 +26,7 @@ fn layered(alloc: Global, first: &str, second: &str, calls: u64) -> Result<Strin
     )?)
 }
 
-// Returns whether the listing of a log is its first line and a prefix of the whole list.
+// Returns whether a listing has its first line and then a prefix of the whole list.
 fn is_beginning(listed: &str) -> bool {
     match listed.split_once(';') {
         Some((_super, entries)) => WHOLE.starts_with(entries),
@@ -34,7 +34,7 @@ fn is_beginning(listed: &str) -> bool {
     }
 }
 
-// Checks that under these two layers and a fuse of `calls` calls the listing is a prefix.
+// Checks that the log under these two layers and a fuse of `calls` calls lists a prefix.
 fn check_layers(
     rt: &(impl Abort + Print + Threads + Wait + Sync),
     alloc: Global,
@@ -48,8 +48,8 @@ fn check_layers(
     Ok(())
 }
 
-// Each layer over each, and a fuse of 0 to 6 calls over both: if a log could be made, its entries
-// are a prefix of the list.
+// Each layer over each other layer, and a fuse of 0 to 6 calls over both: if the log could be made,
+// its entries are a prefix of the whole list.
 #[test]
 fn layers_leave_beginnings(rt: HostRuntime) -> Result<(), Fail> {
     let alloc = rt.alloc();
@@ -63,8 +63,8 @@ fn layers_leave_beginnings(rt: HostRuntime) -> Result<(), Fail> {
     Ok(())
 }
 
-// Returns the listing of the log that a script leaves. If its device can't be written and it leaves
-// no log, returns the whole list.
+// Records a script, and returns the listing of its log. If the log couldn't be made, returns the
+// whole list.
 fn listed_of(
     rt: &(impl Threads + Wait + Sync),
     alloc: Global,

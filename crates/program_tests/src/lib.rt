@@ -1,6 +1,7 @@
-//! Tests of the program that only code can make. They are of the system's files, lack of memory,
-//! sizes that no file of a test has, and generated scripts. They are also of public calls that no
-//! command shows whole. What a command prints and writes is tested by a transcript (`transcripts`).
+//! Tests of the program that only code can make: with the system's files, with lack of memory, with
+//! sizes that no file of a test has, and with generated scripts. Also tests of public functions
+//! whose results no command shows as a whole. Transcripts (`transcripts`) test what a command
+//! prints and writes.
 #![tactic(auto)]
 
 #[cfg(test)]

@@ -9,7 +9,7 @@ use std::process::Abort;
 use std::test::Fail;
 use test_devices::rows_are_told;
 
-// Returns the text of a script of these lines.
+// Returns the text of a script with these lines after its first line.
 fn text_of(alloc: Global, lines: &str) -> Result<String, AllocError> {
     let mut text = String::from_str(alloc, "data 16\n")?;
     for line in lines.split(",") {
@@ -19,13 +19,13 @@ fn text_of(alloc: Global, lines: &str) -> Result<String, AllocError> {
     Ok(text)
 }
 
-// Runs the script of a text, and returns what it prints, and how it ended.
+// Records the script of a text. Returns what it prints, and how it ended.
 fn run_text(rt: &impl Abort, alloc: Global, text: &str) -> Result<String, Fail> {
     let script = read_script(alloc, text.as_bytes())?;
     told(rt, alloc, text, &script)
 }
 
-// As above, for the script.
+// As above, for a parsed script.
 fn told(rt: &impl Abort, alloc: Global, text: &str, script: &Script) -> Result<String, Fail> {
     let mut out = Vec::new(alloc);
     let done = record(alloc, text.as_bytes(), script, &mut out);
@@ -34,7 +34,7 @@ fn told(rt: &impl Abort, alloc: Global, text: &str, script: &Script) -> Result<S
     Ok(format!(in alloc; "{out}{ended}")?)
 }
 
-// Returns how a run ended whose log has `sectors` sectors: the status, or the fault.
+// Returns the result of a run, whose log has `sectors` sectors, as text: the status or the fault.
 fn ended_text(
     rt: &impl Abort,
     alloc: Global,
@@ -50,7 +50,7 @@ fn ended_text(
     }
 }
 
-// The image has the log disk's size, and the status is returned.
+// Scripts are recorded: the image has the size of the log's disk, and the status is returned.
 #[test]
 fn scripts_are_run(rt: HostRuntime) -> Result<(), Fail> {
     let alloc = rt.alloc();
@@ -62,8 +62,8 @@ fn scripts_are_run(rt: HostRuntime) -> Result<(), Fail> {
     Ok(())
 }
 
-// Scripts of the same form, with the number of events they leave, or the fault. A Close ends
-// recording and a Stop ends logging, and later lines leave no event.
+// Scripts of the same form, and after `=` the number of events that they leave, or the fault. A
+// Close ends recording and a Stop ends logging; later lines leave no event.
 const REHEARSALS: &str = "log 32,r 5 1,turn,at 7=0
 log 32,w a 5 1 41,c a,f b,c b,close=5
 log 32,w a 5 1 41,c a,d b 4 1,mark here,c b=5
@@ -73,7 +73,7 @@ log 32,close,close,mark late=1
 log 32,w a 5 1 41,c a,w b 6 1 42,close=line 6: 24 Busy
 log 32,log-layer 0 32 error,w a 5 1 41=19 Device";
 
-// Returns the number of events that a rehearsal of the script of a text leaves, or how it fails.
+// Rehearses the script of a text. Returns the number of its events, or the fault, as text.
 fn rehearsed(alloc: Global, text: &str) -> Result<String, Fail> {
     match count_events(alloc, text)? {
         Ok(count) => Ok(count.to_string(alloc)?),
@@ -81,7 +81,7 @@ fn rehearsed(alloc: Global, text: &str) -> Result<String, Fail> {
     }
 }
 
-// As above, as a number and an error.
+// As above, but returns a number or an error.
 fn count_events(alloc: Global, text: &str) -> Result<Result<usize, RunError>, Fail> {
     let script = read_script(alloc, text.as_bytes())?;
     let rehearsed = events_of_run(alloc, text.as_bytes(), &script);

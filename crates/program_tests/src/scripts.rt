@@ -1,4 +1,5 @@
-//! What a script and a table's line are parsed as, field by field, and texts of any length.
+//! Tests of what a script and a table line are parsed as, field by field, and of texts of any
+//! length.
 use dmlw_script::{print_script, *};
 use std::alloc::{AllocError, Global};
 use std::io::Print;
@@ -15,7 +16,7 @@ fn answer(alloc: Global, text: &[u8]) -> Result<String, AllocError> {
     }
 }
 
-// Returns a script as its text.
+// Returns the canonical text of a script.
 fn printed(alloc: Global, script: &Script) -> Result<String, AllocError> {
     match String::from_utf8(print_script(alloc, script)?) {
         Ok(text) => Ok(text),
@@ -23,8 +24,8 @@ fn printed(alloc: Global, script: &Script) -> Result<String, AllocError> {
     }
 }
 
-// Returns the sizes of a script's disks, its names and its number of commands. Also returns the
-// lines of its text that have the last command and the one after it.
+// Returns the sizes of a script's disks, its names and its number of commands, as text; also the
+// numbers of the lines that have command 4 and command 5, counted from 0.
 fn parts_of(alloc: Global, text: &[u8], script: &Script) -> Result<String, AllocError> {
     let mut names = String::new(alloc);
     for name in script.names() {
@@ -62,7 +63,7 @@ fn first_run(rt: HostRuntime) -> Result<(), Fail> {
     check_parts(&rt, alloc, text, &script, "16 32 a1 b1 5 Some(10) None")
 }
 
-// The picks of a crash, and its line, which no command has.
+// A crash has picks. Its line is no command.
 #[test]
 fn crashes_end_scripts(rt: HostRuntime) -> Result<(), Fail> {
     let alloc = rt.alloc();
@@ -72,7 +73,7 @@ fn crashes_end_scripts(rt: HostRuntime) -> Result<(), Fail> {
     Ok(())
 }
 
-// Checks that a script of one command ends by a crash with these picks.
+// Checks that a script has one command, and ends with a crash with these picks.
 fn check_crash(rt: &impl Abort, script: &Script, wanted: &[u64]) {
     let picks = script.crash().expect(rt, "a crash");
     assert!(rt; picks == wanted && script.commands().len() == 1);
@@ -169,7 +170,7 @@ fn script_of_messages(alloc: Global) -> Result<String, AllocError> {
     Ok(text)
 }
 
-// A message's disk, its layer and its text, of any length.
+// A message keeps its disk, its layer and its text, of any length.
 #[test]
 fn messages_keep_their_words(rt: HostRuntime) -> Result<(), Fail> {
     let text = script_of_messages(rt.alloc())?;
@@ -196,7 +197,7 @@ fn disks_read(alloc: Global, text: &[u8]) -> Result<String, Fail> {
     disks_of(alloc, &read_script(alloc, text)?)
 }
 
-// A script with a layer over each disk, and the disks that are parsed.
+// A script may have a layer over each disk.
 #[test]
 fn disks_have_layers(rt: HostRuntime) -> Result<(), Fail> {
     let text = b"data 16\nlog 32\n\ndata-layer 0 8 linear disk 4\nlog-layer 0 9 error\nat 7\nf a\n";
@@ -206,8 +207,8 @@ fn disks_have_layers(rt: HostRuntime) -> Result<(), Fail> {
     Ok(())
 }
 
-// A line, and each field of what it is parsed as. A name is printed for each target, followed by
-// the target's fields.
+// Table lines, and after `=` the fields that each is parsed as: the target's name is followed by
+// its fields.
 const VALUES: &str = "0 16 linear a 8=LayerSpec { length: 16, offset: 8, target: Linear }
 0 7 error=LayerSpec { length: 7, offset: 0, target: Error }
 0 9 fuse b 2 3=LayerSpec { length: 9, offset: 2, target: Fuse { calls: 3 } }
@@ -231,7 +232,7 @@ fn values(rt: HostRuntime) -> Result<(), Fail> {
 const ERRORS: &str =
     "no target of this name\ntoo many words, or too few\na word that is no number\na value out of its range\nno such feature";
 
-// Each error is shown in different words.
+// Each error is printed in different words.
 #[test]
 fn errors_are_shown(rt: HostRuntime) -> Result<(), Fail> {
     let shown = format!(in rt.alloc();

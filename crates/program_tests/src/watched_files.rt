@@ -1,5 +1,5 @@
-// How the system's files are written: their content, and the order of the calls. How a file is read
-// that gives its bytes once, or a few at a time.
+// Tests of the system's files: the bytes that are written, the order of the calls, and files that
+// give their bytes only once, or a few at a time.
 use crate::host::{disk_with, has_bytes, holds};
 use dmlw_files::{FileError, FileFailure, Files, HostFiles};
 use sector_disk::Image;
@@ -12,7 +12,7 @@ use std::process::Abort;
 use std::test::Fail;
 use std::{fs, io};
 
-// The call that a runtime fails.
+// The kind of call that a runtime fails.
 #[derive(Clone, Copy, PartialEq, Eq)]
 enum Failing {
     Nothing,
@@ -23,13 +23,13 @@ enum Failing {
     Rename,
 }
 
-// The calls of a runtime's files.
+// What a runtime notes about the calls of its files.
 #[derive(Drop)]
 struct Noted {
     failing: Failing,
     // Whether a file was changed since it was synced.
     is_changed: Cell<bool>,
-    // Whether a file got another file's name before it was synced.
+    // Whether a file was renamed before it was synced.
     is_early: Cell<bool>,
     renames: Cell<u64>,
     // The number of bytes that were written.
@@ -47,7 +47,7 @@ impl Noted {
         }
     }
 
-    // Fails the call that has to fail.
+    // Fails a call, if it is of the kind that has to fail.
     fn passes(&self, call: Failing) -> io::Result<()> {
         if self.failing == call {
             return Err(io::Error::from(io::ErrorKind::Other));
@@ -56,10 +56,10 @@ impl Noted {
     }
 }
 
-// The most bytes that a file of the runtime below gives at a time.
+// The most bytes that a file of the runtime below gives in one read.
 const SHORT: usize = 1000;
 
-// A runtime that notes the calls of its files. A file whose name ends with `-pipe` is no regular
+// A runtime that notes the calls of its files. A file whose name ends with `-pipe` isn't a regular
 // file, and is empty after it was opened.
 #[derive(Drop)]
 struct Watched<'a, R: std::rt::Files> {
@@ -198,9 +198,9 @@ impl<'a, R: std::rt::Files> std::rt::Files for Watched<'a, R> {
     }
 }
 
-// Writes the image of a disk, of three pieces, over an older file, and returns whether this
-// succeeded. The first and the last piece are zeroes. An older file that isn't replaced stays, and
-// nothing else is left.
+// Writes the image of a disk over an older file, and returns whether that succeeded. The image has
+// three pieces; the first and the last are zeroes. If it fails, the older file must stay. No
+// temporary file may be left.
 fn check_written<R: std::rt::Files + Abort>(
     rt: &R,
     alloc: Global,
@@ -225,8 +225,8 @@ fn check_written<R: std::rt::Files + Abort>(
     Ok(written.is_ok())
 }
 
-// A file is on the disk before it gets the name of the older one, and gets it once. Pieces of
-// zeroes aren't written.
+// The new file is synced before it is renamed, and is renamed once. Pieces of zeroes aren't
+// written.
 #[test]
 fn files_are_synced_before_they_are_renamed(rt: HostRuntime) -> Result<(), Fail> {
     let noted = Noted::new(Failing::Nothing);
@@ -252,7 +252,7 @@ fn files_that_fail_leave_the_older_ones(rt: HostRuntime) -> Result<(), Fail> {
     Ok(())
 }
 
-// A pipe whose writes fail is reported.
+// Checks that a failed write to a pipe is reported.
 fn check_failing_pipe<R: std::rt::Files + Abort>(rt: &R, alloc: Global) -> Result<(), Fail> {
     let name = "dmlw-test-failing-pipe";
     fs::write(rt, name, b"".as_slice())?;
@@ -272,8 +272,8 @@ fn pipes_that_fail_are_reported(rt: HostRuntime) -> Result<(), Fail> {
     check_failing_pipe(&rt, rt.alloc())
 }
 
-// Another name of an older file still has its bytes: the file was replaced, and neither cut off nor
-// overwritten.
+// Checks that the old bytes are still found by another name of the old file: the file was replaced,
+// and not truncated or overwritten.
 fn check_replaced<R: std::rt::Files + Abort>(
     rt: &R,
     alloc: Global,
@@ -295,7 +295,7 @@ fn files_are_replaced_whole(rt: HostRuntime) -> Result<(), Fail> {
     check_replaced(&rt, rt.alloc(), "dmlw-test-one", "dmlw-test-other")
 }
 
-// Returns whether a file was read as these bytes.
+// Returns whether a read returned these bytes.
 fn is_read(alloc: Global, found: Result<Image, FileError>, bytes: &[u8]) -> bool {
     match found {
         Ok(read) => has_bytes(alloc, &read, bytes),
@@ -303,7 +303,7 @@ fn is_read(alloc: Global, found: Result<Image, FileError>, bytes: &[u8]) -> bool
     }
 }
 
-// The bytes that were read from two pipes are found again, though both are empty.
+// Checks that the bytes of two pipes can be read again, though both pipes are empty then.
 fn check_pipes<R: std::rt::Files + Abort>(rt: &R, alloc: Global) -> Result<(), Fail> {
     let (one, other) = ("dmlw-test-one-pipe", "dmlw-test-one-pipe-other-pipe");
     fs::write(rt, one, b"first".as_slice())?;
@@ -331,7 +331,7 @@ fn pipes_are_read_again(rt: HostRuntime) -> Result<(), Fail> {
     check_pipes(&rt, rt.alloc())
 }
 
-// A regular file is read anew each time.
+// A regular file is read again each time.
 #[test]
 fn regular_files_are_read_anew(rt: HostRuntime) -> Result<(), Fail> {
     let alloc = rt.alloc();
@@ -345,8 +345,8 @@ fn regular_files_are_read_anew(rt: HostRuntime) -> Result<(), Fail> {
     Ok(())
 }
 
-// A pipe of 4 MiB can be read again. A longer one, or one that was too long for its first read,
-// can't.
+// Checks that a pipe of 4 MiB can be read again. A longer pipe can't, and neither can one that was
+// too long for its first read.
 fn check_long_pipes<R: std::rt::Files + Abort>(rt: &R, alloc: Global) -> Result<(), Fail> {
     let most = "dmlw-test-most-pipe";
     let long = "dmlw-test-long-pipe";
@@ -385,7 +385,7 @@ fn long_pipes_are_read_once(rt: HostRuntime) -> Result<(), Fail> {
     check_long_pipes(&rt, rt.alloc())
 }
 
-// Returns whether a read failed because its file gives its bytes once.
+// Returns whether a read failed because its file can be read only once.
 fn is_unseekable(failure: Option<&FileFailure>) -> bool {
     match failure {
         Some(FileFailure::Read(error)) => error.kind() == io::ErrorKind::NotSeekable,

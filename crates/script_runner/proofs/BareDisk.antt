@@ -1,4 +1,4 @@
--- Why no log is made on a disk under no layers.
+-- Making a log on a disk without layers fails only for lack of memory.
 use Rattle.std.proofs.Common.{◌≡◌, ◌∙◌, ℕ, true, List, [], Err, Result, ap, refl, subst}
 use Rattle.bio.specs.Causes.{end_cause}
 use Rattle.bio.specs.declared.outcome.DevError.{DevError}

@@ -1,4 +1,4 @@
--- Each line keeps the log written where recording is closed.
+-- If recording is closed, the whole completion list is placed: each line keeps this.
 use Rattle.std.proofs.Common.{◌≡◌, ◌∙◌, ℕ, Bool, true, false, not, ◌&&◌, Option, Some, None, List}
 use Rattle.std.proofs.Common.{[], ◌∷◌, ◌++◌, Result, Ok, Err, length, ap, refl, sym, inl, inr}
 use Rattle.std.proofs.Common.{arith}

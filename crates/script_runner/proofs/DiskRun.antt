@@ -1,4 +1,4 @@
--- The start of a run on disks in memory, and what its log's disk holds at the end.
+-- How a run on disks in memory starts, and what its log's disk holds at the end.
 use Rattle.std.proofs.Common.{◌≡◌, ◌∙◌, ◌*◌, ◌+◌, ◌/◌, ◌<◌, ◌≤◌, ℕ, Option, None, Some, List, []}
 use Rattle.std.proofs.Common.{◌∷◌, false, length, take, refl, sym, ap, subst, arith}
 use Rattle.bio.specs.declared.outcome.Status.{Status}

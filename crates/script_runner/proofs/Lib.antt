@@ -1,4 +1,5 @@
--- The lemmas of `script_runner`; the proof of a function stands in the folder of its source file.
+-- The lemmas of `script_runner`. The proof of a function is in the folder named after its source
+-- file.
 mod PrintedLines
 mod LineSteps
 mod SubmitLines

@@ -1,4 +1,4 @@
--- What the lines of a script leave of the log.
+-- What the lines of a script do to the log.
 use Rattle.std.proofs.Common.{List, [], ◌∷◌, ◌≡◌, ◌∙◌, ap, length, ℕ, Bool, Option, Some, None, inl}
 use Rattle.std.proofs.Common.{inr, subst, sym}
 use Rattle.std.specs.Prelude.{is_ok, slice_get}

@@ -1,4 +1,4 @@
--- The moment of a run is that of its log's device.
+-- The calls of a run's data device and log's device begin at the same time.
 use Rattle.std.proofs.Common.{◌≡◌, ◌∙◌, ℕ, List, [], ◌∷◌, ap, subst, sym}
 use Rattle.blockdev.specs.declared.device.BlockDev.{Ghosts}
 use Rattle.dmlw_script.specs.declared.command.Command.{Command}

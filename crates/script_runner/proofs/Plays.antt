@@ -1,4 +1,4 @@
--- What playing a script comes to, from the run of its lines up to two disks in memory.
+-- What playing a script does: from running its lines to recording on two disks in memory.
 use Rattle.std.proofs.Common.{◌≡◌, ◌⊎◌, ℕ, List, Option, inl, inr, ap, subst, sym}
 use Rattle.std.specs.Prelude.{Bool, Err, IfOk, Ok, Result}
 use Rattle.bio.specs.Sizes.{bytes_of}

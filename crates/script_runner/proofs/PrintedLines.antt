@@ -1,4 +1,4 @@
--- What is printed.
+-- The printed names and outcomes are those that the specs define.
 use Rattle.std.proofs.Common.{◌≡◌, ◌∙◌, ℕ, zero, suc, ◌<◌, ◌==◌, Bool, true, false, Option, List}
 use Rattle.std.proofs.Common.{[], ◌∷◌, ◌++◌, encode_utf8_all, length, replicate, append_assoc, ap}
 use Rattle.std.proofs.Common.{arith, sym, subst, if◌then◌else◌}

@@ -1,4 +1,4 @@
--- What is read, and how it is printed.
+-- What a read's line reads and prints.
 use Rattle.std.proofs.Common.{◌≡◌, ◌∙◌, ℕ, ◌+◌, ◌*◌, ◌<◌, ◌≤◌, List, ◌++◌, Option, Some, None, Ok}
 use Rattle.std.proofs.Common.{add-one, append_assoc, drop, length, take, ap, arith, subst, sym}
 use Rattle.std.specs.Prelude.{codes, decimal, option_map, slice_index_or}

@@ -1,4 +1,4 @@
--- A script's lines one after another.
+-- What a script's lines do one after another.
 use Rattle.std.proofs.Common.{◌≡◌, ◌∙◌, ℕ, suc, ◌+◌, ◌<◌, Option, inl, inr, List, [], ◌∷◌, ◌++◌}
 use Rattle.std.proofs.Common.{drop, length, slice_index_or, take, add-one, ap, arith, sym, subst}
 use Rattle.std.proofs.Math.Seq.{drop-cons, take-suc}

@@ -1,4 +1,4 @@
--- Steps one after another.
+-- Laws of `Chain`: steps one after another.
 use Rattle.std.proofs.Common.{◌≡◌, ◌∙◌, ℕ, List, [], ◌∷◌, ◌++◌, append_assoc, ap, refl, sym, subst}
 use Rattle.std.proofs.lemmas.List.{append-nil}
 use Rattle.script_runner.specs.Runs.{Chain}

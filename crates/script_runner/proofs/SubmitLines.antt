@@ -1,4 +1,4 @@
--- A line that submits a request, and the requests that fit a device.
+-- Lines that submit a request, and requests that fit a device.
 use Rattle.std.proofs.Common.{◌≡◌, ◌∙◌, ◌≤◌, ℕ, Bool, true, false, List, [], ◌∷◌, ◌++◌, Ok, Err, ap}
 use Rattle.std.proofs.Common.{arith, refl, subst, sym}
 use Rattle.std.specs.Prelude.{◌&&◌, IsTrue, if◌then◌else◌, is_ok, length, replicate, ◌*◌, ◌/◌, ◌%◌}

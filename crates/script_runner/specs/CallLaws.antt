@@ -1,16 +1,15 @@
--- Laws of what calls leave: what a writer holds after
--- several of them, and the error of one that failed.
+-- Laws about what a writer holds after several calls, and about the error of a failed call.
 use Rattle.std.proofs.Common.{◌∙◌, ℕ, List, ◌++◌, Option, None, Some, Result, Ok, Err, IfErr}
 use Rattle.std.proofs.Common.{append_assoc, ap, refl}
 use Rattle.std.specs.Result.{IsErrAnd}
 use Rattle.std.specs.Io.KnownBytes.{Appends, Keeps}
 
--- a writer that does nothing keeps what it holds
+-- A writer keeps what it holds if that stays the same.
 pub keeps_same : (known : Option (List ℕ)) → Keeps known known
 keeps_same None = tt
 keeps_same (Some bytes) = refl
 
--- what a writer holds grows twice
+-- If a writer appends `x`, and then `y`, it appended `x ++ y`.
 pub appends_twice : (a b c : Option (List ℕ)) (x y : List ℕ) → Appends a b x → Appends b c y
     → Appends a c (x ++ y)
 appends_twice None b c x y first second = tt
@@ -19,7 +18,7 @@ appends_twice (Some a) (Some b) None x y first second = absurd second
 appends_twice (Some a) (Some b) (Some c) x y first second =
     second ∙ ap (λ (z : List ℕ). z ++ y) first ∙ append_assoc a x y
 
--- what has grown is kept
+-- If a writer appends `x`, and then keeps what it holds, it appended `x`.
 pub appends_kept : (a b c : Option (List ℕ)) (x : List ℕ) → Appends a b x → Keeps b c
     → Appends a c x
 appends_kept None b c x first second = tt
@@ -27,14 +26,14 @@ appends_kept (Some a) None c x first second = absurd first
 appends_kept (Some a) (Some b) None x first second = absurd second
 appends_kept (Some a) (Some b) (Some c) x first second = second ∙ first
 
--- what is kept twice is kept
+-- If a writer keeps what it holds in two calls, it keeps that in both together.
 pub keeps_twice : (a b c : Option (List ℕ)) → Keeps a b → Keeps b c → Keeps a c
 keeps_twice None b c first second = tt
 keeps_twice (Some a) None c first second = absurd first
 keeps_twice (Some a) (Some b) None first second = absurd second
 keeps_twice (Some a) (Some b) (Some c) first second = second ∙ first
 
--- the error of a call that failed
+-- If a call failed with an error that has `Q`, and `Q` implies `P`, its error has `P`.
 pub on_error : {T E : Type 0} {Q P : E → Type 0} (r : Result T E) → IsErrAnd r Q
     → ((e : E) → Q e → P e) → IfErr r P
 on_error (Ok x) fails follows = absurd fails

@@ -1,4 +1,4 @@
--- The definitions that the contracts of `script_runner` are written in.
+-- The definitions of `script_runner`'s contracts.
 pub use Rattle.bio.specs.Check
 pub use Rattle.bio.specs.Lawful
 pub use Rattle.bio.specs.Sizes as LogSizes

@@ -1,5 +1,4 @@
--- What each line of a script does, from the run before it
--- (old) to the run after it (new), and what it prints.
+-- What each line of a script does to the run (`old` before it, `new` after it), and what it prints.
 use Rattle.recorder.specs.declared.reply.Turn.{Turn}
 use Rattle.recorder.specs.declared.reply.Turn.TheVariants as turns
 use Rattle.std.specs.Prelude.{◌≡◌, ◌⊎◌, ℕ, ◌<◌, Bool, true, false, List, [], ◌∷◌, ◌++◌, Option}
@@ -45,50 +44,53 @@ use Rattle.script_runner.specs.HandOver.{ReadsSectors, HandsOver}
 use Rattle.script_runner.specs.Submissions.{bio_of, is_asked}
 use Rattle.script_runner.specs.Texts.{mark_failed, read_line, outcome_line}
 
--- what the recorder answers to a submission that it doesn't refuse
+-- The recorder's reply to a submission that it doesn't refuse: the request is tracked by `id`, or
+-- passed.
 abbrev pub reply_of : Option ℕ → Reply
 reply_of (Some id) = replies.Tracked id
 reply_of None = replies.Passed
 
 -- ---- memory
 
--- Each line says whether memory ran out in it for what the lines ask for (`short`): from then on
--- the run is short. A request that there was no memory to submit is kept as one that wasn't asked.
+-- A run is `short` from the first line on in which memory ran out for what the line asks for. There
+-- are two exceptions: a request without memory for its submission is kept as `NotAsked`, and a read
+-- without memory prints that it failed.
 
--- the data device's answer to a call is that it had no memory
+-- The data device answered that it had no memory.
 abbrev pub is_starved : Result ℕ DevError → Bool
 is_starved (Err errors.Memory) = true
 is_starved _ = false
 
--- logging has ended for lack of memory, says a turn
+-- The turn reports that logging ended for lack of memory.
 abbrev pub is_memory_end : Turn → Bool
 is_memory_end (turns.Ended ends.Memory) = true
 is_memory_end _ = false
 
--- the recorder refused what it was asked, says its reply
+-- The reply says that the recorder refused the event.
 abbrev pub is_refusal : Reply → Bool
 is_refusal (replies.Refused refusal) = true
 is_refusal _ = false
 
--- all that the lines asked for found memory
+-- Memory sufficed for all that the lines asked for, except reads.
 abbrev pub is_ample : {D L : Type 0} {d : Ghosts D} {l : Ghosts L} → Running D L d l → Bool
 is_ample run = not run.short && list_all is_asked run.requests.items
 
 -- ---- lines
 
--- The recorder is asked of a request: it follows it by an id, or passes it. Or there is no memory:
--- for the request's bytes, and the recorder isn't asked; or the recorder has none.
+-- `request` is what became of a submission of `bio`. If it is `Asked`, the recorder tracks it by an
+-- id, or passed it. If it is `NotAsked`, there was no memory: for the bytes of `bio`, and the
+-- recorder wasn't called; or the recorder refused it.
 abbrev pub Asks : {L : Type 0} {l : Ghosts L} → Bio → Request → Recorder L l → Recorder L l → Type 0
 Asks bio (requests.Asked kept id) old new = (kept ≡ bio) × Submits bio (reply_of id) old new
 Asks bio requests.NotAsked old new =
     ((has_data bio ≡ true) × (new ≡ old)) ⊎ Submits bio (replies.Refused refusals.Memory) old new
 
--- what a submission prints: nothing, unless there was no memory for the request
+-- What a submission prints: nothing, or that the request failed if there was no memory for it.
 abbrev pub submission_text : ScriptId → Request → List ℕ
 submission_text name (requests.Asked bio id) = []
 submission_text name requests.NotAsked = outcome_line name false
 
--- A line submits the next request. The data device isn't called yet.
+-- A line submits the next request. The data device isn't called.
 pub record SubmitsNext {D L : Type 0} {d : Ghosts D} {l : Ghosts L} (names : List ScriptId)
     (bio : Bio) (text : List ℕ) (old new : Running D L d l) : Type 0 where
   pub device : new.disk ≡ old.disk
@@ -98,14 +100,15 @@ pub record SubmitsNext {D L : Type 0} {d : Ghosts D} {l : Ghosts L} (names : Lis
   pub short : new.short ≡ old.short
   pub prints : text ≡ submission_text (name_at names (length old.requests.items)) request
 
--- how the end of a request is recorded that the recorder follows by this id, or passed
+-- The end of a request is recorded if the recorder tracks the request by an id; else nothing
+-- happens.
 abbrev pub RecordsEnd : {L : Type 0} {l : Ghosts L} → Option ℕ → Bool → Recorder L l → Recorder L l
     → Type 0
 RecordsEnd (Some id) ok old new = (reply : Reply) × Completes id ok reply old new
 RecordsEnd None ok old new = new ≡ old
 
--- A request that was asked is passed on to the data device, and ends
--- with that result, which is printed. Memory may run out in the device.
+-- A request that was submitted is passed to the data device, and ends with its result, which is
+-- printed. The run is short if the device had no memory.
 pub record EndsAsked {D L : Type 0} {d : Ghosts D} {l : Ghosts L} (bio : Bio) (id : Option ℕ)
     (name : ScriptId) (text : List ℕ) (old new : Running D L d l) : Type 0 where
   pub answer : Result ℕ DevError
@@ -115,14 +118,14 @@ pub record EndsAsked {D L : Type 0} {d : Ghosts D} {l : Ghosts L} (bio : Bio) (i
   pub short : new.short ≡ (old.short || is_starved answer)
   pub prints : text ≡ outcome_line name (is_ok answer)
 
--- A line leaves the data device and the requests as they are, and prints nothing.
+-- A line leaves the data device and the requests as they were, and prints nothing.
 pub record KeepsData {D L : Type 0} {d : Ghosts D} {l : Ghosts L} (text : List ℕ)
     (old new : Running D L d l) : Type 0 where
   pub device : new.disk ≡ old.disk
   pub kept : new.requests.items ≡ old.requests.items
   pub prints : text ≡ []
 
--- A line ends a request: one that has failed already does nothing, and prints nothing.
+-- A line ends a request. If the request failed at its submission, the line does and prints nothing.
 abbrev pub EndsRequest : {D L : Type 0} {d : Ghosts D} {l : Ghosts L} → Option Request → ScriptId
     → List ℕ → Running D L d l → Running D L d l → Type 0
 EndsRequest (Some (requests.Asked bio id)) name text old new = EndsAsked bio id name text old new
@@ -130,8 +133,8 @@ EndsRequest (Some requests.NotAsked) name text old new =
     KeepsData text old new × (new.recorder ≡ old.recorder) × (new.short ≡ old.short)
 EndsRequest None name text old new = ⊥
 
--- A line ends recording, and the log is written to its end,
--- or logging ends, perhaps since memory runs out.
+-- A line closes recording. Then the writer takes turns until the log is complete, or logging ends.
+-- The run is short if logging ended for lack of memory.
 pub record EndsRecording {D L : Type 0} {d : Ghosts D} {l : Ghosts L} (text : List ℕ)
     (old new : Running D L d l) : Type 0 where
   pub keeps : KeepsData text old new
@@ -141,8 +144,8 @@ pub record EndsRecording {D L : Type 0} {d : Ghosts D} {l : Ghosts L} (text : Li
   pub drains : Drains answer closed new.recorder
   pub short : new.short ≡ (old.short || is_memory_end (last_turn answer))
 
--- A line reads from the data device; the recorder isn't asked. A read
--- that finds no memory leaves no mark on the run: it prints that it failed.
+-- A line reads from the data device; the recorder isn't called. If there is no memory for the read,
+-- it prints that it failed, and the run isn't short.
 pub record ReadsData {D L : Type 0} {d : Ghosts D} {l : Ghosts L} (first count : ℕ) (text : List ℕ)
     (old new : Running D L d l) : Type 0 where
   pub log : new.recorder ≡ old.recorder
@@ -152,7 +155,7 @@ pub record ReadsData {D L : Type 0} {d : Ghosts D} {l : Ghosts L} (first count :
   pub reads : ReadsSectors d.does old.moment first count bytes old.disk new.disk
   pub prints : text ≡ read_line first count bytes
 
--- A line gives the writer a turn, in which memory may run out.
+-- A line gives the writer a turn. The run is short if logging ended in it for lack of memory.
 pub record GivesTurn {D L : Type 0} {d : Ghosts D} {l : Ghosts L} (text : List ℕ)
     (old new : Running D L d l) : Type 0 where
   pub keeps : KeepsData text old new
@@ -160,16 +163,15 @@ pub record GivesTurn {D L : Type 0} {d : Ghosts D} {l : Ghosts L} (text : List �
   pub turns : Turns turn old.recorder new.recorder
   pub short : new.short ≡ (old.short || is_memory_end turn)
 
--- what the line of a mark prints by the recorder's reply: nothing if the mark is queued or
--- passed; and that it failed if there is no memory for it, which is the only refusal
+-- What a mark's line prints, given the recorder's reply: nothing if the mark is queued or passed,
+-- and `mark failed` if it is refused. It is refused only for lack of memory.
 abbrev pub PrintsMark : Reply → List ℕ → Type 0
 PrintsMark (replies.Queued id) printed = printed ≡ []
 PrintsMark replies.Passed printed = printed ≡ []
 PrintsMark (replies.Refused refusal) printed = (refusal ≡ refusals.Memory) × (printed ≡ mark_failed)
 PrintsMark _ printed = ⊥
 
--- A line sets the time at which the calls of both devices
--- begin from then on; nothing is recorded.
+-- A line sets the time at which later calls of both devices begin. Nothing is recorded.
 pub record SetsTime {D L : Type 0} {d : Ghosts D} {l : Ghosts L} (moment : ℕ) (text : List ℕ)
     (old new : Running D L d l) : Type 0 where
   pub keeps : KeepsData text old new
@@ -180,8 +182,8 @@ pub record SetsTime {D L : Type 0} {d : Ghosts D} {l : Ghosts L} (moment : ℕ) 
   pub log_moment : new.recorder.store.moment ≡ moment
   pub short : new.short ≡ old.short
 
--- A line records a mark; the data device isn't called. A mark
--- is refused only for lack of memory.
+-- A line passes a mark to the recorder; the data device isn't called. The mark is refused only for
+-- lack of memory, and then the run is short.
 pub record RecordsMark {D L : Type 0} {d : Ghosts D} {l : Ghosts L} (mark text : List ℕ)
     (old new : Running D L d l) : Type 0 where
   pub device : new.disk ≡ old.disk
@@ -191,20 +193,20 @@ pub record RecordsMark {D L : Type 0} {d : Ghosts D} {l : Ghosts L} (mark text :
   pub short : new.short ≡ (old.short || is_refusal reply)
   pub prints : PrintsMark reply text
 
--- What the devices of a run answer to messages: whether a device, before a message to this layer
--- and after it, can have answered this.
+-- How the two devices of a run answer messages. `old layer text answer new` says: a device in state
+-- `old` can answer a message for `layer` with `answer`, and is then in state `new`.
 pub record Answering (D L : Type 0) : Type 1 where
   pub data_device : D → ℕ → List ℕ → Result (Unit {0}) MessageError → D → Type 0
   pub log_device : L → ℕ → List ℕ → Result (Unit {0}) MessageError → L → Type 0
 
--- the same, of what each of the two answers
+-- Makes an `Answering` from the relations of the two devices.
 abbrev pub answering : {D L : Type 0}
     → (D → ℕ → List ℕ → Result (Unit {0}) MessageError → D → Type 0)
     → (L → ℕ → List ℕ → Result (Unit {0}) MessageError → L → Type 0) → Answering D L
 answering data_device log_device = record { data_device = data_device; log_device = log_device }
 
--- A line hands a message to a layer of the data device, which
--- takes it; nothing that contracts see of the device changes.
+-- A line sends the message `asked` to a layer of the data device, which accepts it. What contracts
+-- see of the device stays the same.
 pub record SendsToData {D L : Type 0} {d : Ghosts D} {l : Ghosts L} (m : Answering D L) (layer : ℕ)
     (asked text : List ℕ) (old new : Running D L d l) : Type 0 where
   pub log : new.recorder ≡ old.recorder
@@ -214,8 +216,8 @@ pub record SendsToData {D L : Type 0} {d : Ghosts D} {l : Ghosts L} (m : Answeri
   pub unchanged : Unchanged (d.shown old.disk) (d.shown new.disk)
   pub prints : text ≡ []
 
--- A line hands a message to a layer of the log's device, which
--- takes it; nothing of the recorder and its log changes.
+-- A line sends the message `asked` to a layer of the log's device, which accepts it. What contracts
+-- see of the device stays the same, and so do the recorder's core and its log.
 pub record SendsToLog {D L : Type 0} {d : Ghosts D} {l : Ghosts L} (m : Answering D L) (layer : ℕ)
     (asked text : List ℕ) (old new : Running D L d l) : Type 0 where
   pub keeps : KeepsData text old new
@@ -227,14 +229,14 @@ pub record SendsToLog {D L : Type 0} {d : Ghosts D} {l : Ghosts L} (m : Answerin
   pub store : Same (recorder_view old.recorder).store (recorder_view new.recorder).store
   pub log_moment : new.recorder.store.moment ≡ old.recorder.store.moment
 
--- A line hands a message to a layer of this disk.
+-- A line sends the message `asked` to a layer of a disk, which accepts it.
 abbrev pub SendsToLayer : {D L : Type 0} {d : Ghosts D} {l : Ghosts L} → Answering D L
     → DiskName → ℕ
     → List ℕ → List ℕ → Running D L d l → Running D L d l → Type 0
 SendsToLayer m disks.Data layer asked text old new = SendsToData m layer asked text old new
 SendsToLayer m disks.Log layer asked text old new = SendsToLog m layer asked text old new
 
--- A message to a layer of this disk is refused by this.
+-- A layer of a disk refuses the message `asked` with `error`.
 abbrev pub RefusesMessage : {D L : Type 0} {d : Ghosts D} {l : Ghosts L} → Answering D L → DiskName
     → ℕ → List ℕ → MessageError → Running D L d l → Type 0
 RefusesMessage {D} m disks.Data layer asked error old =
@@ -242,7 +244,7 @@ RefusesMessage {D} m disks.Data layer asked error old =
 RefusesMessage {L = L} m disks.Log layer asked error old =
     (last : L) × m.log_device old.recorder.store.device layer asked (Err error) last
 
--- A line that names no request.
+-- What a line does that neither submits nor ends a request.
 abbrev pub TakesStep : {D L : Type 0} {d : Ghosts D} {l : Ghosts L} → Answering D L → Step → List ℕ
     → Running D L d l → Running D L d l → Type 0
 TakesStep m steps.Close text old new = EndsRecording text old new
@@ -253,7 +255,7 @@ TakesStep m (steps.At moment) text old new = SetsTime moment text old new
 TakesStep m (steps.Message over layer asked) text old new =
     SendsToLayer m over layer asked text old new
 
--- What a line does, by its kind.
+-- What a line does, given its kind.
 abbrev pub Does : {D L : Type 0} {d : Ghosts D} {l : Ghosts L} → Answering D L → List ScriptId
     → Command → List ℕ → Running D L d l → Running D L d l → Type 0
 Does m names (commands.Submit submission) text old new =
@@ -262,8 +264,8 @@ Does m names (commands.Complete request) text old new =
     EndsRequest (slice_get old.requests.items request) (name_at names request) text old new
 Does m names (commands.Step step) text old new = TakesStep m step text old new
 
--- A line is run: it does what its kind does, the moment is its own or stays, for the log's device
--- too, and the recorder goes on as by one of its calls.
+-- A line is run: it does what `Does` says. If it is an `at`, it sets the time of both devices; else
+-- the times stay. The recorder changes at most as in calls of it.
 pub record RunsLine {D L : Type 0} {d : Ghosts D} {l : Ghosts L} (m : Answering D L)
     (names : List ScriptId) (command : Command) (text : List ℕ)
     (old new : Running D L d l) : Type 0 where
@@ -272,36 +274,36 @@ pub record RunsLine {D L : Type 0} {d : Ghosts D} {l : Ghosts L} (m : Answering 
   pub log_moment : new.recorder.store.moment ≡ time_at old.recorder.store.moment command
   pub goes : RecorderFrame (recorder_view old.recorder) (recorder_view new.recorder)
 
--- A line is run, and what it prints is added to what a writer holds.
+-- A line is run, and what it prints is appended to the output.
 abbrev pub PrintsLine : {D L : Type 0} {d : Ghosts D} {l : Ghosts L} → Answering D L → List ScriptId
     → Command → Option (List ℕ) → Option (List ℕ) → Running D L d l → Running D L d l → Type 0
 PrintsLine m names command before after old new =
     (text : List ℕ) × RunsLine m names command text old new × Appends before after text
 
--- how many requests a line submits
+-- How many requests a line submits: 1 or 0.
 abbrev pub count_of : Command → ℕ
 count_of command = if is_submission command then 1 else 0
 
--- what a line covers is within a data device of `sectors`
--- sectors, and aligned to a log's sectors of `bytes` bytes
+-- The sectors that a line names are within a data device of `sectors` sectors, and aligned to log
+-- sectors of `bytes` bytes.
 abbrev pub FitsDevice : (bytes sectors : ℕ) → Command → Type 0
 FitsDevice bytes sectors (commands.Submit submission) =
     submission_answer bytes sectors submission ≡ Ok tt
 FitsDevice bytes sectors (commands.Complete request) = Unit {0}
 FitsDevice bytes sectors (commands.Step step) = step_answer bytes sectors step ≡ Ok tt
 
--- a mark's text may be in a line of a script
+-- The values in a line can be written in a script: a text, a time and the number of a layer.
 abbrev pub HasScriptText : Command → Type 0
 HasScriptText (commands.Submit submission) = Unit {0}
 HasScriptText (commands.Complete request) = Unit {0}
 HasScriptText (commands.Step step) = HasLineText step
 
--- the run of a line stops, since the output can't be written or there is no memory
+-- A line stops because the output can't be written or there is no memory.
 abbrev pub StopsForFile : StepError → Type 0
 StopsForFile (AtLine refusal) = ⊥
 StopsForFile (Whole fault) = IsFileError fault
 
--- or since it is a close that the recorder refuses
+-- A line stops because it is a close that the recorder refuses. Nothing is printed.
 pub record StopsAtClose {L : Type 0} {l : Ghosts L} (command : Command)
     (before after : Option (List ℕ)) (stop : StepError) (old : Recorder L l) : Type 0 where
   pub is_close : command ≡ commands.Step steps.Close
@@ -311,7 +313,7 @@ pub record StopsAtClose {L : Type 0} {l : Ghosts L} (command : Command)
   pub closes : Closes (replies.Refused refusal) old last
   pub printed : Keeps before after
 
--- or since it is a message that the device refuses
+-- A line stops because it is a message that a device refuses. Nothing is printed.
 pub record StopsAtMessage {D L : Type 0} {d : Ghosts D} {l : Ghosts L} (m : Answering D L)
     (command : Command) (before after : Option (List ℕ)) (stop : StepError)
     (old : Running D L d l) : Type 0 where
@@ -324,14 +326,14 @@ pub record StopsAtMessage {D L : Type 0} {d : Ghosts D} {l : Ghosts L} (m : Answ
   pub refused : RefusesMessage m over layer asked error old
   pub printed : Keeps before after
 
--- why the run of a line stops
+-- Why a line stops the run.
 abbrev pub StopsLine : {D L : Type 0} {d : Ghosts D} {l : Ghosts L} → Answering D L → Command
     → Option (List ℕ) → Option (List ℕ) → Running D L d l → StepError → Type 0
 StopsLine m command before after old stop =
     StopsForFile stop ⊎ (StopsAtClose command before after stop old.recorder
     ⊎ StopsAtMessage m command before after stop old)
 
--- the request that a line ends is one of the first `requests`
+-- If a line ends a request, it is one of the first `requests`.
 abbrev pub EndsSubmitted : ℕ → Command → Type 0
 EndsSubmitted requests (commands.Submit submission) = Unit {0}
 EndsSubmitted requests (commands.Complete request) = request < requests

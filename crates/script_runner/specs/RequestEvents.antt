@@ -1,4 +1,4 @@
--- Which events the requests of a script's run are.
+-- Which events the requests of a script's run have.
 use Rattle.std.specs.Prelude.{◌≡◌, ℕ, List, [], ◌∷◌, Some, slice_get}
 use Rattle.bio.specs.declared.event.CoreEvent.TheVariants as core_events
 use Rattle.bio.specs.declared.request.Bio.{Bio}
@@ -12,20 +12,19 @@ use Rattle.script_runner.specs.declared.running.Running.{Running}
 use Rattle.script_runner.specs.Submissions.{bio_of}
 use Rattle.recorder.specs.Fields.{core_of}
 
--- each request that the recorder follows is in its events at its id, as it was asked
+-- For each request that the recorder tracks, the event at its id is its Submit.
 abbrev pub IsFollowed : {D L : Type 0} {d : Ghosts D} {l : Ghosts L} → Running D L d l → Type 0
 IsFollowed run =
     (place : ℕ) (bio : Bio) (id : ℕ)
     → slice_get run.requests.items place ≡ Some (requests.Asked bio (Some id))
     → slice_get (core_of run.recorder).events id ≡ Some (core_events.Submit bio)
 
--- what became of a line that submits: the request that it
--- says was asked; or there was no memory for it
+-- A line's request, if it was asked, is the one that the line submits.
 abbrev pub IsRequestOf : Submission → Request → Type 0
 IsRequestOf submission (requests.Asked bio id) = bio ≡ bio_of submission
 IsRequestOf submission requests.NotAsked = Unit {0}
 
--- what the lines submit, in their order
+-- The submissions of the lines, in their order.
 abbrev pub submissions_of : List Command → List Submission
 submissions_of [] = []
 submissions_of (commands.Submit submission ∷ body) = submission ∷ submissions_of body

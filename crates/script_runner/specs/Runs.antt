@@ -1,4 +1,4 @@
--- What the lines of a script do, one after another.
+-- What all lines of a script do, one after another.
 use Rattle.std.specs.Prelude.{◌≡◌, ◌+◌, ℕ, List, [], ◌∷◌, ◌++◌, Option, length}
 use Rattle.std.specs.Io.KnownBytes.{Appends}
 use Rattle.blockdev.specs.declared.device.BlockDev.{Ghosts}
@@ -21,26 +21,27 @@ use Rattle.script_runner.specs.declared.running.Running.{Running}
 use Rattle.refusals.specs.Errors.{IsFileError}
 use Rattle.script_runner.specs.Lines.{Answering, RefusesMessage, RunsLine}
 
--- steps one after another, from one state to another; they print one after another
+-- Steps from state `old` to state `new`, one after another. `text` is all that they print.
 abbrev pub Chain : {C S : Type 0} → (C → List ℕ → S → S → Type 0) → List C → List ℕ → S → S → Type 0
 Chain Step [] text old new = (text ≡ []) × (new ≡ old)
 Chain {S = S} Step (c ∷ cs) text old new =
     (mid : S) × (first : List ℕ) × (rest : List ℕ) × (text ≡ first ++ rest) × Step c first old mid
     × Chain Step cs rest mid new
 
--- the lines of a script are run
+-- The lines `body` are run, and print `text`.
 abbrev pub RunsLines : {D L : Type 0} {d : Ghosts D} {l : Ghosts L} → Answering D L → List ScriptId
     → List Command → List ℕ → Running D L d l → Running D L d l → Type 0
 RunsLines m names body text old new = Chain (RunsLine m names) body text old new
 
--- the same, and what they print is added to what a writer holds
+-- The lines `body` are run, and what they print is appended to the output.
 abbrev pub PrintsLines : {D L : Type 0} {d : Ghosts D} {l : Ghosts L} → Answering D L
     → List ScriptId → List Command → Option (List ℕ) → Option (List ℕ) → Running D L d l
     → Running D L d l → Type 0
 PrintsLines m names body before after old new =
     (text : List ℕ) × RunsLines m names body text old new × Appends before after text
 
--- A close is refused: after the lines before it, at its own line.
+-- The command at index `place` is a close, and it is refused. `text` is what the lines before it
+-- print.
 pub record RefusesClose {D L : Type 0} {d : Ghosts D} {l : Ghosts L} (m : Answering D L)
     (plan : ScriptValue) (place : ℕ) (refusal : Refusal) (text : List ℕ)
     (old : Running D L d l) : Type 0 where
@@ -53,7 +54,8 @@ pub record RefusesClose {D L : Type 0} {d : Ghosts D} {l : Ghosts L} (m : Answer
   pub ran : RunsLines m plan.names before text old mid
   pub refused : Closes (replies.Refused refusal) mid.recorder last
 
--- A message is refused: after the lines before it, at its own line.
+-- The command at index `place` is a message, and it is refused. `text` is what the lines before it
+-- print.
 pub record RefusesLine {D L : Type 0} {d : Ghosts D} {l : Ghosts L} (m : Answering D L)
     (plan : ScriptValue) (place : ℕ) (error : MessageError) (text : List ℕ)
     (old : Running D L d l) : Type 0 where
@@ -68,9 +70,9 @@ pub record RefusesLine {D L : Type 0} {d : Ghosts D} {l : Ghosts L} (m : Answeri
   pub ran : RunsLines m plan.names before text old mid
   pub refused : RefusesMessage m over layer asked error mid
 
--- Why the run of a script, which was read from a text, ends before its last line: a close or a
--- message is refused, and what was printed is what the lines before it print; or the output can't
--- be written, or there is no memory.
+-- Why a run of `plan`, which was read from `text`, ends before its last line.
+-- - `close`, `message`: a line is refused, and the lines before it printed all that was printed.
+-- - `file`: the output can't be written, or there is no memory.
 pub data EndsRun {D L : Type 0} {d : Ghosts D} {l : Ghosts L} (m : Answering D L) (text : List ℕ)
     (plan : ScriptValue) (before after : Option (List ℕ)) (old : Running D L d l) : RunError
     → Type 0 where

@@ -8,20 +8,19 @@ use Rattle.dmlw_script.specs.declared.command.Submission.TheVariants as submits
 use Rattle.script_runner.specs.declared.request.Request.{Request}
 use Rattle.script_runner.specs.declared.request.Request.TheVariants as requests
 
--- the request that a line submits: a write's sectors are of
--- its byte, and it asks for what its options say
+-- The request that a line submits. All bytes of a write are its byte.
 abbrev pub bio_of : Submission → Bio
 bio_of (submits.Write first count byte options) =
     bios.Write first (replicate (count * 512) byte) options.flush options.fua options.meta
 bio_of submits.Flush = bios.Flush
 bio_of (submits.Discard first count) = bios.Discard first count
 
--- the request passes the test of a device of this many sectors
+-- If the request was asked, it passes the test of a device of `sectors` sectors.
 abbrev pub fits_device : ℕ → Request → Bool
 fits_device sectors (requests.Asked bio id) = is_ok (check_answer bio sectors)
 fits_device sectors requests.NotAsked = true
 
--- the recorder was asked of the request: there was memory for it
+-- The request was passed to the recorder: there was memory for it.
 abbrev pub is_asked : Request → Bool
 is_asked (requests.Asked bio id) = true
 is_asked requests.NotAsked = false

@@ -6,12 +6,12 @@ use Rattle.std.specs.Prelude.{◌*◌, slice_index_or}
 use Rattle.dmlw_script.specs.declared.script_id.ScriptId.{ScriptId}
 use Rattle.dmlw_script.specs.Ids.{letters_of}
 
--- how a request, or a read, ended
+-- The word for the result of a request.
 abbrev pub outcome_word : Bool → List ℕ
 outcome_word true = codes "ok"
 outcome_word false = codes "failed"
 
--- the line that says what became of the request of this name
+-- The line that says how the request `name` ended.
 abbrev pub outcome_line : ScriptId → Bool → List ℕ
 outcome_line name ok = letters_of name ++ codes " " ++ outcome_word ok ++ codes "\n"
 
@@ -20,17 +20,18 @@ abbrev pub first_bytes : ℕ → List ℕ → List ℕ
 first_bytes count bytes =
     collect (λ sector. byte_text (slice_index_or bytes (sector * 512) 0)) count
 
--- what a read prints: the first byte of each sector that was read, or that none was
+-- The end of a read's line: `ok` and the first byte of each sector, or `failed` if nothing was
+-- read.
 abbrev pub read_outcome : ℕ → Option (List ℕ) → List ℕ
 read_outcome count (Some bytes) = codes "ok " ++ first_bytes count bytes
 read_outcome count None = codes "failed"
 
--- the line of a read
+-- The line that a read prints.
 abbrev pub read_line : ℕ → ℕ → Option (List ℕ) → List ℕ
 read_line first count bytes =
     codes "read " ++ decimal first ++ codes "+" ++ decimal count ++ codes " "
     ++ read_outcome count bytes ++ codes "\n"
 
--- the line of a mark for which there was no memory
+-- The line that a mark prints if there is no memory for it.
 abbrev pub mark_failed : List ℕ
 mark_failed = codes "mark failed\n"

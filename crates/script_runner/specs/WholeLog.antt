@@ -1,4 +1,4 @@
--- Where recording is closed, a script's run leaves its log whole.
+-- When the log of a script's run is complete.
 use Rattle.std.specs.Prelude.{◌≡◌, false, None, length}
 use Rattle.blockdev.specs.declared.device.BlockDev.{Ghosts}
 use Rattle.bio.specs.Lawful.{has_no_close}
@@ -6,7 +6,7 @@ use Rattle.recorder.specs.declared.recorder.Recorder.{Recorder}
 use Rattle.recorder.specs.RecorderView.{log_of}
 use Rattle.recorder.specs.Fields.{core_of}
 
--- if recording is closed and logging goes on, all of the completion list is placed
+-- If recording is closed and logging hasn't ended, the whole completion list is placed.
 abbrev pub IsWritten : {L : Type 0} {l : Ghosts L} → Recorder L l → Type 0
 IsWritten recorder =
     has_no_close (core_of recorder).events ≡ false → recorder.end ≡ None

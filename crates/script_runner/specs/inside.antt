@@ -1,4 +1,4 @@
--- The definitions of `script_runner` that only its proofs use: no other crate cites them.
+-- The definitions that only the proofs of `script_runner` use.
 pub mod Play
 pub mod Replies
 pub mod Steps

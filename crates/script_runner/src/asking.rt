@@ -1,4 +1,4 @@
-//! What a line asks of the recorder: that a request is submitted, or that one has ended.
+//! Calls the recorder for a line: to submit a request, or to record its end.
 ghost use Rattle.std.specs.Prelude.{◌≡◌, Ok};
 ghost use Rattle.dmlw_script.specs.Plans.{submission_answer};
 ghost use Rattle.recorder.specs.Growth.{RecorderFrame};
@@ -13,7 +13,7 @@ use blockdev::BlockDev;
 use dmlw_script::Submission;
 use recorder::{Recorder, Reply};
 
-// Asks the recorder of the request that a line submits, which suits its log's sectors.
+// Submits the request of a line to the recorder. The request is aligned to the log's sectors.
 pub(crate) fn ask<L: BlockDev + Drop>(
     recorder: &mut Recorder<L>,
     data: &mut WriteData,
@@ -37,7 +37,7 @@ pub(crate) fn ask<L: BlockDev + Drop>(
     }
 }
 
-// Tells the recorder of the end of a request that it follows.
+// Records the end of a request, if the recorder tracks it by an id.
 pub(crate) fn complete_request<L: BlockDev + Drop>(
     recorder: &mut Recorder<L>,
     id: Option<Id>,

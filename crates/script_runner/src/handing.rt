@@ -1,4 +1,4 @@
-//! Hands a script's request over to the data device.
+//! Passes a script's requests to the data device.
 ghost use Rattle.std.specs.Prelude.{◌≡◌, ◌*◌, IfSome, Ok, option_map, IsTrue, is_ok, length};
 ghost use Rattle.bio.specs.Check.{check_answer, range_answer};
 ghost use Rattle.blockdev.specs.Calls.{Flushes, IsByteRange, Writes};
@@ -8,11 +8,12 @@ use bio::{Bio, DevError, Ms, SECTOR_BYTES};
 use blockdev::BlockDev;
 use std::alloc::Global;
 
-// A sector's size in bytes.
+// The size of a sector in bytes.
 const SECTOR: usize = SECTOR_BYTES as usize;
 
-// Passes a request to a device: a write with flush as a flush, and then the write if the flush
-// succeeded. Returns the device's answer to the last call.
+// Passes a request to a device. A write with flush is a flush, and then the write if the flush
+// succeeded. Returns the device's answer to the last call. A read calls nothing and returns
+// `Ok(now)`.
 pub(crate) fn do_request<D: BlockDev>(device: &mut D, now: Ms, bio: &Bio) -> Result<Ms, DevError>
     requires { IsTrue (is_ok (check_answer bio.now (D.shown device.old).size)) }
     ensures does { HandsOver D.does now bio.now result device.old device.new }
@@ -41,7 +42,7 @@ pub(crate) fn do_request<D: BlockDev>(device: &mut D, now: Ms, bio: &Bio) -> Res
     }
 }
 
-// Flushes a device, and answers as it did.
+// Flushes a device, and returns its answer.
 fn flush<D: BlockDev>(device: &mut D, now: Ms) -> Result<Ms, DevError>
     ensures does { D.does device.old Flushes now result device.new }
     ensures size { (D.shown device.new).size ≡ (D.shown device.old).size }
@@ -49,7 +50,7 @@ fn flush<D: BlockDev>(device: &mut D, now: Ms) -> Result<Ms, DevError>
     device.flush(now)
 }
 
-// Writes whole sectors to a device, and answers as it did.
+// Writes whole sectors to a device, and returns its answer.
 fn write<D: BlockDev>(
     device: &mut D,
     now: Ms,
@@ -64,7 +65,7 @@ fn write<D: BlockDev>(
     device.write(now, first, bytes, fua)
 }
 
-// Reads sectors from a device; none if there is no memory for them or the read fails.
+// Reads sectors from a device. Returns None if there is no memory for them or the read fails.
 pub(crate) fn read_sectors<D: BlockDev>(
     device: &mut D,
     alloc: Global,

@@ -1,10 +1,9 @@
-//! Runs a script of `dmlw record`: its requests go through the recorder and to the data device, and
-//! a line says what became of each.
+//! Runs a script of `dmlw record`: its requests go to the recorder and to the data device, and a
+//! line says how each ended.
 //!
-//! `Running` is a script's run so far: the recorder over the log's device, the data device, and the
-//! requests that were submitted. `run` runs the lines of a script one after another. `specs/Lines`
-//! says what each line does and prints, in one case for each kind of line, and `specs/Runs` what
-//! all lines do.
+//! `Running` is a script's run so far: the recorder, the data device, and the requests that were
+//! submitted. `run` runs the lines of a script one after another. `specs/Lines` says what each kind
+//! of line does and prints, and `specs/Runs` what all lines do.
 #![tactic(auto)]
 
 pub use playing::new_stack;

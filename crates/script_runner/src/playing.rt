@@ -22,18 +22,18 @@ use sector_disk::SectorDisk;
 use std::alloc::Global;
 use std::io::Write;
 
-// What a script's run left.
+// What a script's run left, besides its output.
 #[derive(Drop)]
 pub(crate) struct Played<L: BlockDev + Drop> {
-    // Returns the recorder as it is.
+    // The recorder after the last line.
     pub(crate) recorder: Recorder<L>,
-    // How often the layers over the data device have lied.
+    // How many calls the layers of the data device dropped and reported as done.
     pub(crate) data_lies: u64,
-    // Whether all that its lines asked of the recorder and the data device found memory.
+    // Whether memory sufficed for all that the lines asked of the recorder and the data device.
     pub(crate) ample: bool,
 }
 
-// Runs a script, which was read from `text`, on two disks in memory, each under its layers.
+// Runs a script, which was read from `text`, on two disks in memory under the layers that it names.
 pub(crate) fn play_on_disks<O: Write>(
     alloc: Global,
     text: &[u8],
@@ -50,7 +50,7 @@ pub(crate) fn play_on_disks<O: Write>(
     play_beside(alloc, text, script, log, out)
 }
 
-// As above, over the log's disk under its layers.
+// As above, with the log on the device `log`.
 fn play_beside<L: Message + Drop, O: Write>(
     alloc: Global,
     text: &[u8],
@@ -73,8 +73,8 @@ fn play_beside<L: Message + Drop, O: Write>(
     play(alloc, text, script, log, data, out)
 }
 
-// Runs a script on a new log on one device, on which one of
-// its sectors fits, and on another device.
+// Runs a script on the data device `disk`, with a new log on the device `log`. At least one log
+// sector fits on `log`.
 fn play<D: Message + Drop, L: Message + Drop, O: Write>(
     alloc: Global,
     text: &[u8],
@@ -108,8 +108,8 @@ fn play<D: Message + Drop, L: Message + Drop, O: Write>(
     })
 }
 
-// A run before its first line, over a new log with such sectors on one device and over another
-// device, with room for this many requests.
+// Makes the run of a script before its first line: on the data device `disk`, with a new log on
+// `log`, and with room for `requests` requests.
 fn start_on<D: BlockDev + Drop, L: BlockDev + Drop>(
     alloc: Global,
     log: L,
@@ -126,7 +126,7 @@ fn start_on<D: BlockDev + Drop, L: BlockDev + Drop>(
     Ok(Running::new(alloc, recorder, disk, requests)?)
 }
 
-// A recorder over a new log with such sectors on a device.
+// Makes a recorder over a new log on a device, with log sectors of size `size`.
 fn new_recorder<L: BlockDev + Drop>(
     alloc: Global,
     device: L,
@@ -146,14 +146,14 @@ fn new_recorder<L: BlockDev + Drop>(
     }
 }
 
-// Why a device, which goes, was refused.
+// Drops a device, and returns why no log could be made on it.
 fn end_of<D: Drop>(refused: (D, End)) -> End
     ensures { result ≡ refused.1 }
 {
     refused.1
 }
 
-/// A new disk under its layers.
+/// Makes a new disk of zeroes under the layers that `disk` names.
 pub fn new_stack(alloc: Global, disk: &DiskSpec) -> Result<Stack, RunError>
     requires { IsDisk disk.now }
     ensures stack { IfOk result (IsStackOf disk.now) }
@@ -166,7 +166,7 @@ pub fn new_stack(alloc: Global, disk: &DiskSpec) -> Result<Stack, RunError>
     }
 }
 
-// Why a stack, which goes, was refused.
+// Drops a stack, and returns why a layer over it was refused.
 fn refusal_of<D: Drop>(back: (D, Refusal)) -> Refusal
     ensures { result ≡ back.1 }
 {

@@ -1,4 +1,4 @@
-//! What a line prints.
+//! Prints what a line prints.
 ghost use Rattle.std.specs.Prelude.{◌≡◌, ◌*◌, ◌<◌, IfErr, IfSome, OnOk, length, option_map};
 ghost use Rattle.std.specs.List.{AllByRecursion};
 ghost use Rattle.std.specs.Io.KnownBytes.{Appends};
@@ -15,10 +15,10 @@ use dmlw_script::ScriptId;
 use recorder::Reply;
 use std::io::Write;
 
-// A sector's size in bytes.
+// The size of a sector in bytes.
 const SECTOR: usize = SECTOR_BYTES as usize;
 
-// Says what a submission came to, if there was no memory for the request.
+// Prints that a request failed, if there was no memory to submit it.
 pub(crate) fn print_submission<O: Write>(
     name: &ScriptId,
     request: &Request,
@@ -35,7 +35,7 @@ pub(crate) fn print_submission<O: Write>(
     }
 }
 
-// Says what became of a request.
+// Prints how a request ended.
 pub(crate) fn print_outcome<O: Write>(
     name: &ScriptId,
     ok: bool,
@@ -62,7 +62,7 @@ pub(crate) fn print_mark<O: Write>(reply: Reply, out: &mut O) -> Result<(), Step
     }
 }
 
-// Says what was read: the first byte of each sector.
+// Prints the line of a read: the first byte of each sector, or that it failed.
 pub(crate) fn print_read<O: Write>(
     first: u64,
     count: u64,
@@ -100,7 +100,7 @@ fn print_first_bytes<O: Write>(count: u64, bytes: &[u8], out: &mut O) -> Result<
     Ok(())
 }
 
-// A lower case hexadecimal digit.
+// Returns the lower-case hexadecimal digit of a number below 16.
 fn hex_digit(half: u8) -> u8
     requires { half < 16 }
     ensures { result ≡ hex_digit half }
@@ -112,14 +112,14 @@ fn hex_digit(half: u8) -> u8
     }
 }
 
-// How a request ended.
+// Returns the word for how a request ended.
 fn outcome_word(ok: bool) -> &'static str
     ensures { result.now ≡ outcome_word ok }
 {
     if ok { "ok" } else { "failed" }
 }
 
-// The id of a request.
+// Returns the name of a request, given its index.
 pub(crate) fn name_of(names: &[ScriptId], request: usize) -> &ScriptId
     requires named { request < length names.now }
     requires ids { AllByRecursion IsName names.now }

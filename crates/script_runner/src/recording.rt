@@ -1,4 +1,4 @@
-//! Records a script: `record` runs it, and hands over the log's disk, the status and the lies.
+//! Records a script: `record` runs it, and returns the log's disk, the status and the lies.
 ghost use Rattle.std.specs.Prelude.{◌≡◌, IfErr, IfOk, List, option_copied, ℕ};
 ghost use Rattle.std.specs.Io.KnownBytes.{Appends};
 ghost use Rattle.bio.specs.Content.{AgreeBelow, gather};
@@ -18,12 +18,12 @@ use sector_disk::SectorDisk;
 use std::alloc::Global;
 use std::io::Write;
 
-/// How many calls the layers of a disk have dropped and reported as done; each stops at 2^64 - 1.
+/// How many calls the layers of each disk dropped and reported as done. A count stops at 2^64 - 1.
 #[derive(Clone, Copy, Debug, PartialEq, Eq)]
 pub struct Lies {
-    /// Those over the data disk.
+    /// The lies of the data disk's layers.
     pub data_disk: u64,
-    /// Those over the log's disk.
+    /// The lies of the log disk's layers.
     pub log_disk: u64,
 }
 
@@ -32,18 +32,20 @@ pub struct Lies {
 pub struct RunResult {
     /// The log's disk, below its layers.
     pub disk: SectorDisk,
-    /// How far the log has come.
+    /// The number of placed entries, the highest sector that they use, and why logging ended, if it
+    /// did.
     pub status: Status,
-    /// How often the layers have lied.
+    /// The lies of the layers.
     pub lies: Lies,
 }
 
-/// Records a script, which was read from `text`, on two disks in memory of the sizes that it names,
-/// each under its layers. What its lines print is written to `out`. If the script ends with a
-/// crash, the log's disk loses power then, with its picks. The log is returned even if logging
-/// ended before the script did. If no log can be made, the run fails with the cause of that. A
-/// close or a message that is refused fails at its line. Lack of memory, or an output that can't be
-/// written, fails without a line.
+/// Records a script, which was read from `text`. It runs on two disks in memory, with the sizes and
+/// layers that it names, and what its lines print is written to `out`. If the script ends with a
+/// crash, the log's disk loses power at the end, with the script's picks.
+///
+/// The log is returned even if logging ended before the script did. If no log can be made, the
+/// fault is the cause. If a close or a message is refused, the fault names its line. If memory runs
+/// out or the output can't be written, the fault names no line.
 pub fn record<O: Write>(
     alloc: Global,
     text: &[u8],
@@ -75,7 +77,7 @@ pub fn record<O: Write>(
     Ok(RunResult { disk, status, lies })
 }
 
-// Returns the log's disk; if its power fails, after that.
+// Returns the log's disk below its layers. With picks, its power fails first.
 fn left_disk(log: Stack, picks: Option<&[u64]>) -> SectorDisk
     ensures size { (shown_of result).size ≡ (shown_of (disk_of log)).size }
     ensures content { AgreeBelow (shown_of (disk_of log)).size

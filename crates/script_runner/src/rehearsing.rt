@@ -1,4 +1,4 @@
-//! Runs a script only for its events: a judge calls `events_of_run`.
+//! Runs a script only for its events, which a judge needs.
 ghost use Rattle.std.specs.Prelude.{◌≡◌, ◌&&◌, IfErr, IfOk, false, not, true};
 ghost use Rattle.std.specs.List.{list_any};
 ghost use Rattle.bio.specs.Lawful.{all_aligned, is_lawful};
@@ -18,7 +18,7 @@ use std::alloc::Global;
 use std::io;
 use std::marker::Model;
 
-/// What rehearsing a script left. Contracts see it as the recorder's events.
+/// The result of rehearsing a script. Its value in contracts is the list of the recorder's events.
 #[derive(Drop)]
 pub struct Rehearsed {
     recorder: Recorder<Stack>,
@@ -36,7 +36,7 @@ impl Model for Rehearsed {
 }
 
 impl Rehearsed {
-    /// The recorder's events, in their order.
+    /// Returns the recorder's events, in their order.
     pub fn events(&self) -> &[CoreEvent]
         ensures { result.now ≡ self.now }
     {
@@ -44,15 +44,16 @@ impl Rehearsed {
     }
 }
 
-/// Runs a script, which was read from `text`, as `record` does, on two disks in memory, and keeps
-/// only the recorder's events: what its lines print is dropped, and so is the log. If logging ends
-/// before the script does, the run goes on. It fails as `record` does. And if the run went on
-/// though something in it found no memory, so that its events may be others than those with
-/// enough, it is refused with Memory, at no line. A read that finds none is no matter: what reads
-/// print is dropped.
+/// Runs a script, which was read from `text`, as `record` does, and keeps only the recorder's
+/// events. The log, and what the lines print, are dropped. If logging ends before the script does,
+/// the run goes on. It fails if `record` would.
+///
+/// If memory ran out, but the run went on, the events may differ from those with enough memory.
+/// Then it fails with Memory, without a line. A read without memory doesn't count, since what it
+/// prints is dropped.
 pub fn events_of_run(alloc: Global, text: &[u8], script: &Script) -> Result<Rehearsed, RunError>
     ensures rehearsed { IfOk result (IsRehearsed script.now) }
-    // They are events of a device of the size of the data disk's top.
+    // They are lawful for a device of the size of the data disk's top.
     ensures lawful { IfOk result (λ events. is_lawful (top_of script.now.data_disk) events ≡ true) }
     // Each request among them is aligned to the log's sectors.
     ensures aligned { IfOk result
@@ -73,15 +74,15 @@ pub fn events_of_run(alloc: Global, text: &[u8], script: &Script) -> Result<Rehe
     )
 }
 
-// Whether all found memory: each request that was asked, and the logging of these events.
+// Whether memory sufficed: `asked` says it for the lines, and the events for logging.
 fn is_ample(asked: bool, events: &[CoreEvent]) -> bool
     ensures { result ≡ (asked && not (list_any is_memory_stop events.now)) }
 {
     asked && !has_memory_stop(events)
 }
 
-// Returns what was made, if there was enough memory for all of
-// it. It is generic, so that the prover needn't look into a drop.
+// Returns `made` if memory sufficed, else a fault. For the prover: a generic function keeps it from
+// looking into the drop of `made`.
 fn kept_if<T: Drop>(ample: bool, made: T) -> Result<T, RunError>
     ensures kept { IfOk result (λ it. (it ≡ made) × (ample ≡ true)) }
     ensures refused { IfErr result (λ fault. (fault ≡ memory_error) × (ample ≡ false)) }
@@ -92,7 +93,7 @@ fn kept_if<T: Drop>(ample: bool, made: T) -> Result<T, RunError>
     Ok(made)
 }
 
-// Whether logging ended for lack of memory among these events.
+// Whether one of the events says that logging ended for lack of memory.
 fn has_memory_stop(events: &[CoreEvent]) -> bool
     ensures { result ≡ list_any is_memory_stop events.now }
 {

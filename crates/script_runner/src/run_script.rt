@@ -1,4 +1,4 @@
-//! Runs all lines of a script, up to the first one that is refused.
+//! Runs all lines of a script, or those before the first that is refused.
 ghost use Rattle.bio.specs.Sizes.{bytes_of};
 ghost use Rattle.dmlw_script.specs.Plans.{top_of};
 ghost use Rattle.recorder.specs.Fields.{core_of};
@@ -13,10 +13,13 @@ use dmlw_script::{Script, laws, line_of};
 use refusals::{Fault, RunError};
 use std::io::Write;
 
-/// Runs a script, which was read from `text`, on a data device of the size of its data disk's top,
-/// beside a log with sectors of its log's size, from before its first line on. What its lines print
-/// is written to `out`. A close or a message that is refused ends the run at its line; so does an
-/// output that can't be written, and memory that runs out for what the run itself keeps.
+/// Runs a script, which was read from `text`, from its first line on. `running` has no requests
+/// yet. Its data device has the size of the data disk's top, and its log has the sectors that the
+/// script names. What the lines print is written to `out`.
+///
+/// The run ends early in three cases. If a close or a message is refused, the fault names its line.
+/// If the output can't be written, or memory runs out for what the run itself keeps, it names no
+/// line.
 pub fn run<D: Message + Drop, L: Message + Drop, O: Write>(
     text: &[u8],
     script: &Script,

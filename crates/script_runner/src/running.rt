@@ -1,5 +1,5 @@
-//! A script's run, line by line: `Running` has the
-//! recorder, the data device and the script's requests.
+//! Runs a script line by line: `Running` has the recorder, the data device and the script's
+//! requests.
 ghost use Rattle.std.specs.Prelude.{IsTrue};
 ghost use Rattle.std.specs.List.{list_all};
 ghost use Rattle.script_runner.specs.Submissions.{fits_device};
@@ -19,8 +19,8 @@ use refusals::{Refusal, ascii_text};
 use std::alloc::{AllocError, Global};
 use std::io::Write;
 
-/// A script's run so far: a recorder over the log's device, the data device, and the requests that
-/// were submitted, by their numbers.
+/// A script's run so far: the recorder, the data device, and the submitted requests. A request's
+/// number is its index in the list.
 #[derive(Drop)]
 pub struct Running<D: BlockDev + Drop, L: BlockDev + Drop> {
     alloc: Global,
@@ -30,8 +30,8 @@ pub struct Running<D: BlockDev + Drop, L: BlockDev + Drop> {
     requests: Vec<Request>,
     // The time at which the calls of both devices begin.
     moment: Ms,
-    // True once a mark, the log's writer or the data device's call for a request ran out of memory.
-    // A request that ran out of it at its submission isn't noted here: it is `NotAsked`.
+    // True once memory ran out for a mark, for the log's writer, or for a data device's call other
+    // than a read. A request without memory for its submission is `NotAsked` instead.
     short: bool,
     ghost fits: { IsTrue (list_all (fits_device (D.shown disk).size) requests.items) },
 }
@@ -40,7 +40,8 @@ impl<D: BlockDev + Drop, L: BlockDev + Drop> Running<D, L> {
     ghost use Rattle.std.specs.Prelude.{◌≡◌, IfOk, [], false};
     ghost use Rattle.script_runner.specs.Lines.{is_ample};
 
-    /// The run of a script before its first line, at time 0, with room for `requests` requests.
+    /// Makes the run of a script before its first line, at time 0, with room for `requests`
+    /// requests.
     pub fn new(
         alloc: Global,
         recorder: Recorder<L>,
@@ -62,15 +63,14 @@ impl<D: BlockDev + Drop, L: BlockDev + Drop> Running<D, L> {
         })
     }
 
-    /// The recorder.
+    /// Returns the recorder.
     pub fn recorder(&self) -> &Recorder<L>
         ensures { result.now ≡ self.now.recorder }
     {
         &self.recorder
     }
 
-    /// Whether no line ran out of memory, except reads: a read that does prints that it failed, and
-    /// the recorder isn't asked.
+    /// Whether memory sufficed for all lines, except reads.
     pub fn is_ample(&self) -> bool
         ensures { result ≡ is_ample self.now }
     {
@@ -134,7 +134,7 @@ impl<D: Message + Drop, L: Message + Drop> Running<D, L> {
         Ok(())
     }
 
-    // Passes a request to the data device, and ends it with that result.
+    // Passes a request to the data device, and records and prints the result.
     fn complete<O: Write>(
         &mut self,
         request: usize,
@@ -166,8 +166,8 @@ impl<D: Message + Drop, L: Message + Drop> Running<D, L> {
         }
     }
 
-    // Reads `count` sectors from sector `first` on from the data device, and prints the first byte
-    // of each, or that the read failed.
+    // Reads `count` sectors of the data device, from sector `first` on. Prints the first byte of
+    // each, or that the read failed.
     fn read<O: Write>(&mut self, first: u64, count: u64, out: &mut O) -> Result<(), StepError>
         requires { range_answer first count (D.shown self.old.disk).size ≡ Ok tt }
         ensures keeps { StepKeeps self.old self.new }
@@ -210,7 +210,7 @@ impl<D: Message + Drop, L: Message + Drop> Running<D, L> {
         print_mark(reply, out)
     }
 
-    // Sets the time at which the calls of both devices begin from then on.
+    // Sets the time at which later calls of both devices begin.
     fn set_moment(&mut self, moment: Ms)
         ensures sets { SetsTime moment [] self.old self.new }
         ensures moment { self.new.moment ≡ moment }
@@ -224,7 +224,7 @@ impl<D: Message + Drop, L: Message + Drop> Running<D, L> {
         self.moment = moment;
     }
 
-    // Ends the recording, and writes the log to its end.
+    // Closes recording. Then the writer takes turns until the log is complete, or logging ends.
     fn close(&mut self) -> Result<(), StepError>
         ensures keeps { StepKeeps self.old self.new }
         ensures ends { OnOk result (EndsRecording [] self.old self.new) }
@@ -270,7 +270,7 @@ impl<D: Message + Drop, L: Message + Drop> Running<D, L> {
         }
     }
 
-    /// Runs a line: it does what its kind does, and what it prints is written to `out`.
+    /// Runs a line, and writes to `out` what it prints.
     pub fn run_line<O: Write>(
         &mut self,
         command: &Command,

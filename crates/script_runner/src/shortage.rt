@@ -1,4 +1,4 @@
-//! Whether memory ran out, by what a device or the recorder answered.
+//! Finds in an answer of a device or the recorder that memory ran out.
 ghost use Rattle.std.specs.Prelude.{◌≡◌};
 ghost use Rattle.recorder.specs.Calls.{last_turn};
 ghost use Rattle.script_runner.specs.Lines.{is_memory_end, is_refusal, is_starved};
@@ -13,21 +13,21 @@ pub(crate) fn is_starved(answer: &Result<Ms, DevError>) -> bool
     matches!(answer, Err(DevError::Memory))
 }
 
-// Whether a turn says that logging has ended for lack of memory.
+// Whether a turn reports that logging ended for lack of memory.
 pub(crate) fn is_memory_end(turn: &Turn) -> bool
     ensures { result ≡ is_memory_end turn.now }
 {
     matches!(turn, Turn::Ended(End::Memory))
 }
 
-// Whether a reply says that the recorder refused what it was asked.
+// Whether a reply says that the recorder refused the event.
 pub(crate) fn is_refusal(reply: &Reply) -> bool
     ensures { result ≡ is_refusal reply.now }
 {
     matches!(reply, Reply::Refused(_))
 }
 
-// The last turn of a drain with this result.
+// Returns the last turn of a drain that had this result.
 pub(crate) fn last_turn(ended: Result<(), End>) -> Turn
     ensures { result ≡ last_turn ended }
 {

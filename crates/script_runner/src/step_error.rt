@@ -9,13 +9,13 @@ use std::alloc::{AllocError, AllocFailed};
 use std::io;
 use thiserror::Error;
 
-/// Why a line stops the run of its script.
+/// The reason why a line stops the run of its script.
 #[derive(Clone, Copy, Debug, PartialEq, Eq, Error)]
 pub enum StepError {
-    /// The line itself is refused.
+    /// The line is refused, and the fault will name it.
     #[error("the line is refused: {0}")]
     AtLine(Refusal),
-    /// Something else, for which no line is named.
+    /// The fault names no line.
     #[error("{0}")]
     Whole(RunError),
 }

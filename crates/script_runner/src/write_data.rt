@@ -1,24 +1,26 @@
-// The data of a script's writes: sectors of one byte. The writes of one byte share it.
+// The data of a script's writes. Each write has one byte in all its sectors, and writes of the same
+// byte share their data.
 ghost use Rattle.std.specs.Prelude.{◌≡◌, ◌≤◌, IfOk, OnErr, OnOk, length, replicate};
 ghost use Rattle.script_runner.specs.inside.WriteData.{AreFilled, HasRow};
 
 use bio::{Bytes, SECTOR_BYTES};
 use std::alloc::{AllocError, Global};
 
-// A sector's size in bytes.
+// The size of a sector in bytes.
 const SECTOR: usize = SECTOR_BYTES as usize;
 
-// The most bytes of a write.
+// The largest size of a write in bytes.
 const MOST: usize = 2048 * SECTOR;
 
-// How many bytes there are to fill a sector with.
+// The number of rows, one for each value of a byte.
 const ROWS: usize = 256;
 
-/// The data that a script's writes share: for each byte at most 2 MiB.
+/// The data that a script's writes share: for each byte a row of at most 1 MiB.
 #[derive(Debug, Drop)]
 pub struct WriteData {
     alloc: Global,
-    // For each byte the longest data that was made of it; no rows before the first write.
+    // For each byte, the longest data that was made of it. There are no rows before the first
+    // write.
     rows: Vec<Bytes>,
     ghost filled: { AreFilled rows.items },
 }
@@ -26,7 +28,7 @@ pub struct WriteData {
 impl WriteData {
     ghost use Rattle.std.specs.Prelude.{◌≡◌, ◌*◌, ◌≤◌, IfOk, replicate};
 
-    /// No data yet.
+    /// Makes an empty table.
     pub fn none(alloc: Global) -> WriteData {
         WriteData {
             alloc,
@@ -34,7 +36,7 @@ impl WriteData {
         }
     }
 
-    /// The data of a write of `count` sectors of a byte.
+    /// Returns the data of a write of `count` sectors: all bytes are `byte`.
     pub fn sectors_of(&mut self, count: u64, byte: u8) -> Result<Bytes, AllocError>
         requires { count ≤ 2048 }
         ensures { IfOk result (λ bytes. bytes ≡ replicate (count * 512) byte) }
@@ -45,7 +47,7 @@ impl WriteData {
         first_of(&self.rows, byte, least)
     }
 
-    // Makes the row of a byte at least as long as asked for.
+    // Makes the row of a byte at least `least` bytes long.
     fn lengthen(&mut self, byte: u8, least: usize) -> Result<(), AllocError>
         requires few { least ≤ 1048576 }
         requires rows { 256 ≤ length self.old.rows.items }
@@ -60,7 +62,7 @@ impl WriteData {
     }
 }
 
-// The first bytes of a row.
+// Returns the first `count` bytes of a row.
 fn first_of(rows: &[Bytes], byte: u8, count: usize) -> Result<Bytes, AllocError>
     requires filled { AreFilled rows.now }
     requires row { HasRow count byte rows.now }
@@ -69,7 +71,7 @@ fn first_of(rows: &[Bytes], byte: u8, count: usize) -> Result<Bytes, AllocError>
     rows[byte as usize].prefix(count)
 }
 
-// Makes a row of no data for each byte, if there are none yet.
+// Makes an empty row for each byte, if there are none yet.
 fn make_rows(alloc: Global, rows: &mut Vec<Bytes>) -> Result<(), AllocError>
     requires { AreFilled rows.old.items }
     ensures filled { AreFilled rows.new.items }
@@ -81,7 +83,7 @@ fn make_rows(alloc: Global, rows: &mut Vec<Bytes>) -> Result<(), AllocError>
     Ok(())
 }
 
-// Data of one byte, which clones share.
+// Makes `length` bytes, all of them `byte`. Clones share them.
 fn filled(alloc: Global, byte: u8, length: usize) -> Result<Bytes, AllocError>
     ensures { IfOk result (λ bytes. bytes ≡ replicate length byte) }
 {

@@ -1,3 +1,4 @@
--- The lemmas of `seat_runner`; the proof of a function stands in the folder of its source file.
+-- The lemmas of `seat_runner`. The proof of a function is in the folder named after its source
+-- file.
 mod Runs
 mod Seats

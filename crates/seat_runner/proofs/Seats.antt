@@ -1,4 +1,4 @@
--- What lines add to what a seat did.
+-- What a line adds to the calls that a seat made.
 use Rattle.std.proofs.Common.{◌≡◌, ◌∙◌, ℕ, zero, suc, ◌+◌, ◌-◌, ◌^◌, ◌<◌, ◌≤◌, Bool, true, false}
 use Rattle.std.proofs.Common.{List, [], ◌∷◌, ◌++◌, ◌==◌, if◌then◌else◌, length, take, slice_get}
 use Rattle.std.proofs.Common.{Option, None, Some, not, ap, append_assoc, arith, inl, inr, refl}

@@ -1,4 +1,4 @@
--- The definitions that the contracts of `seat_runner` are written in.
+-- The definitions of `seat_runner`'s contracts.
 pub use Rattle.bio.specs.Lawful
 pub use Rattle.bio.specs.Sizes as LogSizes
 pub use Rattle.dmlw_script.specs.Plans

@@ -41,8 +41,8 @@ use Rattle.shared.specs.declared.answer.MarkAnswer.{MarkAnswer}
 use Rattle.shared.specs.declared.closing.Closed.{Closed}
 use Rattle.table_line.specs.LayerOrder.{some_drops}
 
--- a seat made a call, which came to this: the recorder answered
--- it so, and the seat's list has what goes with that answer
+-- A seat made `call`. The recorder gave some answer, and the seat's list changed from `old` to
+-- `new` as this answer allows. `came` has the answer's outcome, and its receipt if it has one.
 abbrev pub IsMade : Part → Call → CallResult → Part → Type 0
 IsMade old (Submit submission) came new =
     (answer : Answer Receipt) × Answered old (bio_of submission) answer new
@@ -51,7 +51,7 @@ IsMade old (Mark text) came new =
     (answer : MarkAnswer Receipt) × Marked old text answer new
     × (came ≡ record { outcome = mark_outcome answer; receipt = mark_receipt_in answer })
 
--- a seat made these calls one after the other, which came to these
+-- A seat made these calls one after another, and `CallResult` n is the result of call n.
 abbrev pub AreMade : Part → List Call → List CallResult → Part → Type 0
 AreMade old [] [] new = new ≡ old
 AreMade old [] (came ∷ others) new = ⊥
@@ -59,14 +59,14 @@ AreMade old (call ∷ calls) [] new = ⊥
 AreMade old (call ∷ calls) (came ∷ others) new =
     (between : Part) × IsMade old call came between × AreMade between calls others new
 
--- the calls of a seat's lines, in their order
+-- The calls of the lines of seat `number`, in their order.
 abbrev pub calls_of : ℕ → List SeatCall → List Call
 calls_of number [] = []
 calls_of number (line ∷ lines) =
     if line.seat == number then line.call ∷ calls_of number lines else calls_of number lines
 
--- A new seat of this number made the calls of its lines, one after the other; the tally counts
--- their answers, and these are the receipts that it was given.
+-- The new seat `number` made the calls of its lines, one after another. `tally` counts their
+-- outcomes, and `receipts` are the receipts that the seat got.
 pub record IsSeatRun (lines : List SeatCall) (number : ℕ) (seat : Part) (tally : Tally)
     (receipts : List Receipt) : Type 0 where
   pub calls : List CallResult
@@ -74,7 +74,7 @@ pub record IsSeatRun (lines : List SeatCall) (number : ℕ) (seat : Part) (tally
   pub told : tally ≡ tally_of calls
   pub kept : receipts ≡ receipts_of calls
 
--- The seat of this number ran, and its tally and its receipts are those of its place.
+-- The seat `number` ran. Its tally and its receipts are at index `number` of the two lists.
 pub record HasRun (lines : List SeatCall) (tallies : List Tally) (given : List (List Receipt))
     (number : ℕ) (seat : Part) : Type 0 where
   pub tally : Tally
@@ -83,12 +83,12 @@ pub record HasRun (lines : List SeatCall) (tallies : List Tally) (given : List (
   pub kept : slice_get given number ≡ Some receipts
   pub ran : IsSeatRun lines number seat tally receipts
 
--- A recorder of a device of `sectors` sectors, whose log is on this ground and has sectors of
--- `bytes` bytes, was closed with these seats and receipts, and this is what it returned.
+-- A recorder was closed with these seats and receipts, and the close returned `closed`. The
+-- recorded device has `sectors` sectors. The log's device began as `ground` says, and the log's
+-- sectors have `bytes` bytes.
 pub record IsClosed (ground : Ground) (bytes sectors : ℕ) (seats : List Part)
     (receipts : List Receipt) (closed : Closed Stack Stack) : Type 0 where
-  -- what the seats noted is one legal history, to which all
-  -- else was compared, and no event is missing
+  -- the events and what the seats noted form one legal history
   pub legal : LegalHistory bytes sectors closed.core.state.events closed.by.items seats
   pub shut : has_no_close closed.core.state.events ≡ false
   pub counts : named closed.by.items ≡ owned seats
@@ -99,8 +99,8 @@ pub record IsClosed (ground : Ground) (bytes sectors : ℕ) (seats : List Part)
   }) closed.placed.items closed.settled closed.store_end
       closed.done.items seats receipts
   pub receives : Each (IsReceipt closed.core.state closed.settled) receipts
-  -- the status is that of what was placed; and unless it lied, the log's device has the log of the
-  -- history, as far as it came, and so it has after a crash
+  -- the status is that of the placed entries. Unless the log's device lied, its content has a log:
+  -- a prefix of the history's completion list. So has whatever a crash leaves
   pub status : closed.status ≡ status_of bytes (entries_in closed.placed.items) closed.end
   pub log : (stack_shown closed.log).lies ≡ 0 →
       LeavesLog bytes (stack_shown closed.log).size closed.settled closed.core.state closed.end
@@ -108,23 +108,23 @@ pub record IsClosed (ground : Ground) (bytes sectors : ℕ) (seats : List Part)
   pub crash : (stack_shown closed.log).lies ≡ 0 → (left : Content)
       → (stack_shown closed.log).crash left →
       LeavesLog bytes (stack_shown closed.log).size closed.settled closed.core.state closed.end left
-  -- the log's device is the one that it was
+  -- the log's device has the size and the place that it had at first
   pub stands : KeepsGround ground (stack_shown closed.log)
-  -- logging ended by the first Stop, which is the history's or came after the Close, else by the
-  -- end of the log itself
+  -- logging ended by the cause of the first Stop, if there is one, else by the end of the store.
+  -- The Stop is among the events or came after the Close
   pub end : closed.end ≡ first_cause closed.stop closed.store_end
   pub stop : KeepsCause closed.core.state closed.stop
   pub causes : HasCause stack_does ground (stack_shown closed.log).faults closed.store_end
-  -- the recorder is one of this log's sector size and of this device
+  -- the log's sectors have `bytes` bytes, and the recorded device has `sectors` sectors
   pub sector_size : closed.core.state.sector_bytes ≡ bytes
   pub device_size : (stack_shown closed.device).size ≡ sectors
-  -- unless it lied, the recorded device has what was written to it
+  -- unless the recorded device lied, it has what was written to it
   pub holds : (stack_shown closed.device).lies ≡ 0
       → Holds (stack_shown closed.device).content closed.done.items
 
--- A script ran: each of its seats made its calls, the recorder of its disks was closed, and these
--- are the tallies in the order of the seats, how far the log has come, how often the layers lied,
--- and the bytes of the log's disk.
+-- `plan` ran: each of its seats made its calls, and then the recorder was closed. `tallies` has the
+-- tally of each seat, in the order of the seats. `status` is the status of the log, `lies` counts
+-- the lies of the layers, and `image` has the bytes of the log's disk.
 pub record IsRun (plan : RunPlan) (tallies : List Tally) (status : Status) (lies : Lies)
     (image : List ℕ) : Type 0 where
   -- each seat of the script made the calls of its lines in their order
@@ -149,23 +149,25 @@ pub record IsRun (plan : RunPlan) (tallies : List Tally) (status : Status) (lies
   }
   -- if none of the log's layers may drop writes, none of them lied
   pub honest : some_drops plan.log_disk.layers ≡ false → lies.log_disk ≡ 0
-  -- the bytes are those of the disk below the log's layers, and as many as the script says
+  -- the bytes are those of the log's disk below its layers, which has the size that the script
+  -- names
   pub bytes : image ≡ gather (shown_of (disk_of closed.log)).content 0
       (shown_of (disk_of closed.log)).size
   pub size : length image ≡ 512 * plan.log_disk.sectors
-  -- unless it lied, the bytes have the log of the history, as seen through the log's layers
+  -- unless the log's device lied, the bytes have a log as seen through its layers: a prefix of the
+  -- history's completion list
   pub logged : lies.log_disk ≡ 0 →
       LeavesLog (bytes_of plan.log_size)
       (top_of plan.log_disk) closed.settled closed.core.state closed.end
       (seen_on plan.log_disk image)
 
--- Calls aren't made, or the writer isn't asked to end, for one of these: there is no memory, a
--- request is open, or the writer has no thread.
+-- Why a run fails before its recorder is closed: there is no memory, a request is open, or the
+-- writer's thread can't be started.
 abbrev pub IsUnplayed : Refusal → Type 0
 IsUnplayed refusal =
     (refusal ≡ refusals.Memory) ⊎ ((refusal ≡ refusals.Busy) ⊎ (refusal ≡ refusals.NoThread))
 
--- What was closed with these seats and receipts isn't what the history has: one comparison fails.
+-- These seats or receipts don't agree with what the recorder's locks guarded: one comparison fails.
 pub record IsForeignClose (seats : List Part) (receipts : List Receipt) : Type 0 where
   pub closed : Closed Stack Stack
   pub differs : Differs (record {
@@ -175,13 +177,14 @@ pub record IsForeignClose (seats : List Part) (receipts : List Receipt) : Type 0
   }) closed.placed.items closed.settled closed.store_end
       closed.done.items seats receipts
 
--- a recorder isn't closed with these seats and receipts for one of these: a request is open, or one
--- of them isn't the recorder's own
+-- Why a close with these seats and receipts is refused: a request is open, or a seat or a receipt
+-- isn't the recorder's own.
 abbrev pub IsUnclosed : List Part → List Receipt → Refusal → Type 0
 IsUnclosed seats receipts refusal =
     (refusal ≡ refusals.Busy) ⊎ ((refusal ≡ refusals.Foreign) × IsForeignClose seats receipts)
 
--- The seats of a script made their calls, but what was closed with them isn't what the history has.
+-- The seats of `plan` made their calls, but they or their receipts didn't agree with what the
+-- recorder's locks guarded.
 pub record IsForeignRun (plan : RunPlan) : Type 0 where
   pub seats : List Part
   pub count : length seats ≡ plan.seats
@@ -191,7 +194,8 @@ pub record IsForeignRun (plan : RunPlan) : Type 0 where
       → HasRun plan.calls tallies given number seat
   pub close : IsForeignClose seats (joined given)
 
--- No log could be made on the script's log disk: there was no memory, or a device failed under it.
+-- No log could be made on the script's log disk. If `end` is Device, a device failed; `end` isn't
+-- Full.
 pub record IsUnmadeLog (plan : RunPlan) (end : End) : Type 0 where
   pub old : Stack
   pub new : Stack
@@ -199,8 +203,9 @@ pub record IsUnmadeLog (plan : RunPlan) (end : End) : Type 0 where
   pub failed : end ≡ ends.Device → HasFaulted (stack_shown old) (stack_shown new)
   pub fits : end ≡ ends.Full → ⊥
 
--- Why a script's run fails: there is no memory, the writer has no thread, a request is open at the
--- close, what is closed isn't the recorder's own, or no log could be made. No line is named.
+-- Why a run of `plan` fails: there is no memory, the writer's thread can't be started, or a request
+-- is open at the close; or a seat or a receipt isn't the recorder's own; or no log could be made.
+-- The fault names no line.
 pub data FailsRun (plan : RunPlan) : RunError → Type 0 where
   memory : FailsRun plan (refused_by refusals.Memory)
   thread : FailsRun plan (refused_by refusals.NoThread)

@@ -1,2 +1,2 @@
--- The definitions of `seat_runner` that only its proofs use: no other crate cites them.
+-- The definitions that only the proofs of `seat_runner` use.
 pub mod SeatWork

@@ -1,5 +1,5 @@
 //! Runs a script of `dmlw run`: a thread for each seat makes the calls of its lines in order, at
-//! moment 0, and one more writes the log.
+//! time 0, and one more thread writes the log.
 //!
 //! `run_seats` runs a script on two disks in memory, closes the recorder, and returns each seat's
 //! tally and the log's disk. `specs/SeatRuns` has the result of a run.

@@ -1,4 +1,4 @@
-//! The threads of a run.
+//! The threads of a run: one for each seat, and one for the writer.
 ghost use Rattle.std.specs.Prelude.{◌≡◌, ◌⊎◌, IfErr, IfOk};
 ghost use Rattle.refusals.specs.declared.refusal.Refusal.TheVariants as refusals;
 ghost use Rattle.seat_runner.specs.inside.SeatWork.{AreNewPlayers, DoesLines, FitsRecorder};
@@ -16,9 +16,9 @@ use std::sync::Wait;
 use std::thread;
 use std::thread::Threads;
 
-// Starts the writer, makes all calls, a thread for each seat, and
-// asks to close. A seat whose thread can't be started makes its
-// calls on this one; if the writer has no thread, no call is made.
+// Starts the writer, makes all calls in a thread for each seat, and asks to close. If a seat's
+// thread can't be started, its calls are made on this thread. If the writer's thread can't be
+// started, no call is made.
 pub(crate) fn run_all<
     D: BlockDev + Drop + Send,
     L: BlockDev + Drop + Send,
@@ -60,7 +60,7 @@ pub(crate) fn run_all<
     )
 }
 
-// Makes all calls, a thread for each seat.
+// Makes the calls of all seats, in a thread for each seat.
 fn play<
     D: BlockDev + Drop + Send,
     L: BlockDev + Drop + Send,
@@ -85,7 +85,8 @@ fn play<
     works
 }
 
-// Asks to close. If that is refused, logging ends, so that the writer doesn't wait for more.
+// Asks the recorder to close. If it refuses, logging is ended, so that the writer doesn't wait for
+// more.
 fn ask_close<D: BlockDev + Drop, L: BlockDev + Drop, R: Run + Names, H: Wait>(
     rt: &H,
     recorder: &Shared<D, L, R>,

@@ -1,4 +1,4 @@
-//! A script's run, from its disks to the log's disk.
+//! Runs a script of seats: makes the disks, runs the seats, and closes the recorder.
 ghost use Rattle.std.specs.Prelude.{◌≡◌, ◌<◌, IfErr, IfOk, length, map};
 ghost use Rattle.lock_state.specs.PlacedItems.{ground_of};
 ghost use Rattle.seat_runner.specs.Tallies.{joined};
@@ -30,23 +30,24 @@ use std::marker::Brand;
 use std::sync::Wait;
 use std::thread::Threads;
 
-/// What a script's run left.
+/// The result of a script's run.
 #[derive(Debug, Drop)]
 pub struct Ran {
-    /// What each seat's calls came to, in the order of the seats.
+    /// The tally of each seat, in the order of the seats.
     pub tallies: Vec<Tally>,
     /// The log's disk, below its layers.
     pub disk: SectorDisk,
-    /// How far the log has come.
+    /// The number of placed entries, the highest sector that they use, and why logging ended, if it
+    /// did.
     pub status: Status,
-    /// How often the layers have lied.
+    /// The lies of the layers.
     pub lies: Lies,
 }
 
-/// Runs a script on two disks in memory of the sizes that it names, each under its layers: each
-/// seat makes the calls of its lines in a thread of its own, then the recorder is closed. The log
-/// is returned even if logging ended before the script did. If no log can be made, the run fails
-/// with the cause of that. No fault names a line.
+/// Runs a script on two disks in memory, with the sizes and layers that it names. Each seat makes
+/// the calls of its lines in its own thread, and then the recorder is closed. The log is returned
+/// even if logging ended before the script did. If no log can be made, the fault is the cause. No
+/// fault names a line.
 pub fn run_seats<H: Threads + Wait + Sync>(
     rt: &H,
     alloc: Global,
@@ -63,8 +64,8 @@ pub fn run_seats<H: Threads + Wait + Sync>(
     run_on::<Brand, H>(rt, alloc, unnamed, device, log, script)
 }
 
-// Runs a script on a data device and a new log on another,
-// by a recorder over this ledger and this table.
+// Runs a script on a data device, with a new log on the device `log`. `unnamed` has the ledger, the
+// table and the board that `R` names.
 fn run_on<R: Run + Names + Send + Sync, H: Threads + Wait + Sync>(
     rt: &H,
     alloc: Global,
@@ -106,7 +107,7 @@ fn run_on<R: Run + Names + Send + Sync, H: Threads + Wait + Sync>(
     Ok(ran_of(tallies, closed))
 }
 
-// A recorder over a new log, with the seats of the script.
+// Makes a recorder over a new log, with the seats of the script.
 fn start<R: Run + Names>(
     alloc: Global,
     unnamed: Unnamed,
@@ -133,14 +134,14 @@ fn start<R: Run + Names>(
     }
 }
 
-// Why both devices, which go, were returned.
+// Drops both devices, and returns why no log could be made.
 fn end_of(refused: (Stack, Stack, End)) -> End
     ensures { result ≡ refused.2 }
 {
     refused.2
 }
 
-// Makes the works of all seats, before their first calls.
+// Makes the `Work` of each seat, before its first call.
 fn works_of<R: Run + Names>(
     alloc: Global,
     seats: Vec<Seat<R>>,
@@ -157,14 +158,14 @@ fn works_of<R: Run + Names>(
     Ok(works)
 }
 
-// What the seats leave.
+// What the seats leave for the close.
 struct Parts<R: Run + Names> {
     seats: Vec<Seat<R>>,
     tallies: Vec<Tally>,
     receipts: Vec<Receipt<R>>,
 }
 
-// The seats, their tallies in the same order, and all receipts.
+// Splits the works into the seats, their tallies in the same order, and all receipts.
 #[tactic(auto, using(crate::proofs::Runs::map_push, crate::proofs::Runs::joined_next))]
 fn parts_of<R: Run + Names>(alloc: Global, works: Vec<Work<R>>) -> Result<Parts<R>, AllocError>
     ensures seats { IfOk result
@@ -190,7 +191,7 @@ fn parts_of<R: Run + Names>(alloc: Global, works: Vec<Work<R>>) -> Result<Parts<
     })
 }
 
-// Closes the recorder with all its seats.
+// Closes the recorder with all its seats and receipts.
 fn close<R: Run + Names>(
     recorder: Shared<Stack, Stack, R>,
     writer: WriterSeat<R>,
@@ -217,7 +218,7 @@ fn close<R: Run + Names>(
     }
 }
 
-// What is left of a recorder that was closed.
+// Makes the result of a run from the tallies and the closed recorder.
 fn ran_of(tallies: Vec<Tally>, closed: Closed<Stack, Stack>) -> Ran
     ensures tallies { result.tallies.items ≡ tallies.items }
     ensures status { result.status ≡ closed.status }

@@ -1,18 +1,18 @@
-//! What became of a seat's calls, and how many of them came to what.
+//! The outcomes of a seat's calls, and their counts.
 ghost use Rattle.std.specs.Prelude.{◌≡◌, ◌+◌, ◌-◌, ◌^◌, ◌<◌, ◌≤◌};
 ghost use Rattle.seat_runner.specs.Tallies.{HasRoom, counted, mark_outcome, no_calls, outcome_of};
 
 use lock_state::{Receipt, Run};
 use shared::{Answer, MarkAnswer};
 
-/// What became of a call.
+/// The outcome of a call.
 #[derive(Clone, Copy, Debug, PartialEq, Eq)]
 pub enum Outcome {
     /// It succeeded.
     Done,
     /// It succeeded, and its entry is in each log that a crash leaves.
     Logged,
-    /// The device failed it, or there was no memory.
+    /// The device failed, or there was no memory.
     Failed,
     /// Logging ended before its entry was durable.
     NotLogged,
@@ -20,7 +20,7 @@ pub enum Outcome {
     Refused,
 }
 
-/// How many calls came to what.
+/// The number of calls with each outcome.
 #[derive(Clone, Copy, Debug, PartialEq, Eq)]
 pub struct Tally {
     pub done: u64,
@@ -31,7 +31,7 @@ pub struct Tally {
 }
 
 impl Outcome {
-    // That of a request which was answered so.
+    // Returns the outcome of a request, given its answer.
     pub(crate) fn of_request<R: Run>(answer: &Answer<Receipt<R>>) -> Outcome
         ensures { result ≡ outcome_of answer.now }
     {
@@ -44,7 +44,7 @@ impl Outcome {
         }
     }
 
-    // That of a mark which was answered so.
+    // Returns the outcome of a mark, given its answer.
     pub(crate) fn of_mark<R: Run>(answer: &MarkAnswer<Receipt<R>>) -> Outcome
         ensures { result ≡ mark_outcome answer.now }
     {
@@ -57,7 +57,7 @@ impl Outcome {
 }
 
 impl Tally {
-    // No calls yet.
+    // Returns the tally of no calls.
     pub(crate) fn none() -> Tally
         ensures { result ≡ no_calls }
     {
@@ -70,7 +70,7 @@ impl Tally {
         }
     }
 
-    // One call more. A count stops at 2^64 - 1.
+    // Counts one more call. A count stops at 2^64 - 1.
     pub(crate) fn count(&mut self, outcome: Outcome)
         ensures { HasRoom self.old → self.new ≡ counted self.old outcome }
     {
@@ -84,7 +84,7 @@ impl Tally {
     }
 }
 
-// One more, up to 2^64 - 1.
+// Returns the count plus one, at most 2^64 - 1.
 fn one_more(count: u64) -> u64
     ensures counts { count < 2 ^ 64 - 1 → result ≡ count + 1 }
     ensures stops { 2 ^ 64 - 1 ≤ count → result ≡ count }

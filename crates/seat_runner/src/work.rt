@@ -1,4 +1,4 @@
-//! What one thread does at its seat.
+//! The calls that one thread makes at its seat.
 ghost use Rattle.std.specs.Prelude.{◌≡◌, ◌==◌, ◌<◌, Ok, true, vec_capacity, vec_len};
 ghost use Rattle.dmlw_script.specs.declared.seat_call.Call.TheVariants.{Mark, Submit};
 ghost use Rattle.dmlw_script.specs.Plans.{submission_answer};
@@ -20,13 +20,13 @@ use std::alloc::Global;
 use std::marker::Model;
 use std::sync::Wait;
 
-/// A seat, and what its calls came to so far. Contracts see it as a `Player`.
+/// A seat, with the counts of its outcomes and its receipts so far. Contracts see it as a `Player`.
 #[derive(Drop)]
 pub struct Work<R: Run + Names> {
     pub(crate) number: u64,
     pub(crate) seat: Seat<R>,
     pub(crate) tally: Tally,
-    // Those that its calls were answered with, in their order.
+    // The receipts in the answers to its calls, in their order.
     pub(crate) receipts: Vec<Receipt<R>>,
     write_data: WriteData,
 }
@@ -45,7 +45,7 @@ impl<R: Run + Names> Model for Work<R> {
 }
 
 impl<R: Run + Names> Work<R> {
-    /// A seat of this number, before its first call.
+    /// Makes the work of seat `number`, before its first call.
     pub fn new(alloc: Global, number: u64, seat: Seat<R>) -> Work<R>
         requires { seat ≡ new_part number }
         ensures { result ≡ new_player number }
@@ -59,7 +59,7 @@ impl<R: Run + Names> Work<R> {
         }
     }
 
-    /// Makes the calls of the seat's own lines in their order, at moment 0.
+    /// Makes the calls of the seat's own lines in their order, at time 0.
     pub fn run<D: BlockDev + Drop, L: BlockDev + Drop, H: Wait>(
         &mut self,
         rt: &H,
@@ -92,8 +92,8 @@ impl<R: Run + Names> Work<R> {
         self.tally.count(outcome);
     }
 
-    // Makes a call. The room for its receipt is got first: if there is no memory for that the
-    // call fails, or the mark is refused, and the recorder isn't asked.
+    // Makes a call. It reserves memory for the receipt first. If there is none, a request fails and
+    // a mark is refused, and the recorder isn't called.
     fn make<D: BlockDev + Drop, L: BlockDev + Drop, H: Wait>(
         &mut self,
         rt: &H,
@@ -109,8 +109,8 @@ impl<R: Run + Names> Work<R> {
         }
     }
 
-    // Submits a request. If there is no memory for its
-    // data it fails, and the recorder isn't asked.
+    // Submits a request. If there is no memory for its receipt or its data, it fails, and the
+    // recorder isn't called.
     #[tactic(auto, using(crate::proofs::Seats::makes_request, crate::proofs::Seats::fails))]
     fn submit<D: BlockDev + Drop, L: BlockDev + Drop, H: Wait>(
         &mut self,
@@ -133,7 +133,7 @@ impl<R: Run + Names> Work<R> {
         outcome
     }
 
-    // Marks the log.
+    // Passes a mark to the recorder.
     #[tactic(auto, using(crate::proofs::Seats::line_is_text, crate::proofs::Seats::makes_mark, crate::proofs::Seats::refused))]
     fn mark<D: BlockDev + Drop, L: BlockDev + Drop, H: Wait>(
         &mut self,
@@ -154,7 +154,7 @@ impl<R: Run + Names> Work<R> {
     }
 }
 
-// Whether the line is that of the seat of this number.
+// Whether the line belongs to seat `number`.
 fn is_own(line: &SeatCall, number: u64) -> bool
     ensures { result ≡ (line.now.seat == number) }
 {
@@ -171,7 +171,7 @@ fn keep<R: Run>(receipts: &mut Vec<Receipt<R>>, receipt: Option<Receipt<R>>)
     }
 }
 
-// The receipt of a request that was logged.
+// Returns the receipt of a request, if it was logged.
 fn receipt_of<C: Drop>(answer: Answer<C>) -> Option<C>
     ensures { result ≡ receipt_in answer }
 {
@@ -186,7 +186,7 @@ fn receipt_of<C: Drop>(answer: Answer<C>) -> Option<C>
     }
 }
 
-// The receipt of a mark that was logged.
+// Returns the receipt of a mark, if it was logged.
 fn mark_receipt<C: Drop>(answer: MarkAnswer<C>) -> Option<C>
     ensures { result ≡ mark_receipt_in answer }
 {

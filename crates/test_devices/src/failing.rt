@@ -1,4 +1,4 @@
-//! A device that fails.
+//! A device that fails after some calls.
 ghost use Rattle.std.specs.Prelude.{false};
 ghost use Rattle.blockdev.specs.OwnCounts.{counted, lawful_counted};
 

@@ -5,7 +5,7 @@ use dmlw_files::{FileError, FileFailure, Files};
 use sector_disk::{Image, SectorDisk};
 use std::alloc::{AllocError, Global};
 
-// A file.
+// A file of the folder.
 #[derive(Drop)]
 struct Named {
     name: String,
@@ -26,13 +26,13 @@ impl Folder {
         }
     }
 
-    /// Returns the content of the file of this name, if it exists.
+    /// Returns the bytes of the file `name`, if it exists.
     pub fn bytes(&self, name: &str) -> Option<&[u8]> {
         let file = self.files.iter().find(|file| file.name.as_str() == name)?;
         Some(&file.bytes)
     }
 
-    /// Makes or replaces the file of this name, with these bytes.
+    /// Creates or replaces the file `name`.
     pub fn put(&mut self, alloc: Global, name: &str, bytes: Vec<u8>) -> Result<(), AllocError> {
         let name = String::from_str(alloc, name)?;
         self.remove(name.as_str());
@@ -40,7 +40,7 @@ impl Folder {
         Ok(())
     }
 
-    /// Removes the file of this name, if it exists.
+    /// Removes the file `name`, if it exists.
     pub fn remove(&mut self, name: &str) {
         self.files.retain(|file| file.name.as_str() != name);
     }

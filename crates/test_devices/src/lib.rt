@@ -1,6 +1,6 @@
-//! What tests use. Devices over another device: three that fail, one that lies, and one that notes
-//! its calls; each keeps the law of `blockdev`. Files in memory, writers and numbers, for
-//! transcripts and for tests of commands. And checks of rows of tests (`rows`).
+//! What tests use: devices over another device (three that fail, one that lies, and one that notes
+//! its calls), each of which keeps the law of `blockdev`; files in memory, streams and random
+//! numbers; and checks of tables of tests (`rows`).
 #![tactic(auto)]
 
 mod failing;

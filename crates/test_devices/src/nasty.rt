@@ -1,4 +1,4 @@
-//! A device that, from some call on, does its calls and answers that they failed.
+//! A device that, from some call on, does its calls but answers that they failed.
 ghost use Rattle.std.specs.Prelude.{false};
 ghost use Rattle.blockdev.specs.OwnCounts.{counted, lawful_counted};
 

@@ -1,13 +1,13 @@
-// Numbers for tests, from a seed.
+// Random numbers for tests, computed from a seed.
 
-/// Numbers that look random.
+/// A sequence of numbers that look random.
 #[derive(Drop)]
 pub struct Numbers {
     state: u64,
 }
 
 impl Numbers {
-    /// Returns the numbers of this seed.
+    /// Returns the sequence of this seed.
     pub fn new(seed: u64) -> Numbers {
         Numbers {
             state: seed.wrapping_mul(0x9e37_79b9_7f4a_7c15) | 1,

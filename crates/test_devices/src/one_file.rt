@@ -5,18 +5,18 @@ use dmlw_files::{FileError, FileFailure, Files};
 use sector_disk::{Image, SectorDisk};
 use std::alloc::Global;
 
-/// Files of which "script" and "image" can be read and have the same content. "log" can be written.
+/// Files: "script" and "image" can be read and have the same content. "log" can be written.
 #[derive(Drop)]
 pub struct OneFile<'a> {
     bytes: &'a [u8],
-    /// The number of bytes that it takes to hold the file that is read.
+    /// A read fails if its limit is below this length, or below the number of bytes.
     pub length: u64,
     /// What was written.
     pub log: Option<Vec<u8>>,
 }
 
 impl<'a> OneFile<'a> {
-    /// Returns files with these bytes, whose length is what it takes to hold them.
+    /// Returns files with these bytes. Their length is the number of bytes.
     pub fn new(bytes: &'a [u8]) -> OneFile<'a> {
         OneFile {
             bytes,

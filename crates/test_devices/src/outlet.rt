@@ -3,15 +3,15 @@ use std::alloc::Global;
 use std::io;
 use std::io::Write;
 
-/// A stream in memory with room for `room` bytes. It may be one that can't be flushed.
+/// A stream in memory with room for `room` bytes. A stuck stream can't be flushed.
 #[derive(Drop)]
 pub struct Outlet {
     taken: Vec<u8>,
     room: usize,
-    // The error that it returns if it has no room, and, if it is stuck, to a flush.
+    // The error of a write without room and, if the stream is stuck, of a flush.
     kind: io::ErrorKind,
     is_stuck: bool,
-    // Whether it has bytes that weren't flushed.
+    // Whether it took bytes that weren't flushed.
     is_held: bool,
 }
 
@@ -28,8 +28,8 @@ impl Outlet {
     }
 
     /// Returns the stream that a word names. `full:<n>`, `memory:<n>` and `pipe:<n>` have room for
-    /// `n` bytes. Their errors are then that there is no room, no memory, or no reader.
-    /// `stuck:full` and `stuck:memory` take all bytes, and return these errors when they are
+    /// `n` bytes. Their errors are that there is no room, no memory, or no reader. `stuck:full` and
+    /// `stuck:memory` take all bytes, and return the error of `full` or `memory` when they are
     /// flushed.
     pub fn named(alloc: Global, word: &str) -> Option<Outlet> {
         let (how, what) = word.split_once(':')?;
@@ -67,7 +67,7 @@ impl Outlet {
         &self.taken
     }
 
-    /// Returns whether the stream has bytes that could have been flushed and weren't.
+    /// Returns whether the stream has bytes that could have been flushed but weren't.
     pub fn is_held(&self) -> bool {
         self.is_held && !self.is_stuck
     }

@@ -1,4 +1,4 @@
-//! Checks of rows of tests. A text in an assertion is dear to prove, and here it is proved once.
+//! Checks for tables of tests. Texts in assertions are slow to prove; here each is proved once.
 ghost use Rattle.std.specs.Prelude.{◌≡◌};
 
 use std::fmt::Debug;
@@ -22,7 +22,7 @@ pub fn is_told(rt: &impl Print, told: &str, wanted: &str, row: &str) -> bool {
     is_told
 }
 
-/// Returns the test. If it doesn't hold, prints the row.
+/// Returns `test`. If it doesn't hold, prints the row.
 pub fn holds(rt: &impl Print, test: bool, row: &str) -> bool
     ensures { result ≡ test }
 {
@@ -32,9 +32,8 @@ pub fn holds(rt: &impl Print, test: bool, row: &str) -> bool
     test
 }
 
-/// Returns whether the expected result of each row is right. In a row it is the text after the
-/// first `=`, and the text before that is passed to `tell`. Prints each row for which it isn't
-/// right.
+/// Returns whether each row has the right result. The text before the first `=` of a row is passed
+/// to `tell`, and the text after it is the expected result. Prints each row whose result is wrong.
 pub fn rows_are_told<E, F: FnMut(&str) -> Result<String, E>>(
     rt: &impl Print,
     rows: &str,

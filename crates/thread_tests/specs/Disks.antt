@@ -1,8 +1,8 @@
--- The disks of a recorder's log in these tests.
+-- The disks for the logs of these tests.
 use Rattle.std.specs.Prelude.{ℕ, false}
 use Rattle.lock_state.specs.PlacedItems.{Ground}
 
--- a disk of `sectors` sectors, under no layers
+-- a disk of `sectors` sectors, without layers
 abbrev pub disk_ground : ℕ → Ground
 disk_ground sectors =
     record {

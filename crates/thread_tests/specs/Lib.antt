@@ -1,3 +1,3 @@
--- The definitions that the contracts of `thread_tests` are written in.
+-- The definitions of `thread_tests`' contracts.
 pub use Rattle.lock_state.specs.PlacedItems
 pub mod Disks

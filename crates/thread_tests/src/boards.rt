@@ -1,4 +1,4 @@
-//! What readers read of a board.
+//! Tests of what readers read from a board.
 ghost use Rattle.std.specs.Prelude.{◌≡◌};
 
 use bio::{End, Status};
@@ -9,7 +9,7 @@ use std::marker::Brand;
 use std::test::*;
 use test_devices::is_same;
 
-// Statuses that are posted in turn, and whether each may be.
+// Statuses to post one after another, and whether each may be posted.
 const ROWS: [(u64, u64, Option<End>, bool); 12] = [
     (0, 0, None, true),
     (3, 4, None, true),
@@ -34,7 +34,7 @@ fn post<N: Names>(board: &Board<N>, writer: &mut WriterSeat<N>, status: Status) 
     may_publish
 }
 
-// Checks what readers read after each row: one that reads each time, and one that is made then.
+// Checks what two readers read after each row: one that reads after each row, and a new one.
 fn rows_are_read<N: Names>(rt: &impl Print, blank: Blank) -> bool
     requires { blank ≡ N.board }
 {

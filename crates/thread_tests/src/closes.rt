@@ -1,5 +1,5 @@
-//! A recorder of one seat: its calls, a close that nobody asked for, and a close that writes
-//! everything itself.
+//! Tests of a recorder with one seat: its calls, a close that wasn't asked for, and a close that
+//! writes everything itself.
 ghost use Rattle.std.specs.Prelude.{◌≡◌};
 ghost use Rattle.thread_tests.specs.Disks.{disk_ground};
 
@@ -35,12 +35,12 @@ fn start<R: Run + Names>(
     Ok(Shared::new(alloc, unnamed, device, log, 1, 1).ok())
 }
 
-// Returns a write of one sector of sevens.
+// Returns a write of one sector that is filled with 7.
 fn write(alloc: Global, first: u64) -> Result<Bio, AllocError> {
     write_of(alloc, first, 7)
 }
 
-// Returns whether a sector of sevens and then one of nines was read.
+// Returns whether a read returned a sector of 7 and then a sector of 9.
 fn has_read<C>(answer: &Answer<C>) -> bool {
     match answer {
         Answer::Read(bytes) => {
@@ -53,7 +53,7 @@ fn has_read<C>(answer: &Answer<C>) -> bool {
     }
 }
 
-// Returns a write of one sector of this byte.
+// Returns a write of one sector that is filled with `byte`.
 fn write_of(alloc: Global, first: u64, byte: u8) -> Result<Bio, AllocError> {
     Ok(Bio::Write {
         first,
@@ -64,8 +64,8 @@ fn write_of(alloc: Global, first: u64, byte: u8) -> Result<Bio, AllocError> {
     })
 }
 
-// A recorder that nobody asked to close is returned with its seat. After it was asked, the close
-// itself writes everything, with no writer's thread.
+// A close without `ask_close` returns the recorder and its seat. After `ask_close`, the close
+// itself writes everything, without a writer's thread.
 fn unasked<R: Run + Names, H: Wait>(
     rt: &H,
     alloc: Global,
@@ -113,9 +113,9 @@ fn unasked<R: Run + Names, H: Wait>(
     Ok(matches!(answer, Answer::Done) && is_asked && is_written)
 }
 
-// The seat of a recorder writes, flushes and reads. After recording is closed, the writer writes
-// everything, and the close has nothing left to write. A reader sees the status of an empty log
-// before, and the status of the whole log after it. What it saw is a prefix of what was posted.
+// A seat writes, flushes and reads. After recording is closed, the writer writes everything, and
+// the close has nothing left to write. A reader sees the status of an empty log before the writer
+// ran, and the status of the whole log after it. What it saw is a prefix of what was posted.
 fn recorded<R: Run + Names, H: Wait>(
     rt: &H,
     alloc: Global,
@@ -180,8 +180,8 @@ struct Wrote<R: Run + Names> {
     writer: WriterSeat<R>,
 }
 
-// Starts a recorder, makes a write of this sector, and asks to close. Returns None if that couldn't
-// be done.
+// Starts a recorder, writes sector `first`, and asks the recorder to close. Returns None if that
+// failed.
 fn start_and_write<R: Run + Names, H: Wait>(
     rt: &H,
     alloc: Global,
@@ -237,8 +237,8 @@ fn is_foreign<R: Run + Names>(alloc: Global, wrote: Wrote<R>) -> Result<bool, Al
     Ok(back.seats.len() == 1 && back.closed.placed.is_empty() && is_unposted)
 }
 
-// Logging of a recorder ended before its seat's calls. A write with FUA and a mark are answered by
-// the cause, and a plain write is done.
+// Logging ended before the seat's calls. A FUA write and a mark are answered with the cause, and a
+// plain write is done.
 fn stopped<R: Run + Names, H: Wait>(
     rt: &H,
     alloc: Global,
@@ -336,7 +336,8 @@ fn a_write_behind_a_stop_is_told_its_cause(rt: HostRuntime) -> Result<(), Fail> 
     Ok(())
 }
 
-// A seat's calls after recording was closed: a write with FUA is done, and a mark is refused by 36.
+// A seat's calls after recording was closed: a FUA write is done, and a mark is refused with number
+// 36.
 fn closed<R: Run + Names, H: Wait>(
     rt: &H,
     alloc: Global,

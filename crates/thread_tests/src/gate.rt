@@ -9,10 +9,10 @@ use std::sync::atomic::{AtomicU64, Ordering};
 use std::thread::sleep;
 use std::time::{Clock, Duration};
 
-// How often a held call checks whether it may go on. It sleeps a millisecond after each check.
+// How often a held call checks whether it may go on. It sleeps for a millisecond after each check.
 const LOOKS: u64 = 10_000;
 
-// The states of a sign: no call is held; one is; it may go on.
+// The states of a sign: no call is held; a call is held; it may go on; its gate gave up holding it.
 const IDLE: u64 = 0;
 
 const HELD: u64 = 1;
@@ -34,14 +34,14 @@ impl Sign {
         })
     }
 
-    /// Returns another handle on the same sign.
+    /// Returns another handle of the same sign.
     pub fn again(&self) -> Result<Sign, AllocError> {
         Ok(Sign {
             state: Arc::try_clone(&self.state)?,
         })
     }
 
-    /// Waits until a call is held, at most as long as a gate holds one.
+    /// Waits until a call is held, but no longer than a gate holds one.
     pub fn wait(&self, clock: &impl Clock) {
         for _ in 0..LOOKS {
             if self.state.load(Ordering::SeqCst) != IDLE {
@@ -58,7 +58,7 @@ impl Sign {
             .is_ok()
     }
 
-    // Holds a call, until it is released or this gives up.
+    // Holds a call, until it is released or the checks run out.
     fn hold(&self, clock: &impl Clock) {
         self.state.store(HELD, Ordering::SeqCst);
         for _ in 0..LOOKS {
@@ -73,7 +73,8 @@ impl Sign {
     }
 }
 
-/// A device whose writes to one sector are counted. Each passes, but one is held first.
+/// A device that holds one of the writes to one sector. It counts these writes, and passes all
+/// calls.
 #[derive(Drop)]
 pub struct Gate<D: BlockDev + Drop, C: Clock + Drop> {
     lower: D,
@@ -99,7 +100,7 @@ impl<D: BlockDev + Drop, C: Clock + Drop> Gate<D, C> {
         }
     }
 
-    /// Returns a gate that holds the write to this sector that comes after `passes` others.
+    /// Returns a gate that holds the write to `sector` after `passes` other writes to it.
     pub fn holding(lower: D, clock: C, sign: Sign, sector: u64, passes: u64) -> Gate<D, C>
         ensures { result.lower ≡ lower }
     {

@@ -1,4 +1,4 @@
-//! A keeper and its holders make their calls.
+//! Tests the calls of a keeper and its holders.
 ghost use Rattle.std.specs.Prelude.{◌≡◌};
 
 use lock_state::{Fresh, Whose};

@@ -1,4 +1,4 @@
-//! Four seats that fill a log or find it full, and what their reads find.
+//! Tests with four seats: they fill a log, or find it full; and their reads find what they wrote.
 ghost use Rattle.std.specs.Prelude.{◌<◌, ◌≤◌};
 
 use crate::play::{Played, Table};
@@ -17,15 +17,16 @@ use std::thread::Threads;
 use std::time::Clock;
 use test_devices::{holds, is_same};
 
-// The number of seats, and of sectors that each has for itself.
+// The number of seats, and the number of sectors that only one seat uses.
 const SEATS: u64 = 4;
 
 const OWN: u64 = 100;
 
-// The byte that a seat writes after it was asked to close.
+// The byte that a seat writes after the recorder was asked to close.
 const LATE: u8 = 200;
 
-// Returns the calls of a seat that writes each of its sectors once and then marks its number.
+// Returns the calls of a seat that writes each of its sectors once, and then a mark with its
+// number.
 fn writes_and_mark(alloc: Global, seat: u64) -> Result<Table, AllocError>
     requires { seat < 4 }
 {
@@ -65,7 +66,7 @@ fn have_seen(rt: &impl Print, seen: &[Status], last: &Status) -> bool {
     have
 }
 
-// Returns whether this receipt is that of the mark with this byte.
+// Returns whether a receipt is for the mark with the text `byte`.
 fn is_marks(receipt: (Id, u64), placed: &[Item], byte: u8) -> bool {
     let (id, number) = receipt;
     match placed.get(number as usize) {
@@ -102,10 +103,10 @@ fn read_back(alloc: Global, log: SectorDisk) -> u64 {
     count
 }
 
-// Four seats write a hundred sectors each and mark their numbers, over a log of `sectors` sectors,
-// while four readers read the status. Returns whether the answers, the receipts, the status and the
-// log that is read again are these. Also, no reader saw a status go back, and each sees the last
-// one in the end.
+// Four seats write a hundred sectors each and then a mark, to a log of `sectors` sectors, while
+// four readers read the status. Returns whether the answers, the receipts, the status and the
+// entries that are read back are as expected. No reader may see a status go back, and each must see
+// the last one at the end.
 fn four_seats<H: Threads + Wait + Clock + Print + Sync + Send + Copy + Drop>(
     rt: &H,
     alloc: Global,
@@ -166,8 +167,8 @@ fn four_seats_find_a_log_full(rt: HostRuntime) -> Result<(), Fail> {
 }
 
 // Returns the calls of a seat that writes each of its sectors, reads it at once, and then flushes.
-// After it was asked to close, it writes its first sector again, and its second one with FUA. It
-// discards its third one, reads each, and marks.
+// After the recorder was asked to close, it writes its first sector again, and its second one with
+// FUA. It discards its third one, reads each of the three, and marks.
 fn writes_read_back(alloc: Global, seat: u64) -> Result<Table, AllocError>
     requires { seat < 4 }
 {
@@ -190,7 +191,7 @@ fn writes_read_back(alloc: Global, seat: u64) -> Result<Table, AllocError>
     })
 }
 
-// Returns the calls of a seat with this first sector, after it was asked to close.
+// Returns the late calls of a seat whose first sector is `first`.
 fn late_calls(alloc: Global, first: u64) -> Result<Vec<Call>, AllocError>
     requires { first < 400 }
 {
@@ -240,8 +241,8 @@ fn has_byte(
     Ok(buffer.as_slice().iter().all(|&found| found == byte))
 }
 
-// Returns the byte that fills this sector of a seat: one of the first three, or the number of the
-// write.
+// Returns the byte that fills a seat's sector number `place`: one of `first` for the first three,
+// else the byte that was written there.
 fn byte_of(place: u64, first: [u8; 3]) -> u8 {
     match place {
         0 => first[0],
@@ -260,9 +261,9 @@ fn have_bytes(disk: &mut SectorDisk, alloc: Global, first: [u8; 3]) -> Result<bo
     Ok(have)
 }
 
-// Four seats write and read, flush, and write and discard again after the close was asked for.
-// Returns whether each read found what was written, and each sector of the device has its last
-// value. After a crash each has the value that was flushed, and the late write with FUA stays.
+// Four seats write and read, and flush. They write and discard again after the recorder was asked
+// to close. Returns whether each read found what was written, and each sector of the device has its
+// last value. After a crash each sector must have the flushed value, or that of the late FUA write.
 fn readback<H: Threads + Wait + Clock + Print + Sync + Send + Copy + Drop>(
     rt: &H,
     alloc: Global,

@@ -1,5 +1,5 @@
-//! Tests of `board`, `lock_state` and `shared`, through what these make public. They are apart from
-//! the crates that they test, so that these aren't proved a second time with their tests.
+//! Tests of `board`, `lock_state` and `shared`, through their public functions. They are in their
+//! own crate, so that the tested crates aren't proved again with their tests.
 #![tactic(auto)]
 
 #[cfg(test)]

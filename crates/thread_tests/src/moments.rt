@@ -1,4 +1,4 @@
-//! The time at which a seat's request is passed to the device.
+//! Tests of the time at which a seat's request is passed to the device.
 ghost use Rattle.std.specs.Prelude.{◌≡◌};
 ghost use Rattle.thread_tests.specs.Disks.{disk_ground};
 
@@ -16,7 +16,7 @@ use std::test::*;
 // The number of sectors of each disk.
 const SECTORS: u64 = 16;
 
-// A device that keeps the time at which its last call began.
+// A device that notes the time at which its last call began.
 #[derive(Drop)]
 struct Timed<D: BlockDev + Drop> {
     lower: D,
@@ -74,8 +74,8 @@ impl<D: BlockDev + Drop> BlockDev for Timed<D> {
     ghost lawful = { λ device. D.lawful device.lower };
 }
 
-// Checks that a seat's request begins at the time at which it was submitted, also after recording
-// was closed (`late`).
+// Returns whether a seat's request begins at the time at which it was submitted. With `late`, it is
+// submitted after the recorder was asked to close.
 fn is_handed_on<R: Run + Names, H: Wait>(
     rt: &H,
     alloc: Global,

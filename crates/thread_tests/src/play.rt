@@ -1,4 +1,4 @@
-//! Runs a recorder with a thread for each seat and one that writes the log, and closes it.
+//! Runs a recorder with a thread for each seat and one that writes the log, and then closes it.
 ghost use Rattle.std.specs.Prelude.{◌≡◌, ◌<◌, ◌≤◌};
 ghost use Rattle.std.specs.Thread.{IsSend};
 ghost use Rattle.lock_state.specs.PlacedItems.{ground_of};
@@ -27,7 +27,8 @@ pub struct Table {
 // How often a reader reads the status.
 const LOOKS: u64 = 10_000;
 
-/// A reader's results: the status that it saw last, and whether one went back.
+/// A reader, the status that it read last, and whether a status went back: it had fewer entries
+/// than the one before it, or another end.
 #[derive(Drop)]
 pub struct Watch<R: Run + Names> {
     pub seat: StatusSeat<R>,
@@ -36,7 +37,7 @@ pub struct Watch<R: Run + Names> {
 }
 
 impl<R: Run + Names> Watch<R> {
-    // Reads the status this many times.
+    // Reads the status `looks` times.
     fn look<D: BlockDev + Drop, L: BlockDev + Drop>(
         &mut self,
         recorder: &Shared<D, L, R>,
@@ -51,7 +52,7 @@ impl<R: Run + Names> Watch<R> {
     }
 }
 
-/// The results of a recorder that was played, with each seat's tally, in the order of the tables.
+/// The results of a closed recorder. The seats' tallies are in the order of the tables.
 #[derive(Drop)]
 pub struct Played<D: Drop, L: Drop> {
     pub tallies: Vec<Tally>,
@@ -74,9 +75,9 @@ struct Called<R: Run + Names> {
     watches: Vec<Watch<R>>,
 }
 
-// Starts the writer, makes all calls, with a thread for each seat, asks to close, and makes the
-// late calls. Returns None if not all of that could be started. Then logging ends, so that the
-// writer doesn't wait for more.
+// Starts the writer, makes all calls in a thread for each seat, asks the recorder to close, and
+// makes the late calls. Returns None if a thread couldn't be started or the close was refused. If
+// the writer runs then, logging is ended, so that the writer doesn't wait for more.
 fn run_all<
     D: BlockDev + Drop + Send,
     L: BlockDev + Drop + Send,
@@ -172,7 +173,7 @@ fn call_all_late<
     works
 }
 
-// Returns a seat with its calls for each table, as long as there are seats.
+// Pairs the seats with the tables, and returns the works before their first calls.
 fn works_of<R: Run + Names>(
     alloc: Global,
     seats: Vec<Seat<R>>,
@@ -195,7 +196,7 @@ fn works_of<R: Run + Names>(
     Ok(works)
 }
 
-// Returns the readers before they read for the first time.
+// Returns the readers before their first read.
 fn watches_of<R: Run + Names>(
     alloc: Global,
     readers: Vec<StatusSeat<R>>,
@@ -216,7 +217,7 @@ fn watches_of<R: Run + Names>(
     Ok(watches)
 }
 
-// The seats, their tallies and their receipts.
+// What the works leave: the seats, their tallies and their receipts.
 #[derive(Drop)]
 struct Parts<R: Run + Names> {
     seats: Vec<Seat<R>>,
@@ -225,7 +226,7 @@ struct Parts<R: Run + Names> {
     let_go: bool,
 }
 
-// Returns the seats, their tallies in the same order, and all receipts.
+// Splits the works into the seats, their tallies in the same order, and all receipts.
 fn parts_of<R: Run + Names>(alloc: Global, works: Vec<Work<R>>) -> Result<Parts<R>, AllocError> {
     let mut seats = Vec::new(alloc);
     let mut receipts = Vec::new(alloc);
@@ -259,8 +260,8 @@ fn names_of<R: Run>(alloc: Global, receipts: &[Receipt<R>]) -> Result<Vec<(Id, u
     Ok(names)
 }
 
-// Lets each reader read once more. Returns what each saw last, and whether none saw a status go
-// back.
+// Lets each reader read once more. Returns the status that each read last, and whether none saw a
+// status go back.
 fn last_looks<D: BlockDev + Drop, L: BlockDev + Drop, R: Run + Names>(
     alloc: Global,
     recorder: &Shared<D, L, R>,
@@ -277,8 +278,8 @@ fn last_looks<D: BlockDev + Drop, L: BlockDev + Drop, R: Run + Names>(
     Ok((seen, rises))
 }
 
-/// Plays the tables, with a seat for each. Returns None if the recorder couldn't be started, or
-/// didn't close as its own.
+/// Plays the tables, with a seat for each, and closes the recorder. Returns None if the recorder or
+/// a thread couldn't be started, or if a close was refused.
 pub fn play<
     D: BlockDev + Drop + Send,
     L: BlockDev + Drop + Send,

@@ -1,5 +1,5 @@
-//! Two seats record requests through the values behind the locks. What was queued is placed, and
-//! all of it is compared at the end.
+//! Two seats record requests in the values that the locks guard, without locks or threads. The
+//! queued items are placed, and all is compared at the end.
 ghost use Rattle.std.specs.Prelude.{◌≡◌, None};
 ghost use Rattle.bio.specs.Sizes.{bytes_of};
 ghost use Rattle.lock_state.specs.PlacedItems.{ground_of};
@@ -23,7 +23,7 @@ const SECTORS: u64 = 64;
 
 const LOG_SECTORS: u64 = 128;
 
-// Returns a write of one log sector, the one of this number.
+// Returns a write as long as a log sector. `number` counts such pieces of the device.
 fn write(alloc: Global, size: SectorSize, number: u64, fua: bool) -> Result<Bio, AllocError> {
     Ok(Bio::Write {
         first: number.saturating_mul(size.sectors()),
@@ -93,7 +93,7 @@ fn pass<R: Run>(queue: &QueueState<R>, seat: &mut Seat<R>) -> Result<bool, Alloc
     Ok(true)
 }
 
-// Returns whether the device was called for what the history has.
+// Returns whether the device's calls agree with the history.
 fn is_served<R: Run>(
     alloc: Global,
     queue: &QueueState<R>,
@@ -103,7 +103,7 @@ fn is_served<R: Run>(
     Ok(queue.is_served(data_state.done(), notes.as_mut_slice()))
 }
 
-// Places what is left of a closed recorder's log. Returns whether that could be done, and `count`
+// Places the remaining items of a closed recorder. Returns whether that succeeded, and `count`
 // items are then placed and settled.
 pub fn writes_rest<R: Run>(
     queue: &mut QueueState<R>,
@@ -153,8 +153,8 @@ fn agree<R: Run>(
     Ok(has_both && is_served(alloc, queue, data_state)?)
 }
 
-// Records two seats' requests. Returns whether their lists and passed calls are the history's, and
-// the placed items too.
+// Records the requests of two seats. Returns whether the seats' lists, their passed calls and the
+// placed items agree with the history.
 fn two_seats_record<R: Run>(
     rt: &impl Print,
     alloc: Global,
@@ -200,7 +200,7 @@ fn two_seats_record<R: Run>(
     )
 }
 
-// As above, by a new recorder.
+// As above, with a new recorder.
 fn two_seats(rt: &impl Print, alloc: Global, size: SectorSize) -> Result<bool, AllocError> {
     let blank = Blank::new(2);
     let fresh = (Fresh::new(alloc)?, Fresh::new(alloc)?, Fresh::new(alloc)?);

@@ -1,5 +1,5 @@
-//! A call that goes on while a device holds another seat's, a log that has hardly any room, one
-//! whose device fails, and a recorded device that fails.
+//! Tests of a call that isn't blocked while a device holds another seat's call; of a log with
+//! hardly any room; of a log whose device fails; and of a recorded device that fails.
 ghost use Rattle.std.specs.Prelude.{◌<◌, ◌≤◌};
 
 use crate::gate::{Gate, Sign};
@@ -21,7 +21,7 @@ use test_devices::{Failing, holds, is_same};
 // The number of sectors of the disks of two seats.
 const FEW: u64 = 64;
 
-/// Returns a tally of these answers.
+/// Returns a tally with these counts, and 0 for the other answers.
 pub fn tally(done: u64, logged: u64, found: u64) -> Tally {
     Tally {
         done,
@@ -77,16 +77,16 @@ pub fn stage<
     play::<D, L, Brand, H>(rt, alloc, unnamed, device, log, tables, count, readers)
 }
 
-// The place at which a call is held.
+// The device that holds a call.
 #[derive(Clone, Copy, Debug, PartialEq, Eq)]
 enum Held {
     Device,
     Log,
 }
 
-// What two seats do. The first one's call is held at the device or at the log, at the write to this
-// sector after `passes` others. It is held until the second one's was answered. Both must be
-// answered by these tallies.
+// The calls of two seats. The device or the log holds the first seat's call until the second seat's
+// call was answered: at the write to `sector` after `passes` other writes to it. `tallies` has the
+// expected answers.
 #[derive(Clone, Copy, Debug)]
 struct Scene {
     held: Held,
@@ -94,11 +94,11 @@ struct Scene {
     passes: u64,
     calls: (Call, Call),
     tallies: (Tally, Tally),
-    // The log's status in the end.
+    // The expected status of the log at the end.
     status: Status,
 }
 
-// Returns the calls of both seats. The second one's waits for this sign.
+// Returns the tables of both seats. The second seat waits for the sign.
 fn two_calls(alloc: Global, calls: (Call, Call), sign: Sign) -> Result<Vec<Table>, AllocError> {
     let mut tables = Vec::new(alloc);
     tables.push(alone(alloc, calls.0, None)?)?;
@@ -116,7 +116,7 @@ fn are_answered(rt: &impl Print, found: &[Tally], wanted: (Tally, Tally)) -> boo
 }
 
 // Plays the scene. Returns whether the first call was still held when the second one was answered,
-// and both had their answers.
+// and both answers and the status are as expected.
 fn gated<H: Threads + Wait + Clock + Print + Sync + Send + Copy + Drop>(
     rt: &H,
     alloc: Global,
@@ -151,7 +151,7 @@ fn gated<H: Threads + Wait + Clock + Print + Sync + Send + Copy + Drop>(
     Ok(are_tallies && is_let_go && is_status && is_end)
 }
 
-// Returns the status of a log that goes on, with this number of entries up to this sector.
+// Returns the status of a log that hasn't ended, with `entries` entries up to sector `sector`.
 fn goes_on(entries: u64, sector: u64) -> Status {
     Status {
         entries,
@@ -183,7 +183,8 @@ fn a_write_is_answered_while_the_log_is_written(rt: HostRuntime) -> Result<(), F
     Ok(())
 }
 
-// Logging stops while the log is written. The entry that the writer had taken is still written.
+// Logging stops while an entry is written to the log. The writer had taken that entry, and writes
+// it.
 #[test]
 fn a_taken_entry_is_written_after_a_stop(rt: HostRuntime) -> Result<(), Fail> {
     let scene = Scene {
@@ -201,7 +202,7 @@ fn a_taken_entry_is_written_after_a_stop(rt: HostRuntime) -> Result<(), Fail> {
     Ok(())
 }
 
-// Logging stops while the device holds a write with FUA. Its seat doesn't wait for the log forever.
+// Logging stops while the device holds a write with FUA. Its seat isn't left waiting for the log.
 #[test]
 fn a_write_is_let_go_after_a_stop(rt: HostRuntime) -> Result<(), Fail> {
     let scene = Scene {
@@ -232,8 +233,8 @@ fn a_write_is_let_go_after_a_stop(rt: HostRuntime) -> Result<(), Fail> {
     Ok(())
 }
 
-// A close is asked for while the device holds a request, which is open. It is busy, and recording
-// goes on.
+// The recorder is asked to close while the device holds a request. It is refused as busy, and
+// recording goes on.
 #[test]
 fn a_close_is_busy_while_a_request_is_open(rt: HostRuntime) -> Result<(), Fail> {
     let scene = Scene {
@@ -261,7 +262,7 @@ fn a_close_is_busy_while_a_request_is_open(rt: HostRuntime) -> Result<(), Fail> 
     Ok(())
 }
 
-// The super block of one seat's mark is held until another's write was answered.
+// The write of the super block after one seat's mark is held until another's write was answered.
 #[test]
 fn a_write_is_answered_while_a_mark_is_made_sure(rt: HostRuntime) -> Result<(), Fail> {
     let scene = Scene {
@@ -283,7 +284,8 @@ fn a_write_is_answered_while_a_mark_is_made_sure(rt: HostRuntime) -> Result<(), 
     Ok(())
 }
 
-// The super block of one seat's write with FUA is held until another's write was answered.
+// The write of the super block after one seat's FUA write is held until another's write was
+// answered.
 #[test]
 fn a_write_is_answered_while_a_fua_write_is_made_sure(rt: HostRuntime) -> Result<(), Fail> {
     let scene = Scene {
@@ -309,7 +311,7 @@ fn a_write_is_answered_while_a_fua_write_is_made_sure(rt: HostRuntime) -> Result
     Ok(())
 }
 
-// The device's write of one seat is held until another's mark was answered.
+// One seat's write is held in the device until another's mark was answered.
 #[test]
 fn a_mark_is_answered_while_the_device_writes(rt: HostRuntime) -> Result<(), Fail> {
     let scene = Scene {
@@ -331,8 +333,8 @@ fn a_mark_is_answered_while_the_device_writes(rt: HostRuntime) -> Result<(), Fai
     Ok(())
 }
 
-// Makes one call of one seat, over a log of `sectors` sectors. Returns whether the answer and the
-// status are these.
+// Makes one call of one seat, with a log of `sectors` sectors. Returns whether the answer and the
+// status are as expected.
 fn small_log<H: Threads + Wait + Clock + Print + Sync + Send + Copy + Drop>(
     rt: &H,
     alloc: Global,
@@ -391,8 +393,8 @@ fn one_seat_finds_room_for_a_write_alone(rt: HostRuntime) -> Result<(), Fail> {
     Ok(())
 }
 
-// A seat's mark, over a log whose device passes the write that creates the log, and fails each
-// later one. The log then ends, logging stops, and the waiting seat is released.
+// Makes a seat's mark. The log's device passes the write that creates the log, and fails each later
+// one. So the log ends, logging stops, and the waiting seat is released.
 fn failing_log<H: Threads + Wait + Clock + Print + Sync>(
     rt: &H,
     alloc: Global,
@@ -447,8 +449,8 @@ fn device_calls(alloc: Global) -> Result<Vec<Call>, AllocError> {
     Ok(calls)
 }
 
-// A seat's calls, and its late ones, over a device that fails each. Returns whether each is
-// answered by that, and none by lack of memory.
+// Makes a seat's calls, and its late calls, on a device that fails each. Returns whether each
+// answer is that fault, and none is lack of memory.
 fn failing_device<H: Threads + Wait + Clock + Print + Sync>(
     rt: &H,
     alloc: Global,

@@ -10,7 +10,8 @@ use std::alloc::{AllocError, Global};
 use std::sync::Wait;
 use std::time::Clock;
 
-/// A call of a seat. A write fills its one sector with a byte; a read finds that byte.
+/// A call of a seat. A write fills one sector with a byte; a read expects the sector to hold a
+/// byte.
 #[derive(Clone, Copy, Debug, PartialEq, Eq)]
 pub enum Call {
     Write { first: u64, byte: u8, fua: bool },
@@ -18,9 +19,10 @@ pub enum Call {
     Flush,
     Discard { first: u64 },
     Mark { byte: u8 },
-    /// Asks to close. The answer is done, or refused as busy.
+    /// Asks the recorder to close. It counts as done, as refused if the recorder is busy, or as
+    /// starved.
     AskClose,
-    /// Ends logging for lack of memory. The answer is done.
+    /// Ends logging for lack of memory. It counts as done.
     GiveUp,
 }
 
@@ -34,7 +36,7 @@ pub struct Tally {
     pub starved: u64,
     pub not_logged: u64,
     pub refused: u64,
-    /// The number of reads that found the byte.
+    /// The number of reads that found the expected byte.
     pub found: u64,
 }
 
@@ -71,12 +73,12 @@ pub struct Work<R: Run + Names> {
     pub player: Player<R>,
     /// The calls that are made while recording goes on.
     pub calls: Vec<Call>,
-    /// The calls that are made after it was asked to close.
+    /// The calls that are made after the recorder was asked to close.
     pub late: Vec<Call>,
-    /// The gate that has to hold a call before this seat's first, and that is released after its
-    /// last.
+    /// The sign of a gate. The seat waits until the gate holds a call, makes its calls, and then
+    /// releases the gate's call.
     pub after: Option<Sign>,
-    /// Whether the gate then still held its call.
+    /// Whether the gate still held its call then.
     pub let_go: bool,
 }
 
@@ -199,7 +201,7 @@ impl<R: Run + Names> Player<R> {
     }
 }
 
-// Returns whether these bytes are those that the call's sector must hold.
+// Returns whether a read returned one sector of the expected byte.
 fn is_filled(bytes: &[u8], call: Call) -> bool {
     match call {
         Call::Read { byte, .. } => bytes.len() == 512 && bytes.iter().all(|&found| found == byte),

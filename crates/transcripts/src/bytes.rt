@@ -1,8 +1,8 @@
-// Bytes as a transcript shows them.
+// Bytes in the form in which a transcript shows them.
 use std::alloc::{AllocError, Global};
 
-/// Appends the content of a file: its length, and each sector of 512 bytes that isn't zeroes, by
-/// its number. Bytes that repeat in a row are written once, with a star and their count.
+/// Appends the content of a file: its length, and the number and bytes of each sector of 512 bytes
+/// that isn't only zeroes. Equal bytes in a row are written once, with a star and their count.
 pub fn push_sectors(text: &mut String, bytes: &[u8]) -> Result<(), AllocError> {
     writeln!(text, "{} bytes", bytes.len())?;
     for (number, sector) in bytes.chunks(512).enumerate() {
@@ -63,7 +63,7 @@ pub fn unescaped(alloc: Global, text: &str) -> Result<Vec<u8>, AllocError> {
     Ok(bytes)
 }
 
-// Takes the next byte of a text, and returns the state of the escape after it.
+// Takes the next byte of a text. Returns the state of the escape after it.
 fn push_unescaped(bytes: &mut Vec<u8>, escape: Escape, byte: u8) -> Result<Escape, AllocError> {
     let meant = match escape {
         Escape::None if byte == b'\\' => return Ok(Escape::Begun),
@@ -89,7 +89,7 @@ pub fn hex_byte(high: u8, low: u8) -> u8 {
     byte_of(digit(high), digit(low))
 }
 
-// Returns the byte of two hexadecimal digits, by their values.
+// Returns the byte of two hexadecimal digits, given the value of each.
 fn byte_of(high: u8, low: u8) -> u8 {
     (high % 16) * 16 + low % 16
 }

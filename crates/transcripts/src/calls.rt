@@ -1,4 +1,4 @@
-// Calls of a disk under layers, and what each shows.
+// Makes calls of a disk, with or without layers, and shows their answers.
 use crate::bytes::{hex_byte, push_sectors};
 use bio::{DevError, Ms};
 use blockdev::{BlockDev, Message};
@@ -11,7 +11,7 @@ use table_line::parse_line;
 // The most sectors that a call may name.
 const MAX_SECTORS: u64 = 4096;
 
-/// Makes the calls of these lines on a disk under layers, and appends what each call shows. `layer`
+/// Makes the calls of these lines on a disk under layers, and appends the answer of each. `layer`
 /// lines name the layers, the lowest first. A layer is loaded at time 0 or, after `layer@<ms>`, at
 /// that time. From a line `off` on, the layers are removed, and the calls go to the disk itself.
 pub fn ask_stack(
@@ -25,7 +25,7 @@ pub fn ask_stack(
     ask_disk(alloc, &mut disk, beneath, shown)
 }
 
-/// Makes the calls of these lines on a disk under no layer. `disk` shows the disk's content, and
+/// Makes the calls of these lines on a disk without layers. `disk` shows the disk's content, and
 /// `crash <pick> ..` fails its power.
 pub fn ask_disk(
     alloc: Global,
@@ -66,7 +66,7 @@ fn on_layers(
     told.map(|_| disk)
 }
 
-// Puts the layer of a line over a stack; another line puts none.
+// Puts the layer of a line over a stack. A line without a layer puts none.
 fn layered(alloc: Global, stack: Stack, line: &str) -> Result<Stack, (Stack, Refusal)> {
     let Some(rest) = line.strip_prefix("layer") else {
         return Ok(stack);
@@ -127,7 +127,7 @@ fn send<D: Message + Drop>(
     }
 }
 
-// The range of sectors that a call names, and its byte, written in two hexadecimal digits.
+// The sectors that a call names, its byte, which has two hexadecimal digits, and whether it is FUA.
 #[derive(Drop)]
 struct Range {
     first: u64,
@@ -137,7 +137,7 @@ struct Range {
 }
 
 impl Range {
-    // Returns the numbers of these words; 0 for each that is missing.
+    // Returns the range of these words, with 0 for each missing number.
     fn of(words: &str) -> Range {
         let mut words = words.split(' ');
         let first = words.next().unwrap_or_default().parse::<u64>().unwrap_or(0);
@@ -193,7 +193,7 @@ fn ask_at<D: BlockDev + Drop>(
     }
 }
 
-// Shows when a read ended, with the first byte of each sector, or its error.
+// Shows the time at which a read ended and the first byte of each sector, or its error.
 fn tell_read(
     end: Result<Ms, DevError>,
     buffer: &[u8],
@@ -211,7 +211,7 @@ fn tell_read(
     Ok(())
 }
 
-// Shows when a call ended, in milliseconds, or its error.
+// Shows the time at which a call ended, in milliseconds, or its error.
 fn tell_end(end: Result<Ms, DevError>, shown: &mut String) -> Result<(), AllocError> {
     match end {
         Ok(end) => writeln!(shown, "ends at {}", end.milliseconds()),
@@ -228,7 +228,7 @@ fn show_disk(disk: &mut SectorDisk, shown: &mut String) -> Result<(), AllocError
     }
 }
 
-// Fails the disk's power, with these picks.
+// Fails the disk's power, with the picks of these words.
 fn crash(alloc: Global, disk: &mut SectorDisk, words: &str) -> Result<(), AllocError> {
     let mut picks = Vec::new(alloc);
     for word in words.split(' ') {

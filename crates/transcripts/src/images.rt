@@ -1,11 +1,11 @@
-// Images that are made from the words of a transcript.
+// Makes images from the words of a transcript.
 use crate::bytes::hex_byte;
 use std::alloc::AllocError;
 
 // The largest image that a word may ask for, in bytes.
 const MAX_IMAGE: usize = 536_870_912;
 
-/// Makes an image `length` bytes long, and writes to it what the words say. `<byte>:=<hex>` or
+/// Makes an image `length` bytes long, and writes to it as the words say. `<byte>:=<hex>` or
 /// `<byte>:=<hex>*<count>` writes bytes from there on. `<byte>:<n>,<n>,..` writes numbers of eight
 /// bytes, little endian.
 pub fn change(image: &mut Vec<u8>, length: usize, words: &str) -> Result<(), AllocError> {
@@ -17,7 +17,7 @@ pub fn change(image: &mut Vec<u8>, length: usize, words: &str) -> Result<(), All
     Ok(())
 }
 
-// Writes to an image what one word says.
+// Writes to an image as one word says.
 fn put_word(image: &mut [u8], word: &str) {
     let Some((place, what)) = word.split_once(':') else {
         return;

@@ -1,12 +1,14 @@
-//! Runs transcripts, and series: commands over files in memory, each with what it shows.
+//! Runs transcripts and series of commands over files in memory, and compares their output with the
+//! expected output.
 //!
-//! A transcript is a text. A line at the margin is prose. `  $ ` starts a command, and `  > `
-//! starts a line that is given to it. Any other line that is indented by two spaces is the
-//! command's expected output. Each word of this program that ends in `.t` names a transcript. The
-//! program prints each command whose output differs, with its output now, then a line for each
-//! transcript, and one for all. With `again` as its first word it prints each transcript as it runs
-//! now. `scene` has the commands. Any other word names a series (`series`), whose lines are printed
-//! last.
+//! A transcript is a text. A line at the margin is prose. `  $ ` begins a command, and `  > `
+//! begins a line that is given to it. Other lines that are indented by two spaces are its expected
+//! output.
+//!
+//! Each argument that ends in `.t` names a transcript. The program prints each command whose output
+//! differs, with its output now, then a line for each transcript, and one for all. If the first
+//! argument is `again`, it prints each transcript with its output now. `scene` has the commands.
+//! Each other argument names a series (`series`), whose lines are printed last.
 #![tactic(auto)]
 
 mod bytes;
@@ -52,16 +54,16 @@ fn main(rt: HostRuntime) -> io::Result<ExitCode> {
     Ok(ExitCode::from(u8::from(!is_good)))
 }
 
-// Returns the text of the transcript of this name, of at most 4 MiB; an empty text if it can't be
-// read.
+// Returns the text of the transcript `name`, which may have 4 MiB. Returns an empty text if it
+// can't be read.
 fn transcript_of<R: std::rt::Files + AllocGlobal>(rt: &R, name: &str) -> io::Result<String> {
     let mut files = HostFiles::new(rt, rt.alloc());
     let text = read_text(rt.alloc(), name, &mut files).unwrap_or(Vec::new(rt.alloc()));
     Ok(String::from_utf8(text).unwrap_or(String::new(rt.alloc())))
 }
 
-// Returns what is printed of a transcript: all of it as it runs now, or the commands that differ
-// and its line.
+// Returns what is printed for a transcript: with `is_again` the whole transcript with its output
+// now, else the commands that differ, and a line.
 fn run<R: AllocGlobal + Threads + Wait + Sync>(
     rt: &R,
     name: &str,

@@ -37,7 +37,7 @@ impl Files for Here<'_> {
     }
 }
 
-// Returns the folder's name for a file.
+// Returns the name that a file has in the folder.
 fn plain(name: &str) -> &str {
     name.strip_prefix("./").unwrap_or(name)
 }

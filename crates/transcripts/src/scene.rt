@@ -15,7 +15,7 @@ use std::thread::Threads;
 use table_line::{parse_line, push_line};
 use test_devices::{Folder, Outlet};
 
-// The sectors of the largest disk.
+// The number of sectors of the largest disk.
 const MAX_SECTORS: u64 = 1_048_576;
 
 /// A folder of files, and the output of the last command. `rt` starts threads and waits for them.
@@ -28,7 +28,7 @@ pub struct Scene<'a, H> {
 }
 
 impl<'a, H: Threads + Wait + Sync> Scene<'a, H> {
-    /// Returns a scene with no files.
+    /// Returns a scene without files.
     pub fn new(rt: &'a H, alloc: Global) -> Scene<'a, H> {
         Scene {
             rt,
@@ -43,7 +43,7 @@ impl<'a, H: Threads + Wait + Sync> Scene<'a, H> {
         self.shown.as_str()
     }
 
-    /// Does a command, with the lines that are given to it. The output of an unknown command says
+    /// Runs a command, with the lines that are given to it. The output for an unknown command says
     /// so.
     pub fn run(&mut self, command: &str, given: &str) -> Result<(), AllocError> {
         self.shown.clear();
@@ -83,7 +83,7 @@ impl<'a, H: Threads + Wait + Sync> Scene<'a, H> {
         self.folder.put(self.alloc, name, bytes)
     }
 
-    // `image NAME LENGTH ..`: changes an image, or makes one of zeroes.
+    // `image NAME LENGTH ..`: changes an image, or makes a new one of zeroes.
     fn image(&mut self, words: &str) -> Result<(), AllocError> {
         let (name, words) = words.split_once(' ').unwrap_or((words, ""));
         let (length, words) = words.split_once(' ').unwrap_or((words, ""));
@@ -140,7 +140,7 @@ impl<'a, H: Threads + Wait + Sync> Scene<'a, H> {
         }
     }
 
-    // `table LINE`: shows the canonical text of a table's line, or its refusal.
+    // `table LINE`: shows the canonical text of a table line, or its refusal.
     fn table(&mut self, line: &str) -> Result<(), AllocError> {
         match parse_line(line.as_bytes()) {
             Ok(spec) => {
@@ -165,7 +165,7 @@ impl<'a, H: Threads + Wait + Sync> Scene<'a, H> {
         }
     }
 
-    // `disk SECTORS` or `disk NAME`: as above, under no layer.
+    // `disk SECTORS` or `disk NAME`: as above, without layers.
     fn disk(&mut self, what: &str, given: &str) -> Result<(), AllocError> {
         match self.disk_of(what) {
             Some(disk) => {
@@ -176,7 +176,8 @@ impl<'a, H: Threads + Wait + Sync> Scene<'a, H> {
         }
     }
 
-    // Returns a disk of zeroes with this many sectors, or one that holds a file's bytes.
+    // Returns a disk of zeroes, if `what` is a number of sectors, else a disk with the bytes of the
+    // file `what`.
     fn disk_of(&self, what: &str) -> Option<SectorDisk> {
         if let Ok(sectors) = what.parse::<u64>() {
             if sectors == 0 || sectors > MAX_SECTORS {
@@ -192,8 +193,8 @@ impl<'a, H: Threads + Wait + Sync> Scene<'a, H> {
         SectorDisk::from_bytes(self.alloc, bytes).ok()
     }
 
-    // Runs a command line of dmlw. Before it there may be the word of an output that fails, `deaf`
-    // for a stream of faults that can't be flushed, or `quiet`.
+    // Runs a command line of dmlw. It may follow a word: the name of an output that fails, `deaf`
+    // if the faults' stream can't be flushed, or `quiet` if nothing is shown.
     fn dmlw(&mut self, verb: &str, command: &str, rest: &str) -> Result<(), AllocError> {
         match verb {
             "dmlw" => self.execute(Outlet::open(self.alloc), Outlet::open(self.alloc), command),
@@ -210,13 +211,13 @@ impl<'a, H: Threads + Wait + Sync> Scene<'a, H> {
         }
     }
 
-    // Executes the words of a command line, and shows what it prints.
+    // Executes a command line, and shows what it prints.
     fn execute(&mut self, out: Outlet, err: Outlet, line: &str) -> Result<(), AllocError> {
         let (mut out, mut err) = (out, err);
         self.execute_on(&mut out, &mut err, line)
     }
 
-    // As above, on outputs that stay with the caller.
+    // As above, on outputs that the caller keeps.
     fn execute_on(
         &mut self,
         out: &mut Outlet,
@@ -235,9 +236,9 @@ impl<'a, H: Threads + Wait + Sync> Scene<'a, H> {
         )
     }
 
-    // `narrow dmlw ..`: executes a command line over outputs with room for no byte, for one, and so
-    // on, up to one byte less than its whole output. It shows the number of these outputs. It also
-    // shows, once each, the different faults that were printed after a prefix of the output.
+    // `narrow dmlw ..`: executes a command line for each room from no byte up to one byte less than
+    // its whole output, on an output with that room. It shows the number of these outputs. It also
+    // shows, once each, the faults that were reported after a prefix of the output was printed.
     fn narrow(&mut self, line: &str, whole: &str) -> Result<(), AllocError> {
         let mut seen = String::new(self.alloc);
         for room in 0..whole.len() {
@@ -254,13 +255,13 @@ impl<'a, H: Threads + Wait + Sync> Scene<'a, H> {
         Ok(())
     }
 
-    // Returns the content of the file of this name; nothing if it doesn't exist.
+    // Returns the content of the file `name`, or nothing if it doesn't exist.
     fn taken(&self, name: &str) -> Result<Vec<u8>, AllocError> {
         Vec::from_slice(self.alloc, self.folder.bytes(name).unwrap_or_default())
     }
 }
 
-// Notes what was printed when an output was too narrow, if it isn't noted yet.
+// Notes the fault that was reported when an output was too narrow, if it isn't noted yet.
 fn note_refusal(seen: &mut String, shown: &str, is_beginning: bool) -> Result<(), AllocError> {
     let told = match shown.split_once("! ") {
         Some((_, told)) => told,
@@ -276,7 +277,7 @@ fn note_refusal(seen: &mut String, shown: &str, is_beginning: bool) -> Result<()
     Ok(())
 }
 
-// Executes a command line over files and outputs that are lent. `./NAME` is another name of a file.
+// Executes a command line with the caller's files and outputs. `./NAME` is another name of a file.
 fn execute_over<H: Threads + Wait + Sync>(
     rt: &H,
     alloc: Global,

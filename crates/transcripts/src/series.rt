@@ -1,5 +1,5 @@
-//! Series of commands over files in memory. The result of each is compared with one that was
-//! computed separately.
+//! Series of commands over files in memory. Each result is compared with one that was computed
+//! separately.
 //!
 //! A series goes through all cases of its kind, and prints a line with its counts. For each case
 //! that differs, it prints the output and the expected output.
@@ -21,7 +21,7 @@ use std::alloc::{AllocError, Global};
 use std::sync::Wait;
 use std::thread::Threads;
 
-/// Runs the series of a name.
+/// Runs the series `name`.
 pub(crate) fn run<H: Threads + Wait + Sync>(
     rt: &H,
     alloc: Global,

@@ -1,4 +1,4 @@
-// How many commands ran, and how many of them differed.
+// Counts how many commands ran, and how many of them differed.
 use std::fmt;
 
 /// Counts of commands.
@@ -9,7 +9,7 @@ pub struct Tally {
 }
 
 impl Tally {
-    /// Returns counts of no command.
+    /// Returns counts of 0.
     pub fn new() -> Tally {
         Tally {
             commands: 0,
@@ -17,7 +17,7 @@ impl Tally {
         }
     }
 
-    /// Counts a command, whose output was as expected or not.
+    /// Counts a command, and whether its output was as expected.
     pub fn count(&mut self, is_same: bool) {
         self.commands = self.commands.saturating_add(1);
         if !is_same {
@@ -25,7 +25,7 @@ impl Tally {
         }
     }
 
-    /// Adds the counts of another one.
+    /// Adds the counts of another tally.
     pub fn add(&mut self, other: &Tally) {
         self.commands = self.commands.saturating_add(other.commands);
         self.differ = self.differ.saturating_add(other.differ);

@@ -1,4 +1,4 @@
-// A transcript, run line by line.
+// Runs a transcript, line by line.
 use crate::scene::Scene;
 use crate::tally::Tally;
 use std::alloc::{AllocError, Global};
@@ -36,15 +36,16 @@ impl Step {
     }
 }
 
-// The text that is printed of a transcript, and whether that is the whole transcript.
+// The text to print for a transcript, and whether it is the whole transcript.
 #[derive(Drop)]
 struct Report {
     text: String,
     is_again: bool,
 }
 
-/// Runs a transcript's commands in turn, and returns what is printed of it. This is all of it with
-/// each command's output now, or the commands whose output differs.
+/// Runs a transcript's commands one after another, and returns what is printed for it: with
+/// `is_again` the whole transcript with each command's output now, else the commands whose output
+/// differs.
 pub fn run<H: Threads + Wait + Sync>(
     alloc: Global,
     text: &str,
@@ -111,7 +112,7 @@ fn take_line<H: Threads + Wait + Sync>(
     copy_line(line, report)
 }
 
-// Runs the command whose lines have all been taken, if there is one, and notes its output.
+// Runs the command whose lines were all taken, if there is one, and notes its output.
 fn end_step<H: Threads + Wait + Sync>(
     step: &mut Step,
     report: &mut Report,
@@ -140,7 +141,7 @@ fn tell_difference(text: &mut String, command: &str, shown: &str) -> Result<(), 
     push_indented(text, shown)
 }
 
-// Copies a line of a transcript that is printed as it runs now.
+// Copies a line of the transcript, if the whole transcript is printed.
 fn copy_line(line: &str, report: &mut Report) -> Result<(), AllocError> {
     if report.is_again {
         push_line(&mut report.text, line)?;

@@ -1,4 +1,4 @@
-//! The messages of a layer with bad blocks.
+//! Tests of the messages of a layer with bad blocks.
 use super::{by_sector, over, talk_over};
 use crate::calls::{answer_of, ask, read_of};
 use bio::Ms;
@@ -22,13 +22,13 @@ fn failed_writes<D: Message + Drop>(rt: &impl Abort, device: &mut D, sector: u64
     300
 }
 
-// Messages that list a block of one sector: the block, and how many writes of it then fail.
+// Messages that list a block of one sector, then the block, and how many writes of it then fail.
 const ADDED: &str = "addbadblock 60|60|0
 addbadblock 60 1|60|1
 addbadblock 127 0|127|0
 addbadblock 00000000000000000007 00000000000000000255|7|255";
 
-// Lists the block of a row. The row's number of writes then remove it from the list. Lists it once
+// Adds the block of a row to the list. The row's number of writes then remove it. Adds it once
 // more, and clears the list.
 fn list_block<D: Message + Drop>(rt: &(impl Abort + Print), device: &mut D, row: &str) {
     let (text, rest) = row.split_once('|').unwrap_or_default();
@@ -56,7 +56,7 @@ fn texts_that_list_a_block(rt: HostRuntime) -> Result<(), Fail> {
     Ok(())
 }
 
-// Texts that give no order, with a bar after each.
+// Texts that aren't messages, with a bar after each.
 const NO_ORDERS: &str =
     "| |addbadblock|addbadblock |addbadblock  60|addbadblock 60 |addbadblock 60  1|addbadblock 60 1 |addbadblock 60 1 1| addbadblock 60|addbadblock 60 256|addbadblock 60 -1|addbadblock x|addbadblock 60 x|addbadblock 0x3c|addbadblock\t60|addbadblock 18446744073709551616|addbadblock 000000000000000000060|ADDBADBLOCK 60|addbadblocks 60|removebadblock|removebadblock 60 |removebadblock  60|removebadblock 60 1|clearbadblocks | clearbadblocks|clearbadblocks 1|clearbadblock|enable |Enable|enable 1|disable\n|quiet|countbadblocks";
 
@@ -77,8 +77,8 @@ fn texts_that_ask_for_none(rt: HostRuntime) -> Result<(), Fail> {
 }
 
 // Messages to a layer of 99 sectors with blocks of 2, one after another: the text, the answer, and
-// the state then. The state is whether the device is enabled (`e`) and lists the blocks 0 (`f`) and
-// 49 (`l`).
+// the state after it. The state says whether the layer is enabled (`e`), and lists block 0 (`f`)
+// and block 49 (`l`).
 const ANSWERS: &str = "removebadblock 0|8 NotBad|---
 clearbadblocks|ok|---
 disable|ok|---
@@ -107,8 +107,8 @@ fn is_bad<D: BlockDev + Drop>(rt: &impl Abort, device: &mut D, sector: u64) -> b
     ask(rt, device, Ms::new(0), read_of(sector)).end.is_err()
 }
 
-// Returns whether the device is enabled, and lists these two blocks. While it is enabled, a read of
-// a listed block fails. Its mode stays.
+// Returns whether the layer is enabled, and lists these two blocks. It is enabled for the test,
+// since a read of a listed block fails only then; after it the mode is as before.
 fn state<D: BlockDev + Drop>(rt: &impl Abort, device: &mut Dust<D>) -> [bool; 3] {
     let is_enabled = device.mode() != Mode::Bypass;
     assert!(rt; device.message(1, "enable").is_ok());
@@ -150,8 +150,8 @@ fn answers_of_messages(rt: HostRuntime) -> Result<(), Fail> {
     Ok(())
 }
 
-// A layer of one or two sectors has one block of two sectors, and a layer of three or four has two.
-// A layer has as many blocks as begin in it.
+// A layer has as many blocks as begin in it: with one or two sectors it has one block of two
+// sectors, with three or four it has two.
 const ONE: &str = "m 1 addbadblock 0|ok
 m 1 addbadblock 1|6 BadMessage
 m 1 addbadblock 2|6 BadMessage";

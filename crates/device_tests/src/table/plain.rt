@@ -1,11 +1,11 @@
-// Layers over a disk, modelled plainly: a list of layers, and a byte for each sector.
+// A plain model of layers over a disk: a list of layers, and a byte for each sector.
 use crate::calls::Call;
 use bio::Ms;
 use fault_layers::{Kind, Verdict};
 use table_line::{Feature, LayerSpec, Target};
 
-// A layer: what its line asks for, its load time, and counts of calls: those that it passed and a
-// fuse counts, and those that it failed or dropped.
+// A layer: its line, its load time, the number of calls that a fuse has passed, and the numbers of
+// calls that it failed and dropped.
 #[derive(Debug, Drop)]
 pub(super) struct Plain {
     spec: LayerSpec,
@@ -70,7 +70,7 @@ pub(super) fn counts(layers: &[Plain]) -> (u64, u64) {
     (faults, lies)
 }
 
-// Makes the call on the disk.
+// Makes a call on the disk.
 fn on_disk(disk: &mut [u8], kind: Kind, first: usize, byte: u8) -> Option<u8> {
     match kind {
         Kind::Read => return disk.get(first).copied(),
@@ -90,7 +90,7 @@ fn put(disk: &mut [u8], sector: usize, byte: u8) {
     }
 }
 
-// Returns the answer to a call: the byte that is read or 0, or none if it failed.
+// Makes a call. Returns the byte that was read, 0 for another call, or None if the call failed.
 pub(super) fn plain_call(
     layers: &mut [Plain],
     disk: &mut [u8],

@@ -17,13 +17,13 @@ use std::process::Abort;
 use std::test::Fail;
 use test_devices::{Failing, rows_are_told};
 
-// Copies, a line each: two numbers, and the old log's entries. The first number is the sectors of
-// the new log's disk. The second is the number of writes and flushes that its device does before it
-// fails. The first of these creates the log. The old log has sectors of 512 bytes. `w` writes
-// sectors 8 to 15, `u` does with FUA, `p` writes sectors 4 to 11, and `l` sectors 8 to 11. `d`
+// Copies, a line each: two numbers, and the entries of the old log. The first number is the sector
+// count of the new log's disk. The second is the number of writes and flushes that pass before the
+// device fails; the first of them creates the log. The old log has sectors of 512 bytes. `w` writes
+// sectors 8 to 15, `u` the same with FUA, `p` sectors 4 to 11, and `l` sectors 8 to 11. `d`
 // discards sectors 16 to 31, `f` flushes, and `m` is a mark. After `=` are the answer, the new
-// log's status, and the entries that a crash leaves, which keeps only what is settled. Each entry
-// is shown by its place, length, flags and first byte.
+// log's status, and the entries that are left by a crash that keeps only what is settled. Each
+// entry is shown by its first sector, length, flags and first byte.
 const COPIES: &str = "64 99 =0;0 0;
 64 99 wm=2;2 31;1+1 0 65;0+0 8 100;
 72 99 wudfm=5;5 63;1+1 0 65;1+1 2 65;2+2 4 0;0+0 1 0;0+0 8 100;
@@ -37,8 +37,8 @@ const COPIES: &str = "64 99 =0;0 0;
 64 6 wm=19 Device after 2;2 31 logging_disabled;1+1 0 65;0+0 8 100;
 64 8 wm=2;2 31;1+1 0 65;0+0 8 100;";
 
-// Copies of logs with sectors of 4,096 bytes, and of logs whose device fails after a number of
-// reads. The reads are of the super block, and for each entry of its header and of a write's data.
+// Copies of logs with sectors of 4,096 bytes, from a device that fails after a number of reads. The
+// super block is read, and for each entry its header and a write's data.
 const READS: &str = "99 wdum=4;4 55;1+1 0 65;2+2 4 0;1+1 2 65;0+0 8 100;
 1 wm=1 Io after 0;0 0;
 2 um=1 Io after 0;0 0;
@@ -69,7 +69,7 @@ fn request(alloc: Global, kind: u8) -> Result<Bio, AllocError>
     })
 }
 
-// Returns the entry that a letter names, in a log with sectors of this size.
+// Returns the entry that a letter names, in a log with sectors of size `size`.
 fn entry(rt: &impl Abort, alloc: Global, size: SectorSize, kind: u8) -> Result<Entry, Fail>
     ensures { IfOk result (λ entry. IsTrue (is_readable (bytes_of size) entry)) }
 {
@@ -134,7 +134,7 @@ fn left(rt: &impl Abort, alloc: Global, disk: SectorDisk) -> Result<String, Fail
     Ok(list)
 }
 
-// Returns what is shown of a copy of a device's log to a new one.
+// Copies the log of a device to a new log. Returns the result as text.
 fn copied<A: BlockDev + Drop>(
     rt: &impl Abort,
     alloc: Global,
@@ -159,8 +159,8 @@ fn number(word: Option<&str>) -> u64 {
     word.unwrap_or_default().parse::<u64>().unwrap_or(0)
 }
 
-// Returns what is shown of a copy: the number of sectors of its disk, the number of calls that its
-// device does, and the log's entries.
+// Returns the result of a copy. The row has the sector count of the new disk, the number of calls
+// that its device passes, and the log's entries.
 fn copy_told(rt: &impl Abort, alloc: Global, row: &str) -> Result<String, Fail> {
     let mut words = row.split(' ');
     let disk = SectorDisk::new(alloc, number(words.next()).clamp(8, 8192))?;
@@ -181,7 +181,7 @@ fn logs_are_copied(rt: HostRuntime) -> Result<(), Fail> {
     Ok(())
 }
 
-// Returns what is shown of a copy of a log whose device fails: the number of reads that it does,
+// Returns the result of a copy from a device that fails. The row has the number of reads that pass,
 // and the log's entries.
 fn reads_told(rt: &impl Abort, alloc: Global, row: &str) -> Result<String, Fail> {
     let (reads, kinds) = row.split_once(' ').unwrap_or_default();

@@ -1,4 +1,4 @@
-//! The calls that a replay makes.
+//! Tests of the calls that a replay makes.
 use super::{disk_of, image_of, number_of, upto_of};
 use log_reader::LogReader;
 use refusals::Refusal;
@@ -17,7 +17,7 @@ struct Pair {
     target: Watched<Failing<SectorDisk>>,
 }
 
-// Returns the log of an image, and a target of zeroes. Each passes a given number of calls.
+// Returns the log of an image, and a target of zeroes. Each device passes a given number of calls.
 fn pair_of(
     rt: &impl Abort,
     alloc: Global,
@@ -37,7 +37,7 @@ fn pair_of(
     })
 }
 
-// Returns what is shown of a replay: its answer, and the calls of its target.
+// Replays a log, and returns its answer and the calls of its target.
 fn step(alloc: Global, pair: &mut Pair, upto: &Upto) -> Result<String, AllocError> {
     let mut text = match replay(&mut pair.log, &mut pair.target, upto) {
         Ok(count) => format!(in alloc; "{count}:")?,
@@ -90,8 +90,8 @@ fn image_named(alloc: Global, name: &str) -> Result<Vec<u8>, AllocError> {
     }
 }
 
-// Returns the pair of a row: the name of an image, the calls that its device passes, the number of
-// sectors of the target, and the calls that it passes.
+// Returns the pair of a row. It has the name of an image, the number of calls that its device
+// passes, the sector count of the target, and the number of calls that the target passes.
 fn pair_in(rt: &impl Abort, alloc: Global, row: &str) -> Result<Pair, Fail> {
     let mut words = row.split(' ');
     let image = image_named(alloc, words.next().unwrap_or_default())?;
@@ -107,7 +107,7 @@ fn pair_in(rt: &impl Abort, alloc: Global, row: &str) -> Result<Pair, Fail> {
     )
 }
 
-// Makes the replays of a row, one after another, each as what is asked for and what is shown.
+// Makes the replays of a row, one after another, and checks the result of each.
 fn assert_steps(
     rt: &(impl Abort + Print),
     alloc: Global,
@@ -152,7 +152,7 @@ wide - 131072 -;1=27 PastTarget after 0:",
     )
 }
 
-// Appends an entry of the log of thousands, and the call that is expected for it.
+// Appends an entry to the log of thousands, and the expected call.
 fn push_discard(
     alloc: Global,
     number: u64,
@@ -166,15 +166,15 @@ fn push_discard(
     Ok(())
 }
 
-// Returns what is shown of the replay of a log of this text, up to its first flush.
+// Returns the result of a replay, up to the first flush, of a log with this text.
 fn long_text(rt: &impl Abort, alloc: Global, text: &str) -> Result<String, Fail> {
     let image = image_of(alloc, text, 15_361_024)?;
     let mut pair = pair_of(rt, alloc, image, u64::MAX, 16, u64::MAX)?;
     Ok(step(alloc, &mut pair, &Upto::Flush)?)
 }
 
-// Each of thousands of discards is one call, in their order. If the time of each grew with its
-// place, the test would not end in time.
+// Each of thousands of discards is one call, in their order. If the time of a step grew with its
+// number, the test wouldn't end in time.
 #[test]
 fn thousands_of_entries_are_replayed(rt: HostRuntime) -> Result<(), Fail> {
     let alloc = rt.alloc();
@@ -204,8 +204,8 @@ calls - 16 5;9=9:w5+1 w6+2 w8+1 d9+3 w1+1",
     )
 }
 
-// A log device that fails does so too. If it fails in a search, nothing is applied. If it fails in
-// reading an entry's header or its data, that entry isn't applied.
+// A log device that fails ends the replay too. If it fails in a search, nothing is applied. If it
+// fails in reading an entry's header or its data, that entry isn't applied.
 #[test]
 fn log_devices_that_fail_end_a_replay(rt: HostRuntime) -> Result<(), Fail> {
     assert_replays(
@@ -226,7 +226,7 @@ calls 1 16 -;0=0:",
     )
 }
 
-// Checks what a replay up to the first mark of exactly these bytes shows.
+// Checks the result of a replay up to the first mark of exactly these bytes.
 fn check_mark(
     rt: &(impl Abort + Print),
     alloc: Global,
@@ -240,8 +240,8 @@ fn check_mark(
     Ok(())
 }
 
-// The first mark of exactly the text is taken, whatever its bytes, and none that only begins with
-// it.
+// The first mark with exactly the text is taken, whatever its bytes are. A mark that only begins
+// with the text isn't taken.
 #[test]
 fn marks_are_found_by_all_their_bytes(rt: HostRuntime) -> Result<(), Fail> {
     let alloc = rt.alloc();
@@ -279,8 +279,8 @@ fn stale_entries_are_not_replayed(rt: HostRuntime) -> Result<(), Fail> {
     )
 }
 
-// After a refusal of its own a reader refuses each call by 22, except a call for more entries than
-// there are. After any other refusal it goes on.
+// If a reader refuses a call because of its log, it refuses later calls with 22. Only a call for
+// more entries than there are is refused differently. After any other refusal the reader goes on.
 #[test]
 fn readers_refuse_after_a_refusal(rt: HostRuntime) -> Result<(), Fail> {
     assert_replays(

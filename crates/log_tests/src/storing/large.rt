@@ -14,9 +14,9 @@ use std::process::Abort;
 use std::test::Fail;
 use test_devices::{Watched, rows_are_told};
 
-// Logs on disks of a number of sectors, a line each. `w` appends a write of 8 sectors, `m` a mark,
-// and `s` settles. After `=` are the status, and the super block's count of entries and sector
-// size. These are what a crash leaves that keeps only what is settled.
+// Logs, a line each: the number of sectors of the disk, and the steps. `w` appends a write of 8
+// sectors, `m` a mark, and `s` settles. After `=` are the status, and the super block's count of
+// entries and sector size after a crash that keeps only what is settled.
 const LOGS: &str = "64 =0 0;0 of 4096
 64 wms=2 31;2 of 4096
 64 msw=2 31;1 of 4096
@@ -27,8 +27,8 @@ const LOGS: &str = "64 =0 0;0 of 4096
 16 ms=0 0 logging_disabled;0 of 4096
 24 ms=1 15;1 of 4096";
 
-// The calls of the device that a log on 64 sectors makes: `w8+8` writes sectors 8 to 15, `F` does
-// with FUA, and `f` flushes.
+// The calls of the device that a log on 64 sectors makes: `w8+8` writes sectors 8 to 15, `F` the
+// same with FUA, and `f` flushes.
 const CALLS: &str = "64 =F0+8
 64 m=F0+8 w8+8
 64 w=F0+8 w8+8 w16+8
@@ -47,7 +47,7 @@ fn write(alloc: Global) -> Result<Bio, AllocError>
     })
 }
 
-// Returns the entry of a step, in a log with sectors of this size.
+// Returns the entry of a step, in a log with sectors of size `size`.
 fn entry(rt: &impl Abort, alloc: Global, size: SectorSize, step: u8) -> Result<Entry, Fail>
     ensures { IfOk result (λ entry. IsTrue (is_readable (bytes_of size) entry)) }
 {
@@ -86,14 +86,14 @@ fn stored<D: BlockDev + Drop>(
     Ok(store)
 }
 
-// Returns a disk of a number of sectors, and the steps.
+// Returns the disk of a row, and its steps.
 fn split(alloc: Global, row: &str) -> Result<(SectorDisk, &str), Fail> {
     let (sectors, steps) = row.split_once(' ').unwrap_or_default();
     let sectors = sectors.parse::<u64>().unwrap_or(0).clamp(8, 8192);
     Ok((SectorDisk::new(alloc, sectors)?, steps))
 }
 
-// Returns what is shown of a log.
+// Returns the status and the super block of the log of a row, as text.
 fn log_told(rt: &impl Abort, alloc: Global, row: &str) -> Result<String, Fail> {
     let (disk, steps) = split(alloc, row)?;
     let store = stored(rt, alloc, disk, steps)?;
@@ -113,7 +113,7 @@ fn large_logs_are_kept(rt: HostRuntime) -> Result<(), Fail> {
     Ok(())
 }
 
-// Returns the calls of the device.
+// Returns the calls of the device for the log of a row.
 fn calls_told(rt: &impl Abort, alloc: Global, row: &str) -> Result<String, Fail> {
     let (disk, steps) = split(alloc, row)?;
     let store = stored(rt, alloc, Watched::new(alloc, disk), steps)?;

@@ -1,10 +1,9 @@
--- What is printed of a reply. `Lines` says which replies can come.
+-- What is printed for a reply. `Lines` says which replies can come.
 use Rattle.std.specs.Prelude.{ℕ, List, []}
 use Rattle.recorder.specs.declared.reply.Reply.{Reply}
 use Rattle.recorder.specs.declared.reply.Reply.TheVariants as replies
 use Rattle.script_runner.specs.Texts.{mark_failed}
 
--- what is printed of the reply to a mark
 abbrev pub mark_outcome : Reply → List ℕ
 mark_outcome (replies.Refused refusal) = mark_failed
 mark_outcome _ = []

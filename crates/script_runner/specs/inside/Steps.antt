@@ -1,9 +1,9 @@
--- What a step of a script leaves as it was, whether it ends well or not.
+-- What a line leaves as it was, whether it succeeds or not.
 use Rattle.std.specs.Prelude.{◌≡◌, length}
 use Rattle.blockdev.specs.declared.device.BlockDev.{Ghosts}
 use Rattle.script_runner.specs.declared.running.Running.{Running}
 
--- Both moments, the size of the data device and how many requests there are stay.
+-- The times of both devices, the size of the data device and the number of requests stay the same.
 pub record StepKeeps {D L : Type 0} {d : Ghosts D} {l : Ghosts L}
     (old new : Running D L d l) : Type 0 where
   pub moment : new.moment ≡ old.moment

@@ -15,7 +15,7 @@ pub struct Told {
 }
 
 impl Told {
-    /// Returns whether the command printed exactly this.
+    /// Returns whether the command ended with this status, and printed exactly this.
     pub fn is(&self, status: u8, out: &str, err: &str) -> bool {
         self.status == status && self.out.as_str() == out && self.err.as_str() == err
     }
@@ -30,14 +30,14 @@ pub struct Wanted<'a> {
 }
 
 impl Wanted<'_> {
-    /// Returns whether the command printed this.
+    /// Returns whether the command printed what is expected.
     pub fn is_met(&self, told: &Told) -> bool {
         told.is(u8::from(!self.err.is_empty()), self.out, self.err)
     }
 }
 
-/// Executes a command line, after the program's name, over a folder's files, and returns what it
-/// prints.
+/// Executes a command line, which is given without the program's name, with a folder's files.
+/// Returns what it prints.
 pub fn ask<H: Threads + Wait + Sync>(
     rt: &H,
     alloc: Global,

@@ -1,4 +1,4 @@
-// Logs that were cut, or have one byte changed, and what is printed for each.
+// Series: logs that are cut, or have one byte changed, and what each command prints for them.
 use crate::series::asking::{Wanted, ask, folder_of};
 use crate::series::faults::{Faults, LOG_FAULTS, REPLAY_FAULTS};
 use crate::series::report::{Report, check};
@@ -8,10 +8,10 @@ use std::sync::Wait;
 use std::thread::Threads;
 use test_devices::Folder;
 
-// A write that a flush makes durable.
+// A script of a write and a flush that makes it durable.
 const FLUSHED: &str = "data 16\nlog 32\nw a 5 1 41\nc a\nf b\nc b\nclose\n";
 
-// A write, and one of two sectors with a flush and FUA.
+// A script of a write, and of a write of two sectors with flush and FUA.
 const SETTLED: &str =
     "data 16\nlog 32\nw a 4 1 11\nc a\nw b 8 2 22 flush fua\nc b\nturn\nturn\nclose\n";
 
@@ -26,8 +26,8 @@ const LISTED: [&str; 4] = [
 // What is printed for a log that is too short.
 const CUT: &str = "dmlw: 21 CutShort\n";
 
-// In bytes: the length of a sector, of the data disk, and of the part of a log that is changed byte
-// by byte. Also the number of sectors of a log.
+// The length in bytes of a sector, of the data disk, and of the part of a log that is changed byte
+// by byte. Then the number of sectors of a log.
 const SECTOR: usize = 512;
 
 const DATA_BYTES: usize = 8192;
@@ -39,7 +39,7 @@ const LOG_SECTORS: usize = 32;
 // The values that a byte is set to.
 const VALUES: [u8; 4] = [0x00, 0x7f, 0x80, 0xff];
 
-// The place of the count of entries in a super.
+// The byte at which a super block's count of entries begins.
 const COUNT_AT: usize = 16;
 
 // A byte of a log that is set to another value.
@@ -49,11 +49,11 @@ struct Damage {
     value: u8,
 }
 
-// What was seen of the logs: the ways of reading them, each with its counts.
+// The counts of each way of reading the logs.
 #[derive(Drop)]
 struct Seen {
     images: u64,
-    // How many of them are the unchanged log, which is read once.
+    // How many of the images are the unchanged log, which is read only once.
     same: u64,
     listed: Faults,
     status: Faults,
@@ -61,8 +61,8 @@ struct Seen {
     flushed: Faults,
 }
 
-/// Reads images of chosen fields, cuts a log to each of its sectors, and changes each byte of
-/// another log's first two sectors. Replays the first log onto devices that fail or lie. Reports
+/// Reads images of chosen fields. Cuts a log to each number of sectors. Changes each byte of the
+/// first two sectors of another log. Replays the first log onto devices that fail or lie. Reports
 /// the results.
 pub fn run<H: Threads + Wait + Sync>(
     rt: &H,
@@ -113,8 +113,9 @@ fn run_cuts<H: Threads + Wait + Sync>(
     report.line(line.as_str())
 }
 
-// Checks a cut log. One with too few sectors for its count is refused at once. One without its last
-// entry's sector lists the two entries before it. A longer one lists all.
+// Checks a cut log. If it has too few sectors for its count, it is refused at once. If only the
+// sector of its last entry is missing, the two entries before it are listed. If it is longer, all
+// are listed.
 fn check_cut<H: Threads + Wait + Sync>(
     rt: &H,
     alloc: Global,
@@ -205,8 +206,8 @@ fn damage_place<H: Threads + Wait + Sync>(
     Ok(())
 }
 
-// Puts a log with a byte set to another value in a folder. Returns the command that replays all
-// entries that its super now counts.
+// Puts a log with a changed byte in a folder. Returns the command that replays all entries that its
+// super block now counts.
 fn damage_log(
     alloc: Global,
     log: &[u8],
@@ -222,7 +223,7 @@ fn damage_log(
     format!(in alloc; "replay log zeroes out entries:{count}")
 }
 
-// Reads a log with a byte set to another value, in each way.
+// Reads a log with a changed byte, in each way.
 fn read_damaged<H: Threads + Wait + Sync>(
     rt: &H,
     alloc: Global,
@@ -292,7 +293,7 @@ fn count_of(log: &[u8]) -> u64 {
     }
 }
 
-// Does a command that reads the log, and counts how it ended. It must end with status 0 and no
+// Runs a command that reads the log, and counts how it ended. It must end with status 0 and no
 // fault, or with status 1 and one of the possible faults.
 fn read<H: Threads + Wait + Sync>(
     rt: &H,

@@ -1,5 +1,5 @@
-// A run under each stack of layers, with a fuse on top, and a loss of power at its end: what it
-// prints, and what its log lists.
+// Series: a run under each stack of layers, with a fuse on top and a power failure at its end. It
+// compares what the run prints, and what its log lists.
 use crate::series::asking::{Told, ask, folder_of};
 use crate::series::layers::{LATE, Layer, STACKS, WHOLE_RUN, passed, stack_of};
 use crate::series::report::Report;
@@ -11,14 +11,14 @@ use test_devices::Folder;
 // The lines of a run: a write that a flush makes durable, and the close.
 const EVENTS: &str = "w a 5 1 41\nc a\nf b\nc b\nclose\n";
 
-// The entries of its log as they are listed, in the order in which they became durable.
+// The lines of its log's entries, in the order in which they became durable.
 const ENTRIES: [&str; 3] = [
     "0 @1 write 5+1\n",
     "1 @3 flush\n",
     "2 @4 mark dm-log-writes-end\n",
 ];
 
-// The status that a run prints, by how many of its calls passed, if its log was made.
+// The status that a run prints if n of its calls passed, and its log was made.
 const STATUSES: [&str; 8] = [
     "no log",
     "0 0 logging_disabled",
@@ -33,16 +33,17 @@ const STATUSES: [&str; 8] = [
 // How a run ends.
 #[derive(Clone, Copy)]
 enum Ending {
-    // No loss of power.
+    // Without a power failure.
     Plain,
-    // A loss of power: each sector holds what is durable.
+    // With a power failure: each sector holds its durable value.
     Crash,
-    // A loss of power, but each sector that isn't durable holds the first value written to it
-    // since.
+    // With a power failure: each sector that isn't durable holds the first value that was written
+    // to it since.
     Picked,
 }
 
-// A run: its layers from the lowest on, perhaps a fuse of `fuse` calls, its time and its ending.
+// A run: its layers, the lowest first, a fuse of `fuse` calls over them if there is one, its time
+// and its ending.
 #[derive(Drop)]
 struct Case {
     layers: Vec<Layer>,
@@ -51,7 +52,7 @@ struct Case {
     ending: Ending,
 }
 
-// What was seen of all runs: how many logs were made, and how many of them listed each number of
+// The counts of all runs: how many logs were made, and how many of them list each number of
 // entries.
 #[derive(Drop)]
 struct Seen {
@@ -60,7 +61,7 @@ struct Seen {
     by_entries: [u64; 4],
 }
 
-/// Runs a few cases whose rows are reported one by one, then all, and reports their counts.
+/// Runs a few cases and reports each of them. Then runs all cases and reports their counts.
 pub fn run<H: Threads + Wait + Sync>(
     rt: &H,
     alloc: Global,
@@ -99,7 +100,7 @@ fn run_stack<H: Threads + Wait + Sync>(
     Ok(())
 }
 
-// Runs the cases of a stack under a fuse: at both times, with both losses of power.
+// Runs the cases of a stack under a fuse, at both times and with both kinds of power failure.
 fn run_fuse<H: Threads + Wait + Sync>(
     rt: &H,
     alloc: Global,
@@ -187,7 +188,7 @@ fn push_layers(text: &mut String, layers: &[Layer], fuse: Option<u64>) -> Result
     }
 }
 
-// Appends messages that make block 3 of each dust layer fail one write.
+// Appends the messages that make block 3 of each dust layer fail one write.
 fn push_messages(text: &mut String, layers: &[Layer]) -> Result<(), AllocError> {
     for (below, layer) in layers.iter().enumerate() {
         if *layer == Layer::Dust {
@@ -214,8 +215,8 @@ fn push_ending(text: &mut String, ending: Ending) -> Result<(), AllocError> {
     Ok(())
 }
 
-// Checks what a run prints when its log's disk passed these calls. It prints refusal 19 if its log
-// couldn't be made, and otherwise its two requests and its status.
+// Checks what a run prints if its log's disk passed `passed` calls: refusal 19 if its log couldn't
+// be made, else its two requests and its status.
 fn check_told(
     alloc: Global,
     script: &str,
@@ -238,8 +239,8 @@ fn check_told(
     Ok(())
 }
 
-// Checks what the log lists. It lists all entries if the super that counts them was written, which
-// is the last call of all, and otherwise none.
+// Checks what the log lists: all entries if the super block that counts them was written, which is
+// the last call of all, else none.
 fn check_listed(
     alloc: Global,
     script: &str,
@@ -323,7 +324,7 @@ fn listed_text<H: Threads + Wait + Sync>(
     format!(in alloc; "{} entries listed", entries_of(&listed))
 }
 
-// Returns the last line that was printed: of a fault, or otherwise of the output.
+// Returns the last line that was printed: of the faults if there is one, else of the output.
 fn last_line(told: &Told) -> &str {
     let text = if told.err.is_empty() {
         told.out.as_str()

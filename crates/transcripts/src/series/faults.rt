@@ -1,4 +1,4 @@
-// How commands over a log ended, counted by their faults.
+// Counts how commands that read a log ended, by their faults.
 use std::fmt;
 
 /// The faults that a log can have, followed by those that a replay of it can have.
@@ -21,8 +21,7 @@ pub const LOG_FAULTS: usize = 6;
 /// The number of faults that a replay can have.
 pub const REPLAY_FAULTS: usize = 10;
 
-/// The number of commands that met no fault, and of those that met each of the first `known`
-/// faults.
+/// The number of commands without a fault, and the number with each of the first `known` faults.
 #[derive(Drop)]
 pub struct Faults {
     known: usize,
@@ -31,7 +30,7 @@ pub struct Faults {
 }
 
 impl Faults {
-    /// Returns counts of no command, if the first `known` faults are possible.
+    /// Returns counts of 0. The first `known` faults are possible.
     pub fn new(known: usize) -> Faults {
         Faults {
             known,
@@ -41,7 +40,7 @@ impl Faults {
     }
 
     /// Counts a command that ended with this status and these lines of faults. Returns false if it
-    /// can't end this way.
+    /// may not end so.
     pub fn count(&mut self, status: u8, err: &str) -> bool {
         if err.is_empty() {
             self.whole = self.whole.saturating_add(1);
@@ -59,7 +58,7 @@ impl Faults {
     }
 }
 
-// Returns the fault in a fault's one line, without how many entries were replayed before it.
+// Returns the fault's number and name in its line, without the count of replayed entries.
 fn fault_of(err: &str) -> &str {
     let line = err.strip_prefix("dmlw: ").unwrap_or_default();
     let line = line.strip_suffix("\n").unwrap_or_default();

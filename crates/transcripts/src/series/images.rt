@@ -1,4 +1,5 @@
-// Logs whose super and first entry are given field by field, and the listing of each.
+// Series: logs whose super block and first entry are given field by field, and what is printed for
+// each.
 use crate::series::asking::Wanted;
 use crate::series::report::{Report, check};
 use std::alloc::{AllocError, Global};
@@ -6,12 +7,12 @@ use std::sync::Wait;
 use std::thread::Threads;
 use test_devices::Folder;
 
-// Each row is an image: its length in bytes, its log sector size, its count of entries, and four
-// fields of its first entry. These are its sector, its number of sectors, its flags and the length
-// of its data. After `=` are four results, separated by `;`. The first is the listing after the
-// super's line; % is the text of 480 zero bytes, and `-` means that not even that line is listed.
-// The second is the fault, and the third is the status, if there is no fault. The fourth is what a
-// replay of all counted entries over 16 sectors prints.
+// Each row is an image: its length in bytes, the size of a log sector, the count of entries, and
+// its first entry. The entry has its sector, its number of sectors, its flags and the length of its
+// data. After `=` are four results, separated by `;`. The first is the listing after the super
+// block's line; `%` means the text of 480 zero bytes, and `-` that not even the super block's line
+// is listed. The second is the fault. The third is the status, if there is no fault. The fourth is
+// what a replay of all counted entries over 16 sectors prints.
 const IMAGES: &str = "4096 512 7 0 6 0 0=0 @1 write 0+6;21 CutShort;;21 CutShort after 1 entries
 4096 512 1 0 7 0 0=;21 CutShort;;21 CutShort after 0 entries
 4096 512 1 0 0 8 480=0 @1 mark %;;1 1;
@@ -112,7 +113,8 @@ fn out_line(alloc: Global, text: &str) -> Result<String, AllocError> {
     format!(in alloc; "{text}\n")
 }
 
-// Returns the listing of an image with these fields, if these lines follow the super's.
+// Returns the expected listing of an image with these fields, given the lines after the super
+// block's.
 fn listed_of(alloc: Global, fields: &str, lines: &str) -> Result<String, AllocError> {
     let mut text = String::new(alloc);
     if lines == "-" {
@@ -129,7 +131,7 @@ fn listed_of(alloc: Global, fields: &str, lines: &str) -> Result<String, AllocEr
     Ok(text)
 }
 
-// Appends the lines that a row has after the super's.
+// Appends the lines of a row that follow the super block's.
 fn push_lines(text: &mut String, lines: &str) -> Result<(), AllocError> {
     if lines.is_empty() {
         return Ok(());
@@ -161,7 +163,7 @@ fn image_of(alloc: Global, fields: &str) -> Result<Vec<u8>, AllocError> {
     Ok(image)
 }
 
-// Returns the number at a place; 0 if there is none.
+// Returns the number at index `place`, or 0 if there is none.
 fn number_at(numbers: &[u64], place: usize) -> u64 {
     numbers.get(place).copied().unwrap_or_default()
 }

@@ -1,4 +1,4 @@
-// Layers under a log, and how many of a run's calls pass them.
+// Layers under a log, and how many calls of a run pass them.
 use std::alloc::{AllocError, Global};
 
 /// A layer over a log's disk of 32 sectors.
@@ -32,7 +32,7 @@ pub const LATE: u64 = 12_000;
 
 /// The number of calls of a run that change the log's disk. One makes the log. Two write the
 /// write's entry and its data, and two the entries of the flush and of the end mark. Two settle
-/// these three: a flush and a write of the super.
+/// these three: a flush, and a write of the super block.
 pub const WHOLE_RUN: u64 = 7;
 
 impl Layer {
@@ -69,8 +69,8 @@ pub fn passed(layers: &[Layer], moment: u64, fuse: Option<u64>) -> u64 {
     passed
 }
 
-/// Returns the stack of a number below `STACKS`. Stacks are numbered like numbers in digits of one
-/// to five.
+/// Returns stack number `number`, below `STACKS`. The layers are the digits of the number in base
+/// five, with digits from one to five.
 pub fn stack_of(alloc: Global, number: u64) -> Result<Vec<Layer>, AllocError> {
     let mut layers = Vec::new(alloc);
     let mut rest = number;
@@ -84,7 +84,7 @@ pub fn stack_of(alloc: Global, number: u64) -> Result<Vec<Layer>, AllocError> {
     Ok(layers)
 }
 
-// Returns the layer of a number below five.
+// Returns layer number `number`, below five.
 fn layer_at(number: u64) -> Layer {
     LAYERS
         .get(number as usize)

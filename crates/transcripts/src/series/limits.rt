@@ -1,4 +1,4 @@
-// Each limit, reached once with ample memory: nothing is refused.
+// Series: each limit is reached once, with enough memory, and nothing is refused.
 use crate::series::asking::{Wanted, folder_of};
 use crate::series::most_seats::check_recorder;
 use crate::series::report::{Report, check};
@@ -18,16 +18,16 @@ const SCRIPT_BYTES: usize = 4_194_304;
 // The number of bytes of a mark's text that a log with sectors of 512 bytes keeps.
 const MARK_BYTES: usize = 479;
 
-// The bytes of an image of the largest disk.
+// The number of bytes of an image of the largest disk.
 const IMAGE_BYTES: usize = 536_870_912;
 
-// The number of requests that are open at once: more than 65,536.
+// The number of requests that are open at once, more than 65,536.
 const REQUESTS: u64 = 70_000;
 
 // The number of entries of a log that is read.
 const ENTRIES: u64 = 400_000;
 
-// A script whose numbers have 20 digits, and two of disks of the largest size.
+// A script whose numbers have 20 digits, and two scripts of disks of the largest size.
 const LONG_NUMBERS: &str = "data 00000000000000000016
 log 00000000000000000032
 at 18446744073709551615
@@ -53,7 +53,7 @@ c a
 close
 ";
 
-/// Reaches each limit, and reports the number of limits.
+/// Reaches each limit, and reports how many there are.
 pub fn run<H: Threads + Wait + Sync>(
     rt: &H,
     alloc: Global,
@@ -73,7 +73,7 @@ pub fn run<H: Threads + Wait + Sync>(
     report.line(line.as_str())
 }
 
-// Does these command lines over a folder with this script. None prints a fault.
+// Runs these command lines on a folder with this script. None may print a fault.
 fn check_lines<H: Threads + Wait + Sync>(
     rt: &H,
     alloc: Global,
@@ -275,7 +275,7 @@ fn push_sector(image: &mut Vec<u8>) -> Result<(), AllocError> {
     image.resize(sectors.saturating_mul(512), 0)
 }
 
-// Checks a script with the most seats; each writes, writes with FUA and marks.
+// Checks a script with the most seats. Each writes, writes with FUA and marks.
 fn check_seats<H: Threads + Wait + Sync>(
     rt: &H,
     alloc: Global,

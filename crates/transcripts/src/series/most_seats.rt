@@ -1,4 +1,4 @@
-// A shared recorder with the most seats and status readers.
+// A test of the maximum of a shared recorder: 64 seats and 64 readers of the status.
 ghost use Rattle.std.specs.Prelude.{◌≡◌};
 ghost use Rattle.lock_state.specs.PlacedItems.{ground_of};
 ghost use Rattle.sector_disk.specs.DiskView.{shown_of};
@@ -19,7 +19,8 @@ const MOST: u64 = 64;
 // The number of sectors of each disk.
 const SECTORS: u64 = 64;
 
-/// Starts the recorder, and lets each reader read the status.
+/// Starts a recorder with 64 seats and 64 readers, and lets each reader read the status once.
+/// Reports a difference if a seat or a reader is missing, or a reader doesn't see an empty log.
 pub fn check_recorder(alloc: Global, report: &mut Report) -> Result<(), AllocError> {
     let device = SectorDisk::new(alloc, SECTORS)?;
     let log = SectorDisk::new(alloc, SECTORS)?;
@@ -40,8 +41,8 @@ pub fn check_recorder(alloc: Global, report: &mut Report) -> Result<(), AllocErr
     Ok(())
 }
 
-// Returns the number of a recorder's seats, and of its readers that see a status without entries.
-// Returns None if the recorder isn't started.
+// Starts a recorder. Returns the number of its seats, and the number of readers that see the status
+// of an empty log. Returns None if it can't be started.
 fn start_most<R: Run + Names>(
     alloc: Global,
     unnamed: Unnamed,

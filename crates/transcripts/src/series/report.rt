@@ -1,4 +1,4 @@
-// What is printed of a series, and how many of its cases differ from what is expected.
+// The text that is printed for a series, and the number of its cases that differ.
 use crate::series::asking::{Told, Wanted, ask};
 use std::alloc::{AllocError, Global};
 use std::sync::Wait;
@@ -26,7 +26,7 @@ impl Report {
         self.differ
     }
 
-    /// Returns the text that is to be printed.
+    /// Returns the text to print.
     pub fn text(&self) -> &str {
         self.text.as_str()
     }
@@ -38,7 +38,7 @@ impl Report {
         Ok(())
     }
 
-    /// Counts a case that differs, and notes the case, what was printed and what was expected.
+    /// Counts a case that differs. Notes the case, what was printed and what was expected.
     pub fn differs(&mut self, case: &str, told: &Told, wanted: &str) -> Result<(), AllocError> {
         self.differ = self.differ.saturating_add(1);
         writeln!(self.text, "differs:\n{case}\ntold [{}]:", told.status)?;
@@ -48,8 +48,8 @@ impl Report {
     }
 }
 
-/// Does each command line over a folder's files. Notes each that prints anything but what is
-/// expected, with the name of the case.
+/// Runs each command line on a folder's files. Notes each whose output isn't as expected, with the
+/// name of the case.
 pub fn check<H: Threads + Wait + Sync>(
     rt: &H,
     alloc: Global,

@@ -1,6 +1,6 @@
-// Four seats that write and mark at once, with a fuse on the log: what each prints, and what the
-// log lists. A seat with thousands of writes that each wait for the log. And two seats at once,
-// whose marks are mixed in the log.
+// Series: four seats write and mark at once, with a fuse on the log. It compares what each prints,
+// and what the log lists. Also a seat with thousands of writes that each wait for the log, and two
+// seats at once, whose marks are mixed in the log.
 use crate::series::asking::{Told, ask, folder_of};
 use crate::series::report::Report;
 use std::alloc::{AllocError, Global};
@@ -14,15 +14,17 @@ const WRITES: u64 = 100;
 // The longest fuse.
 const MOST_CALLS: u64 = 20;
 
-// The number of writes, and of marks, of the seat that runs by itself.
+// The number of FUA writes, and of marks, in a run of a single seat.
 const TURNS: u64 = 2_500;
 
-// The number of marks of each of two seats, and of the runs in which their marks may fail to mix.
+// The number of marks of each of two seats, and the most runs that are tried until their marks are
+// mixed.
 const MARKS: u64 = 1_000;
 
 const TRIES: u64 = 20;
 
-/// Runs the seats with each fuse, one seat, and two at once, and reports the number of runs.
+/// Runs four seats with each fuse, a single seat, and two seats at once. Reports the number of
+/// runs.
 pub fn run<H: Threads + Wait + Sync>(
     rt: &H,
     alloc: Global,
@@ -82,8 +84,8 @@ fn run_fuse<H: Threads + Wait + Sync>(
     Ok(())
 }
 
-// Runs a seat that writes with FUA and marks, again and again. Each entry is the next one that the
-// writer takes. So it may be durable before the seat looks for it, or after.
+// Runs a seat that writes with FUA and marks, again and again. The writer takes each of its entries
+// next, so an entry may be durable before or after the seat looks for it.
 fn run_alone<H: Threads + Wait + Sync>(
     rt: &H,
     alloc: Global,
@@ -108,8 +110,8 @@ fn script_alone(alloc: Global) -> Result<String, AllocError> {
     Ok(text)
 }
 
-// Runs two seats that mark again and again, until a run has a mark of each seat before the last one
-// of the other. Then neither seat waited for the other's end.
+// Runs two seats that mark again and again, until in one run each seat has a mark before the last
+// mark of the other. This shows that neither seat waited until the other was done.
 fn run_two<H: Threads + Wait + Sync>(
     rt: &H,
     alloc: Global,
@@ -132,7 +134,7 @@ fn run_two<H: Threads + Wait + Sync>(
     )
 }
 
-// Returns the script of these two.
+// Returns the script of these two seats.
 fn script_of_two(alloc: Global) -> Result<String, AllocError> {
     let mut text = String::from_str(alloc, "data 16\nlog 2002\nseats 2\n")?;
     for _mark in 0..MARKS {
@@ -141,7 +143,7 @@ fn script_of_two(alloc: Global) -> Result<String, AllocError> {
     Ok(text)
 }
 
-// Returns whether each of two texts is found before the last place of the other.
+// Returns whether each of two texts occurs before the last occurrence of the other.
 fn are_mixed(listed: &str, one: &str, other: &str) -> bool {
     match (
         listed.find(one),
@@ -176,13 +178,14 @@ fn push_seat(text: &mut String, seat: u64) -> Result<(), AllocError> {
     writeln!(text, "s{seat} mark seat {seat}")
 }
 
-// Returns how many marks are logged. The first call makes the log. Three more calls write, flush
-// and count each mark's entry. The writes wait for the close.
+// Returns how many marks are logged under a fuse of `calls` calls. The first call makes the log.
+// Three calls for each mark write its entry, flush, and write the super block. The other writes
+// wait for the close.
 fn marks_of(calls: u64) -> u64 {
     (calls.saturating_sub(1) / 3).min(SEATS)
 }
 
-// Returns whether the run printed the expected lines. Each seat has 100 done, and its mark as
+// Returns whether the run printed the expected lines: each seat has 100 done, and its mark is
 // logged or not logged. As many marks are logged as the fuse has calls for, and logging ended.
 fn is_told(alloc: Global, told: &Told, calls: u64) -> Result<bool, AllocError> {
     let mut logged: u64 = 0;
@@ -195,12 +198,12 @@ fn is_told(alloc: Global, told: &Told, calls: u64) -> Result<bool, AllocError> {
     Ok(is_good && logged == marks_of(calls) && told.out.ends_with(" logging_disabled\n"))
 }
 
-// Returns whether this is a seat's line of a mark that was logged.
+// Returns whether a line is the line of a seat whose mark was logged.
 fn is_logged(alloc: Global, line: &str, seat: u64) -> Result<bool, AllocError> {
     Ok(line == seat_line(alloc, seat, true)?.as_str())
 }
 
-// Returns a seat's line, if its mark was logged or if it wasn't.
+// Returns the line of a seat whose mark was logged or wasn't.
 fn seat_line(alloc: Global, seat: u64, is_logged: bool) -> Result<String, AllocError> {
     let (logged, lost) = if is_logged { (1, 0) } else { (0, 1) };
     format!(in alloc;
@@ -208,8 +211,8 @@ fn seat_line(alloc: Global, seat: u64, is_logged: bool) -> Result<String, AllocE
     )
 }
 
-// Returns whether the log lists its super and the mark of each seat whose mark was printed as
-// logged, and no fault.
+// Returns whether the log lists, without a fault, its super block and the mark of each seat whose
+// mark was printed as logged.
 fn lists_marks(alloc: Global, told: &Told, listed: &Told) -> Result<bool, AllocError> {
     let mut is_good = listed.status == 0 && listed.err.is_empty();
     for (seat, line) in (0..SEATS).zip(told.out.as_str().split('\n')) {

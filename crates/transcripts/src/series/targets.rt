@@ -1,5 +1,5 @@
-// Replays of a log onto devices that fail or lie: how many entries are reported, and what each
-// device then holds.
+// Replays of a log onto devices that fail or lie: how many entries are reported as applied, and
+// what each device holds after it.
 use crate::series::damage::plain_log;
 use crate::series::report::Report;
 use bio::Ms;
@@ -14,7 +14,7 @@ use std::sync::Wait;
 use std::thread::Threads;
 use table_line::Feature;
 
-// The device has `SECTORS` sectors of zeroes before.
+// The device has `SECTORS` sectors of zeroes at first.
 const SECTORS: u64 = 16;
 
 const SECTOR: usize = 512;
@@ -22,8 +22,8 @@ const SECTOR: usize = 512;
 // The longest log that is read here, in bytes.
 const MOST_BYTES: usize = 16_384;
 
-// The number of entries of the log: a write of 65 at sector 5, a flush and a mark. For them a
-// replay makes one call of the device, the write.
+// The number of entries of the log: a write of 65 at sector 5, a flush and a mark. Their replay
+// makes one call of the device, for the write.
 const ENTRIES: u64 = 3;
 
 // A flakey layer that is down all the time.
@@ -31,8 +31,8 @@ const UP: u64 = 0;
 
 const DOWN: u64 = 1;
 
-/// Replays the log onto a device that fails at once, one that takes a call, and one that drops each
-/// write. Reports what each replay prints.
+/// Replays the log onto a device that fails at once, one that passes one call, and one that drops
+/// each write. Reports the result of each replay.
 pub fn run<H: Threads + Wait + Sync>(
     rt: &H,
     alloc: Global,
@@ -62,7 +62,7 @@ fn run_dropped(alloc: Global, log: &[u8], report: &mut Report) -> Result<(), All
     report.line(line.as_str())
 }
 
-// Returns what a replay of all entries prints.
+// Returns the result of a replay of all entries, as text.
 fn replayed<T: BlockDev>(alloc: Global, log: &[u8], target: &mut T) -> Result<String, AllocError> {
     let Some(mut reader) = reader_of(alloc, log)? else {
         return String::from_str(alloc, "no log");
@@ -75,7 +75,7 @@ fn replayed<T: BlockDev>(alloc: Global, log: &[u8], target: &mut T) -> Result<St
     }
 }
 
-// Returns a reader of the log, if it is one.
+// Returns a reader of the log, if it can be opened.
 fn reader_of(alloc: Global, log: &[u8]) -> Result<Option<LogReader<SectorDisk>>, AllocError> {
     if log.is_empty() || log.len() % SECTOR != 0 || log.len() > MOST_BYTES {
         return Ok(None);
@@ -84,7 +84,7 @@ fn reader_of(alloc: Global, log: &[u8]) -> Result<Option<LogReader<SectorDisk>>,
     Ok(LogReader::open(alloc, disk).ok())
 }
 
-// Returns a disk's content, in words: how many of its bytes are no zeroes.
+// Returns how a disk's content changed, in words, by the number of bytes that aren't zeroes.
 fn left_on(disk: SectorDisk) -> Result<&'static str, AllocError> {
     let bytes = disk.into_bytes()?;
     let changed = bytes.iter().filter(|byte| **byte != 0).count();

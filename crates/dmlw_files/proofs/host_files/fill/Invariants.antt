@@ -1,4 +1,4 @@
--- What holds at the turns of the loop of `fill` (src/host_files.rt), and what gets less.
+-- The invariant of the loop of `fill` (src/host_files.rt), and the number that decreases.
 use Rattle.std.proofs.Common.{length, ◌-◌, ◌≤◌, take}
 use Rattle.std.specs.Io.KnownBytes.{Consumes}
 use Rattle.dmlw_files.proofs.host_files.fill.Given as goal

@@ -12,9 +12,9 @@ use std::marker::Model;
 /// A change of one link.
 #[derive(Clone, Copy, Debug)]
 pub enum Change {
-    /// The last row of this chain becomes the second value, or the chain has none.
+    /// The last row of this chain is set; None means that the chain has no rows.
     Last(usize, Option<usize>),
-    /// The link of the first row leads to the second one.
+    /// The link of the first row now leads to the second one.
     Next(usize, usize),
 }
 

@@ -1,4 +1,4 @@
-// The part of a seat: the notes of its own calls.
+// The part of a seat: the notes of its calls.
 ghost use Rattle.std.specs.Prelude.{◌≡◌, ◌==◌, None, is_none, length, true, false};
 ghost use Rattle.lock_state.specs.History.{new_part, with_reported_cause, with_calls};
 ghost use Rattle.lock_state.specs.PlacedItems.{awaited_in, settles_hand};
@@ -166,7 +166,7 @@ impl<R: Run> Model for WriterPart<R> {
 }
 
 impl<R: Run> WriterPart<R> {
-    /// Makes a part with nothing in hand.
+    /// Returns a part with nothing in hand.
     pub fn new() -> WriterPart<R>
         ensures { result ≡ None }
     {

@@ -6,7 +6,8 @@ use Rattle.lock_state.specs.PlacedItems.{IsNoneFrom, IsSettledAt, Log}
 use Rattle.lock_state.specs.Comparison.{Receipt}
 
 -- A receipt if a settled item from number `from` on has this id. If there is none, the cause of the
--- store's end, or else the cause by which those who wait were let go. None if logging goes on.
+-- store's end, or else the cause by which the waiting threads were released. None if logging goes
+-- on.
 abbrev pub Finds : Log → ℕ → ℕ → Option (Result Receipt End) → Type 0
 Finds log id from (Some (Ok receipt)) =
     (receipt.id ≡ id) × ((from ≤ receipt.number) × IsSettledAt log id receipt.number)

@@ -70,7 +70,7 @@ pub struct Closed<D: Drop, L: Drop> {
 pub struct Ending<D: Drop, L: Drop, R: Run + Names> {
     pub closed: Closed<D, L>,
     pub posts: Posts<R>,
-    /// Why those who waited for the log were let go, if they were.
+    /// Why the waiting threads were released, if they were.
     pub released: Option<End>,
     /// The number of items that the writer had placed. The close placed the others.
     pub written: u64,
@@ -93,7 +93,7 @@ pub struct Open<D: BlockDev + Drop, L: BlockDev + Drop, R: Run + Names> {
 pub struct Strangers<D: Drop, L: Drop, R: Run + Names> {
     pub closed: Closed<D, L>,
     pub posts: Posts<R>,
-    /// Why those who waited for the log were let go, if they were.
+    /// Why the waiting threads were released, if they were.
     pub released: Option<End>,
     pub seats: Vec<Seat<R>>,
     pub writer: WriterSeat<R>,

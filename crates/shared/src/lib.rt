@@ -2,7 +2,7 @@
 //!
 //! Three locks guard three values of `lock_state`: the queue with the history; the log, with the
 //! writer's seat at the board; and the recorded device. No thread takes a lock while it holds
-//! another, so it doesn't hold the queue's lock while it calls a device. A call's contract says
+//! another. So no thread holds the queue's lock while it calls a device. A call's contract says
 //! what the call adds to its seat's list, for each answer. No contract says which lock is taken
 //! when, or that a thread runs or is woken.
 #![tactic(auto)]

@@ -40,9 +40,9 @@ impl<R: Names> Posts<R> {
         self.writer.last()
     }
 
-    /// Proves that what a status seat has seen is a prefix of what was posted. So if each posted
-    /// status is that of a prefix of some items, and none goes back, this holds for the statuses
-    /// that were seen, too.
+    /// Proves that what a status seat has seen is a prefix of what was posted. So if the posted
+    /// statuses are those of prefixes of some items, and none goes back, the same holds for those
+    /// that were seen.
     pub fn agree(&mut self, mine: &mut StatusSeat<R>)
         ensures begins { Begins mine.old self.old }
         ensures seen { (bytes : ℕ) (placed : List Placing) → ArePosted bytes placed self.old

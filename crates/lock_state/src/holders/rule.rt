@@ -47,7 +47,7 @@ impl Play<(), Knows> for Begin {
     ghost then = { Begins };
 }
 
-// A holder lets go of its number.
+// A holder gives up its number.
 pub struct Finish;
 
 impl Play<(), Knows> for Finish {

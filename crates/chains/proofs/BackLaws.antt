@@ -1,4 +1,4 @@
--- What going back before the last value of the walked chain makes of the table.
+-- How `turn_back` changes the table.
 use Rattle.std.proofs.Common.{◌≡◌, ℕ, suc, ◌<◌, ◌≤◌, List, [], ◌∷◌, ◌++◌, length, set}
 use Rattle.std.proofs.Common.{Option, Some, None, take, drop, refl, ap, sym, ◌∙◌, subst, arith, inl}
 use Rattle.std.proofs.Common.{inr, append_assoc}

@@ -1,4 +1,4 @@
--- What a call that takes a value out of the table, or puts one in, leaves of it.
+-- What the table is after a call that takes a value out or puts one in.
 use Rattle.std.proofs.Common.{◌≡◌, ℕ, zero, suc, ◌+◌, ◌-◌, ◌<◌, ◌≤◌, max, List, [], ◌∷◌, ◌++◌}
 use Rattle.std.proofs.Common.{length, map, get_or, set, drop, replicate, Option, Some, None, refl}
 use Rattle.std.proofs.Common.{ap, sym, ◌∙◌, subst, arith, length-append, min, vec_capacity}

@@ -1,4 +1,4 @@
--- Chains and links, by computation.
+-- Examples of chains and links, by computation.
 use Rattle.std.proofs.Common.{◌≡◌, ◌≢◌, ℕ, List, [], ◌∷◌, Option, Some, None, refl, arith}
 use Rattle.chains.specs.Edits.{chain_in, fronted, joined, lengthened, lifted, shortened, turned}
 use Rattle.chains.specs.Edits.{with_first}

@@ -1,4 +1,4 @@
--- What each way to write links makes of the chains that they hold.
+-- How each operation on links changes the chains that they hold.
 use Rattle.std.proofs.lemmas.List.Sums.{sum_by_push}
 use Rattle.std.proofs.Common.{zero, suc, get_or, ◌≡◌, ◌≢◌, ℕ, ◌+◌, ◌<◌, ◌≤◌, List, [], ◌∷◌, ◌++◌}
 use Rattle.std.proofs.Common.{length, set, drop, Option, Some, None, refl, ap, sym, ◌∙◌, subst, inl}

@@ -1,4 +1,4 @@
--- The lemmas of `chains`; the proof of a function is in the folder of its source file.
+-- The lemmas of `chains`. The proof of a function is in the folder of its source file.
 pub mod ListLaws
 pub mod RingLaws
 pub mod HoldsLaws

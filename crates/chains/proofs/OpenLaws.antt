@@ -1,4 +1,4 @@
--- A row is taken out of the table, or put in: one row is loose between.
+-- A row is taken out of the table or put in; in between, one row is loose.
 use Rattle.std.proofs.Common.{◌≡◌, ℕ, ◌<◌, List, [], ◌∷◌, ◌++◌, length, map, set, drop, Option}
 use Rattle.std.proofs.Common.{Some, None, refl, ap, sym, ◌∙◌, subst, inl, inr, arith, length-append}
 use Rattle.std.proofs.Common.{length-set}

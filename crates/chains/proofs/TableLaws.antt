@@ -1,4 +1,4 @@
--- What the calls make of the table.
+-- How the calls change the table.
 use Rattle.std.proofs.Common.{◌≡◌, ℕ, ◌<◌, List, [], length, set, Option, Some, None, refl, ap, sym}
 use Rattle.std.proofs.Common.{◌∙◌, subst, arith, length-append, ◌++◌, ◌∷◌}
 use Rattle.std.proofs.lemmas.List.{set-append_left}

@@ -1,4 +1,4 @@
--- What the walk over a chain makes of the table.
+-- How the walk over a chain changes the table.
 use Rattle.std.proofs.Common.{◌≡◌, ◌≢◌, ℕ, ◌<◌, List, [], ◌∷◌, ◌++◌, length, map, set, take, drop}
 use Rattle.std.proofs.Common.{Option, Some, None, refl, ap, sym, ◌∙◌, subst, arith, length-set, inl}
 use Rattle.std.proofs.Common.{inr, vec_capacity, min, ◌-◌, ◌+◌}

@@ -1,4 +1,4 @@
--- The definitions of `chains` that only its proofs use: no other crate cites them.
+-- The definitions of `chains` that no other crate uses.
 pub mod Rings
 pub mod Changes
 pub mod Steps

@@ -9,15 +9,15 @@ use crate::walk::seen_last;
 use std::iter::FusedIterator;
 use std::marker::Model;
 
-/// The values of a chain that are left, seen as their list.
-/// A step costs the same however long the chain is.
+/// The values that are left of a chain. Contracts see their list. A step takes the same time for
+/// any length of the chain.
 #[derive(Drop)]
 pub struct Iter<'a, T> {
     links: &'a Links,
     rows: &'a [Option<T>],
     // The chain's last row, if it has rows.
     last: usize,
-    // The row whose link leads to the next value's, while one is left.
+    // The row whose link leads to the next value's row; None if no value is left.
     at: Option<usize>,
 }
 
@@ -58,8 +58,8 @@ fn unless_last(row: usize, last: usize) -> Option<usize>
 }
 
 impl<T: Drop> Chains<T> {
-    /// Returns the values of a chain, in order. For the chain that is
-    /// being walked, from the one that the walk is at on.
+    /// Returns the values of a chain, in order. For the chain that is being walked, they begin with
+    /// the value at which the walk is.
     pub fn iter(&self, chain: usize) -> Iter<'_, T>
         requires { 0 < chain × chain < length self.now.chains }
         ensures { result ≡ chain_in self.now.chains chain }

@@ -1,8 +1,8 @@
 //! Chains of rows in one table, generic over what a row holds.
 //!
-//! A chain is a ring of links: the link of its last row leads to its first. So two chains are
-//! joined, and a row goes from one to another, by a few links, and no value is moved. A row that
-//! was taken out is used again.
+//! A chain is a ring of links: the link of its last row leads to its first. So joining two chains,
+//! or moving a row from one to another, changes a few links and moves no value. A row that was
+//! freed is used again.
 #![tactic(auto)]
 
 pub use iter::Iter;

@@ -12,14 +12,14 @@ use std::marker::Model;
 /// A change of one link.
 #[derive(Clone, Copy, Debug)]
 pub enum Change {
-    /// The last row of this chain is now that one, or it has none.
+    /// The last row of this chain is set; None means that the chain has no rows.
     Last(usize, Option<usize>),
-    /// The link of this row leads to that one.
+    /// The link of the first row now leads to the second one.
     Next(usize, usize),
 }
 
 /// The row to which the link of a row leads. It also notes the row whose link was last set to lead
-/// here; contracts don't see that.
+/// here; contracts don't see this note.
 #[derive(Drop)]
 struct Link {
     to: usize,
@@ -47,7 +47,7 @@ impl Link {
         self.to
     }
 
-    // Returns the row from which a link leads to this row, if it was noted right.
+    // Returns the row whose link leads to this row, if the note is right.
     fn from(&self) -> usize {
         self.from
     }
@@ -119,7 +119,7 @@ pub struct Links {
 }
 
 impl Links {
-    /// Returns links of no rows, with `chains` chains and one more: chain 0.
+    /// Returns links without rows, for chain 0 and `chains` others.
     pub fn new(alloc: Global, chains: usize) -> Result<Links, AllocError>
         ensures next { IfOk result (λ links. links.next.items ≡ []) }
         ensures lasts { IfOk result (λ links. links.lasts.items ≡ replicate (chains + 1) None) }
@@ -134,7 +134,7 @@ impl Links {
         })
     }
 
-    /// Returns the row to which the link of this row leads.
+    /// Returns the row to which the link of `row` leads.
     pub fn next(&self, row: usize) -> usize
         requires { row < length self.now.next.items }
         ensures { result ≡ after self.now.next.items row }
@@ -142,8 +142,8 @@ impl Links {
         self.next[row].to()
     }
 
-    /// Returns the row whose link leads to this one. `write` notes it at this row, so
-    /// that no search is needed; that the note is right is tried, and not proved.
+    /// Returns the row whose link leads to `row`. `write` notes it at `row`, so that no search is
+    /// needed. This tests whether the note is right, and searches if it isn't.
     pub fn before(&self, row: usize) -> usize
         requires { (some : ℕ) × (some < length self.now.next.items)
             × (after self.now.next.items some ≡ row) }
@@ -172,7 +172,7 @@ impl Links {
         self.lasts[chain].row()
     }
 
-    /// Returns how many links were changed; 2^64 - 1 if there were more.
+    /// Returns the number of links that were changed; 2^64 - 1 if there were more.
     pub fn changed(&self) -> u64
         ensures { result ≡ self.now.changed }
     {
@@ -196,7 +196,7 @@ impl Links {
         self.changed = self.changed.saturating_add(1);
     }
 
-    // Leads the link of this row to that one, and notes it there.
+    // Makes the link of `row` lead to `to`, and notes `row` there.
     fn lead(&mut self, row: usize, to: usize)
         requires { row < length self.old.next.items }
         ensures next { self.new.next.items ≡ slice_set self.old.next.items row to }
@@ -242,7 +242,7 @@ impl Links {
         self.next.reserve(more)
     }
 
-    /// Adds a chain, with no rows.
+    /// Adds a chain without rows.
     pub fn begin(&mut self)
         requires { vec_len self.old.lasts < vec_capacity self.old.lasts }
         ensures next { self.new.next ≡ self.old.next }
@@ -253,7 +253,7 @@ impl Links {
         self.lasts.push_reserved(LastRow::new(None));
     }
 
-    /// Adds a row, in no chain.
+    /// Adds a row, which is in no chain.
     pub fn add_row(&mut self)
         requires { vec_len self.old.next < vec_capacity self.old.next }
         ensures next { self.new.next.items ≡ self.old.next.items ++ 0 ∷ [] }
@@ -264,14 +264,14 @@ impl Links {
         self.next.push_reserved(Link { to: 0, from: 0 });
     }
 
-    /// Returns how many chains there are, with chain 0.
+    /// Returns the number of chains, including chain 0.
     pub fn chains(&self) -> usize
         ensures { result ≡ length self.now.lasts.items }
     {
         self.lasts.len()
     }
 
-    /// Returns how many rows there are.
+    /// Returns the number of rows.
     pub fn rows(&self) -> usize
         ensures { result ≡ length self.now.next.items }
     {

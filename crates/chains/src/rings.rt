@@ -1,5 +1,5 @@
-//! What is done with chains as rings of links: a row is taken out or put in, and two chains are
-//! made one, by a few changes each.
+//! Operations on chains as rings of links. A row is taken out or put in, and two chains are joined,
+//! by a few changes each.
 ghost use Rattle.std.specs.Prelude.{◌≡◌, ◌≢◌, ℕ, ◌+◌, ◌<◌, None, Some, Option, List, ◌∷◌};
 ghost use Rattle.std.specs.Prelude.{◌++◌, length, slice_set, IfSome};
 ghost use Rattle.chains.specs.Edits.{chain_in, fronted, joined, lengthened, preceded, shortened};
@@ -9,8 +9,8 @@ ghost use Rattle.chains.specs.inside.Steps.{Changes, IsKept, IsLast, IsLoose, Is
 use crate::links::{Change, Links};
 
 /// Takes the first row out of the chain whose last row is `last`, so that it's loose. Returns the
-/// row that is then the last, if one is left. At most 1 change; the last rows of chains stay as
-/// they are noted.
+/// row that is then the last, or None if no row is left. Makes at most 1 change, and doesn't change
+/// the noted last rows of chains.
 pub fn cut(links: &mut Links, last: usize) -> Option<usize>
     requires { IsLast links.old.next.items last }
     ensures holds { (lasts : List (Option ℕ)) (loose : List ℕ) (chains : List (List ℕ))
@@ -32,8 +32,8 @@ pub fn cut(links: &mut Links, last: usize) -> Option<usize>
     Some(last)
 }
 
-/// Puts a loose row before the first of a chain: 2 changes.
-/// No other chain's last row is noted anew.
+/// Puts a loose row before the first of a chain. Makes 2 changes, and doesn't change the noted last
+/// row of another chain.
 pub fn put_first(links: &mut Links, chain: usize, row: usize)
     requires { IsLoose links.old.next.items links.old.lasts.items chain row }
     ensures holds { (lasts : List (Option ℕ)) (loose : List ℕ) (chains : List (List ℕ)) →
@@ -59,7 +59,7 @@ pub fn put_first(links: &mut Links, chain: usize, row: usize)
     }
 }
 
-/// Appends a loose row to a chain: at most 3 changes.
+/// Appends a loose row to a chain. Makes at most 3 changes.
 pub fn put_last(links: &mut Links, chain: usize, row: usize)
     requires { IsLoose links.old.next.items links.old.lasts.items chain row }
     ensures holds { (loose : List ℕ) (chains : List (List ℕ))
@@ -71,8 +71,8 @@ pub fn put_last(links: &mut Links, chain: usize, row: usize)
     links.write(Change::Last(chain, Some(row)));
 }
 
-/// Takes the first row out of a chain, so that it's loose:
-/// at most 1 change. None if the chain has no rows.
+/// Takes the first row out of a chain, so that it's loose. Makes at most 1 change. Returns None if
+/// the chain has no rows.
 pub fn take_first(links: &mut Links, chain: usize) -> Option<usize>
     requires kept { IsKept links.old.next.items links.old.lasts.items }
     requires within { chain < length links.old.lasts.items }
@@ -94,8 +94,8 @@ pub fn take_first(links: &mut Links, chain: usize) -> Option<usize>
     Some(first)
 }
 
-// Puts loose rows, which are a ring with this last row,
-// before the first of a chain: at most 2 changes.
+// Puts loose rows, which are a ring with the last row `moved`, before the first of a chain. Makes
+// at most 2 changes.
 fn put_ring(links: &mut Links, chain: usize, moved: usize)
     requires { IsLooseRing links.old.next.items links.old.lasts.items chain moved }
     ensures holds { (rows loose : List ℕ) (chains : List (List ℕ)) →
@@ -116,7 +116,7 @@ fn put_ring(links: &mut Links, chain: usize, moved: usize)
     }
 }
 
-/// Puts all rows of one chain before the first of another: at most 3 changes.
+/// Puts all rows of chain `from` before the first of chain `onto`. Makes at most 3 changes.
 pub fn put_before(links: &mut Links, from: usize, onto: usize)
     requires kept { IsKept links.old.next.items links.old.lasts.items }
     requires from { from < length links.old.lasts.items }
@@ -134,7 +134,7 @@ pub fn put_before(links: &mut Links, from: usize, onto: usize)
     put_ring(links, onto, moved);
 }
 
-/// Appends all rows of one chain to another: at most 4 changes.
+/// Appends all rows of chain `from` to chain `onto`. Makes at most 4 changes.
 pub fn join(links: &mut Links, from: usize, onto: usize)
     requires kept { IsKept links.old.next.items links.old.lasts.items }
     requires from { from < length links.old.lasts.items }

@@ -1,4 +1,4 @@
-//! The rows of a table: one is got for a value, and a value is put into it or taken out.
+//! The rows of a table: how a value gets a row, and how it is put in or taken out.
 ghost use Rattle.std.specs.Prelude.{◌≡◌, ℕ, IsSome, ◌+◌, ◌-◌, ◌<◌, ◌≤◌, None, Some, List, length};
 ghost use Rattle.std.specs.Prelude.{map, max, slice_set, vec_capacity};
 ghost use Rattle.std.specs.Borrow.{Lends, sem};
@@ -14,8 +14,8 @@ use std::mem;
 /// The chain of the free rows.
 pub const FREE: usize = 0;
 
-/// Gets a row for a value, so that it's loose: the first free
-/// one, or a new one if none is free. At most 1 change.
+/// Gets a row for a value, and makes it loose. This is the first free row, or a new one if none is
+/// free. Makes at most 1 change.
 pub fn open_row<T>(links: &mut Links, rows: &mut Vec<Option<T>>) -> usize
     requires { HasRow links.old rows.old.items (vec_capacity rows.old) }
     ensures opened { (chains : List (List ℕ))
@@ -60,7 +60,7 @@ pub fn take_value<T>(rows: &mut Vec<Option<T>>, row: usize) -> Option<T>
     mem::replace(&mut rows[row], None)
 }
 
-/// Puts a value into a row, and answers the one that it had.
+/// Puts a value into a row, and returns the one that the row had.
 pub fn put_value<T>(rows: &mut Vec<Option<T>>, row: usize, value: T) -> Option<T>
     requires { row < length rows.old.items }
     ensures taken { result ≡ value_at rows.old.items row }

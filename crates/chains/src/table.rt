@@ -46,7 +46,7 @@ impl<T: Drop> Chains<T> {
     ///
     /// # Errors
     ///
-    /// There was no memory.
+    /// Memory ran out.
     pub fn new(alloc: Global, chains: usize) -> Result<Chains<T>, AllocError>
         ensures chains { IfOk result (λ table. table.chains ≡ replicate (chains + 1) []) }
         ensures changed { IfOk result (λ table. table.changed ≡ 0) }
@@ -60,11 +60,11 @@ impl<T: Drop> Chains<T> {
         })
     }
 
-    /// Makes room for `more` chains to be begun without memory.
+    /// Makes room for `more` chains, which can then be begun without allocating.
     ///
     /// # Errors
     ///
-    /// There was no memory. All is as before.
+    /// Memory ran out. Nothing changes.
     pub fn reserve(&mut self, more: usize) -> Result<(), AllocError>
         ensures same { self.new ≡ record self.old { room = self.new.room } }
         ensures room { OnOk result (more ≤ self.new.room) }
@@ -76,11 +76,11 @@ impl<T: Drop> Chains<T> {
         self.links.reserve_chains(more)
     }
 
-    /// Makes room for `more` values to be put into new rows without memory.
+    /// Makes room for `more` values, which can then be put into new rows without allocating.
     ///
     /// # Errors
     ///
-    /// There was no memory. All is as before.
+    /// Memory ran out. The chains don't change.
     pub fn reserve_rows(&mut self, more: usize) -> Result<(), AllocError>
         ensures same { self.new ≡ record self.old { spare = self.new.spare } }
         ensures spare { OnOk result (more ≤ self.new.spare) }
@@ -97,7 +97,7 @@ impl<T: Drop> Chains<T> {
     ///
     /// # Errors
     ///
-    /// There was no memory. All is as before.
+    /// Memory ran out. The chains don't change.
     pub fn reserve_row(&mut self) -> Result<(), AllocError>
         ensures same { self.new ≡ record self.old { spare = self.new.spare } }
         ensures spare { OnOk result (0 < self.new.spare) }
@@ -111,7 +111,7 @@ impl<T: Drop> Chains<T> {
         self.reserve_rows(1)
     }
 
-    /// Begins a chain with no values. Takes no memory.
+    /// Adds an empty chain. Allocates nothing.
     pub fn begin(&mut self)
         requires { 0 < self.old.room }
         ensures chains { self.new.chains ≡ self.old.chains ++ [] ∷ [] }
@@ -124,8 +124,8 @@ impl<T: Drop> Chains<T> {
         self.links.begin();
     }
 
-    /// Appends a value to a chain, in a free row, if there is one. Changes at most 4 links. Takes
-    /// no memory.
+    /// Appends a value to a chain, in a free row if there is one. Changes at most 4 links.
+    /// Allocates nothing.
     pub fn add_reserved(&mut self, chain: usize, value: T)
         requires rests { self.old.walked ≡ None }
         requires chain { 0 < chain × chain < length self.old.chains }
@@ -142,8 +142,7 @@ impl<T: Drop> Chains<T> {
         rings::put_last(&mut self.links, chain, row);
     }
 
-    /// Appends all of one chain to another. Changes at most 4
-    /// links, and moves no value.
+    /// Appends all of chain `from` to chain `onto`. Changes at most 4 links, and moves no value.
     pub fn join(&mut self, from: usize, onto: usize)
         requires rests { self.old.walked ≡ None }
         requires from { 0 < from × from < length self.old.chains }
@@ -157,8 +156,8 @@ impl<T: Drop> Chains<T> {
         rings::join(&mut self.links, from, onto);
     }
 
-    /// Puts all of one chain before the first of another:
-    /// at most 3 links are changed, and no value is moved.
+    /// Puts all of chain `from` before the first of chain `onto`. Changes at most 3 links, and
+    /// moves no value.
     pub fn put_before(&mut self, from: usize, onto: usize)
         requires rests { self.old.walked ≡ None }
         requires from { 0 < from × from < length self.old.chains }
@@ -172,7 +171,8 @@ impl<T: Drop> Chains<T> {
         rings::put_before(&mut self.links, from, onto);
     }
 
-    /// Takes the first value out of a chain; its row is free then. At most 3 links are changed.
+    /// Takes the first value out of a chain, if there is one, and frees its row. Changes at most 3
+    /// links.
     pub fn take_first(&mut self, chain: usize) -> Option<T>
         requires rests { self.old.walked ≡ None }
         requires chain { 0 < chain × chain < length self.old.chains }
@@ -191,12 +191,11 @@ impl<T: Drop> Chains<T> {
         value
     }
 
-    /// Appends a value to a chain, in a free row, if there is
-    /// one. Changes at most 4 links.
+    /// Appends a value to a chain, in a free row if there is one. Changes at most 4 links.
     ///
     /// # Errors
     ///
-    /// There was no memory. All is as before, and the value is let go.
+    /// Memory ran out. The chains don't change, and the value is dropped.
     pub fn add(&mut self, chain: usize, value: T) -> Result<(), AllocError>
         requires rests { self.old.walked ≡ None }
         requires chain { 0 < chain × chain < length self.old.chains }
@@ -213,12 +212,11 @@ impl<T: Drop> Chains<T> {
         Ok(())
     }
 
-    /// Begins a chain with one value, in a free row, if there
-    /// is one. Changes at most 4 links.
+    /// Adds a chain with one value, in a free row if there is one. Changes at most 4 links.
     ///
     /// # Errors
     ///
-    /// There was no memory. All is as before, and the value is let go.
+    /// Memory ran out. The chains don't change, and the value is dropped.
     pub fn begin_with(&mut self, value: T) -> Result<(), AllocError>
         requires rests { self.old.walked ≡ None }
         ensures chains { OnOk result (self.new.chains ≡ self.old.chains ++ (value ∷ []) ∷ []) }
@@ -237,7 +235,8 @@ impl<T: Drop> Chains<T> {
         Ok(())
     }
 
-    /// Returns how many chains there are, with chain 0: the number of the next one that is begun.
+    /// Returns the number of chains, including chain 0. The next chain that is begun gets this
+    /// number.
     pub fn chains(&self) -> usize
         ensures count { result ≡ length self.now.chains }
         ensures some { 0 < result }
@@ -245,8 +244,8 @@ impl<T: Drop> Chains<T> {
         self.links.chains()
     }
 
-    /// Returns the first value of a chain. For the chain that is being walked, the one that the
-    /// walk is at.
+    /// Returns the first value of a chain. For the chain that is being walked, this is the value at
+    /// which the walk is.
     pub fn first(&self, chain: usize) -> Option<&T>
         requires { 0 < chain × chain < length self.now.chains }
         ensures { option_copied result ≡ slice_get (chain_in self.now.chains chain) 0 }
@@ -263,8 +262,8 @@ impl<T: Drop> Chains<T> {
         seen_last(&self.links, self.walk, chain).is_none()
     }
 
-    /// Replaces the first value of a chain, and returns the old one; no link is changed. If the
-    /// chain has none, the new value is dropped.
+    /// Replaces the first value of a chain, and returns the old one. Changes no link. If the chain
+    /// is empty, the new value is dropped.
     pub fn replace_first(&mut self, chain: usize, value: T) -> Option<T>
         requires { 0 < chain × chain < length self.old.chains }
         ensures replaced { result ≡ slice_get (chain_in self.old.chains chain) 0 }
@@ -277,7 +276,7 @@ impl<T: Drop> Chains<T> {
         put_value(&mut self.rows, row, value)
     }
 
-    /// Returns the first value of a chain that has some, to be changed; no link is changed.
+    /// Returns the first value of a chain that isn't empty, to be changed. Changes no link.
     pub fn first_mut(&mut self, chain: usize) -> &mut T
         requires chain { 0 < chain × chain < length self.old.chains }
         requires some { 0 < length (chain_in self.old.chains chain) }
@@ -295,7 +294,7 @@ impl<T: Drop> Chains<T> {
         Some(self.walk?.chain)
     }
 
-    /// Returns how many links were changed; 2^64 - 1 if there were more.
+    /// Returns the number of links that were changed; 2^64 - 1 if there were more.
     pub fn links_changed(&self) -> u64
         ensures { result ≡ self.now.changed }
     {

@@ -6,14 +6,14 @@ ghost use Rattle.chains.specs.inside.Tables.{seen_lasts};
 
 use crate::links::Links;
 
-/// The place of the walk over a chain: this row is seen as the chain's last one.
+/// How far a walk over a chain has come: the row `at` counts as the chain's last one.
 #[derive(Clone, Copy, Debug)]
 pub struct Walk {
     pub chain: usize,
     pub at: Option<usize>,
 }
 
-/// Returns the row that is seen as a chain's last one, if it has rows.
+/// Returns the row that counts as a chain's last one, if the chain has rows.
 pub fn seen_last(links: &Links, walk: Option<Walk>, chain: usize) -> Option<usize>
     requires { chain < length links.now.lasts.items }
     ensures { result ≡ last_in (seen_lasts links.now.lasts.items walk) chain }

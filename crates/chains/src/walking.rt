@@ -1,8 +1,8 @@
-//! The walk over a chain, by which values are taken out of its middle.
+//! The walk over a chain, which can take values out of its middle.
 //!
-//! A ring is the same ring seen from any of its rows, so going past a value writes no link. It
-//! changes only the place of the walk, and that row is seen as the chain's last. It is written as
-//! the last when the walk ends.
+//! A ring is the same ring, whichever of its rows counts as the last. So going past a value changes
+//! no link: it only changes the row at which the walk is, which counts as the chain's last. When
+//! the walk ends, this row is stored as the last.
 ghost use Rattle.std.specs.Prelude.{◌≡◌, ◌≢◌, ℕ, ◌<◌, None, Some, length};
 ghost use Rattle.chains.specs.Edits.{lifted, turned};
 ghost use Rattle.chains.specs.ChainsView.{ChangesFew, KeepsRoom};
@@ -13,7 +13,7 @@ use crate::table::Chains;
 use crate::walk::Walk;
 
 impl<T: Drop> Chains<T> {
-    /// Begins a walk over a chain, at its first value. No link is changed.
+    /// Begins a walk over a chain, at its first value. Changes no link.
     pub fn walk(&mut self, chain: usize)
         requires rests { self.old.walked ≡ None }
         requires chain { 0 < chain × chain < length self.old.chains }
@@ -23,8 +23,7 @@ impl<T: Drop> Chains<T> {
         self.walk = Some(Walk { chain, at });
     }
 
-    /// Goes past the first value of the chain that is
-    /// being walked: it's the last then. No link is changed.
+    /// Moves the first value of the walked chain to its end. Changes no link.
     pub fn turn(&mut self)
         ensures chains { (chain : ℕ) → self.old.walked ≡ Some chain
             → self.new.chains ≡ turned self.old.chains chain }
@@ -44,8 +43,7 @@ impl<T: Drop> Chains<T> {
         });
     }
 
-    /// Goes back before the last value of the chain that is being walked: it's
-    /// the first then, and to go past it makes the chain as it was. No link is changed.
+    /// Moves the last value of the walked chain to its front, which undoes `turn`. Changes no link.
     pub fn turn_back(&mut self)
         ensures chains { (chain : ℕ) → self.old.walked ≡ Some chain
             → self.old.chains ≡ turned self.new.chains chain }
@@ -65,8 +63,8 @@ impl<T: Drop> Chains<T> {
         });
     }
 
-    /// Puts the first value of the chain that is being walked before the first of another: at most
-    /// 3 links are changed, and no value is moved.
+    /// Puts the first value of the walked chain before the first of chain `onto`. Changes at most 3
+    /// links, and moves no value.
     pub fn lift(&mut self, onto: usize)
         requires onto { 0 < onto × onto < length self.old.chains }
         requires apart { self.old.walked ≢ Some onto }
@@ -92,7 +90,8 @@ impl<T: Drop> Chains<T> {
         });
     }
 
-    /// Ends the walk, and changes 1 link if there was one. The chain stays as it is seen.
+    /// Ends the walk. Changes 1 link, if there was a walk. The chain keeps the order that it has
+    /// then.
     pub fn rest(&mut self)
         ensures chains { self.new.chains ≡ self.old.chains }
         ensures changed { ChangesFew self.old self.new 1 }

@@ -1,4 +1,4 @@
--- How often each request was done, as the calls are walked.
+-- How often each request was done, counted in a walk over the calls.
 use Rattle.std.proofs.Common.{◌≡◌, ◌≢◌, ⊎_elim, ℕ, zero, suc, ◌+◌, ◌≤◌, Bool, true, false, ◌&&◌}
 use Rattle.std.proofs.Common.{List, [], ◌∷◌, ◌++◌, length, set, Option, Some, None, refl, ap, sym}
 use Rattle.std.proofs.Common.{◌∙◌, subst, arith, true≢false, eqb, ne_eqb, eq-eqb}

@@ -1,4 +1,5 @@
--- What the rule of a keeper and its holders allows, and what it doesn't, by computation.
+-- Examples, by computation, that the rule of a keeper and its holders allows, and some that it
+-- doesn't.
 use Rattle.std.proofs.Common.{◌≡◌, ℕ, zero, suc, [], ◌∷◌, Some, None}
 use Rattle.std.proofs.Common.{true≢false, refl, sym, subst, arith}
 use mathlib.Core.Option.{some, some-ne-none, some-injective}

@@ -1,4 +1,4 @@
--- Lists that are read by `slice_get`, of which one item changes or to which one is added.
+-- What `slice_get` finds in a list after one item was changed or appended.
 use Rattle.std.proofs.Common.{◌≡◌, ◌≢◌, ℕ, zero, suc, List, [], ◌∷◌, ◌++◌, length, set, Some, refl}
 use Rattle.std.proofs.Common.{ap}
 use Rattle.std.specs.Prelude.{slice_get}

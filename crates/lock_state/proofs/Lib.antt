@@ -1,4 +1,4 @@
--- The lemmas of `lock_state`; the proof of a function stands in the folder of its source file.
+-- The lemmas of `lock_state`. The proof of a function is in the folder of its source file.
 pub mod Lists
 pub mod OpenRequests
 pub mod LogLock

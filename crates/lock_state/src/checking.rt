@@ -1,4 +1,4 @@
-// The comparisons of the queue with its history when a recorder closes.
+// What the queue compares with its history when a recorder closes.
 ghost use Rattle.std.specs.Prelude.{◌≡◌, ◌≢◌, ◌<◌, ◌≤◌, IfOk, MatchBool, Option, Some, length};
 ghost use Rattle.std.specs.Prelude.{slice_get, true};
 ghost use Rattle.log_format.specs.Entries.{is_sector_size};
@@ -19,7 +19,7 @@ use pending::laws::list_has_what_is_queued;
 use std::alloc::{AllocError, Global};
 
 impl<R: Run> QueueState<R> {
-    /// Returns whether the seat's list is that of the history.
+    /// Returns whether the seat's list has exactly its events of the history.
     pub fn has_list(&self, seat: &SeatPart<R>) -> bool
         ensures { MatchBool result (IsList self.now seat.now) (IsList self.now seat.now → ⊥) }
     {
@@ -31,8 +31,8 @@ impl<R: Run> QueueState<R> {
         )
     }
 
-    /// Returns whether the seat's passed calls found the place at which recording ended, and by
-    /// which Stop.
+    /// Returns whether each passed call of the seat found at which event recording ended, and by
+    /// which Stop, if by one.
     pub fn has_passed(&self, seat: &SeatPart<R>) -> bool
         ensures { MatchBool result (Each (FoundEnd self.now.core.events) seat.now.passed)
             (Fails (FoundEnd self.now.core.events) seat.now.passed) }
@@ -73,7 +73,7 @@ impl<R: Run> QueueState<R> {
         }
     }
 
-    /// Returns whether these items are a prefix of what was taken.
+    /// Returns whether these items are a prefix of the taken ones.
     pub fn has_taken(&self, placed: &[Item]) -> bool
         ensures { MatchBool result (BeginsTaken self.now.core placed.now)
             (BeginsTaken self.now.core placed.now → ⊥) }
@@ -103,7 +103,7 @@ impl<R: Run> QueueState<R> {
         self.core.events().len()
     }
 
-    /// Makes a note for each event, for `is_served`. Returns `Err` if there is no memory.
+    /// Returns a note for each event, for `is_served`, or `Err` if memory runs out.
     pub fn notes(&self, alloc: Global) -> Result<Vec<Seen>, AllocError>
         ensures { IfOk result (λ notes. length notes.items ≡ length self.now.core.events) }
     {
@@ -111,8 +111,8 @@ impl<R: Run> QueueState<R> {
     }
 
     /// Returns whether each request that ended Ok is exactly once among these calls, as a call that
-    /// ended Ok. The caller passes a note for each event; their values don't matter. Takes no
-    /// memory.
+    /// succeeded. The caller passes a note for each event; their values don't matter. Allocates
+    /// nothing.
     pub fn is_served(&self, calls: &[Done], notes: &mut [Seen]) -> bool
         requires { length self.now.core.events ≤ length notes.old }
         ensures { MatchBool result
@@ -122,8 +122,8 @@ impl<R: Run> QueueState<R> {
         is_served(self.core.events(), calls, notes)
     }
 
-    /// Returns the cause of the Stop in the history: none if there is none, even if logging stopped
-    /// after the Close.
+    /// Returns the cause of the Stop in the history. Returns None if there is no Stop, even if
+    /// logging stopped after the Close.
     pub fn recorded_stop(&self) -> Option<End>
         ensures { result ≡ stop_of self.now.core.events }
     {
@@ -134,7 +134,7 @@ impl<R: Run> QueueState<R> {
     }
 }
 
-// Returns the cause of the Stop at this place, if there is one.
+// Returns the cause of the Stop at index `place`, if there is one.
 fn stop_at(events: &[CoreEvent], place: Id) -> Option<End>
     ensures { result ≡ stop_cause_at (slice_get events.now place) }
 {
@@ -144,8 +144,8 @@ fn stop_at(events: &[CoreEvent], place: Id) -> Option<End>
     }
 }
 
-// Returns whether the item has this id, with the entry of this event, in a log with sectors of
-// `bytes` bytes.
+// Returns whether the item has this id and the entry of `event`, in a log with sectors of `bytes`
+// bytes.
 fn is_item(item: &Item, id: Id, event: &CoreEvent, bytes: u32) -> bool
     requires { is_sector_size bytes ≡ true }
     ensures { MatchBool result (IsItem bytes item.now id event.now)

@@ -1,4 +1,4 @@
-// The comparisons of a recorder that closes, as functions of lists.
+// What a recorder compares when it closes, as functions of lists.
 ghost use Rattle.std.specs.Prelude.{◌≡◌, ◌≢◌, ◌⊎◌, ◌&&◌, MatchBool, Option, Some, slice_get};
 ghost use Rattle.std.specs.Prelude.{length};
 ghost use Rattle.bio.specs.declared.request.Bio.TheVariants.{Discard, Flush, Read, Write};
@@ -116,7 +116,7 @@ fn same_event(one: &CoreEvent, other: &CoreEvent) -> bool
     }
 }
 
-// Returns whether the list has this event, with its place, at this number.
+// Returns whether the list has this event, with the index `place`, at position `number`.
 fn is_at(list: &[Own], number: usize, place: u64, event: &CoreEvent) -> bool
     ensures { MatchBool result (slice_get list.now number ≡ Some (own_at place event.now))
         (slice_get list.now number ≢ Some (own_at place event.now)) }
@@ -127,7 +127,7 @@ fn is_at(list: &[Own], number: usize, place: u64, event: &CoreEvent) -> bool
     }
 }
 
-/// Returns whether a list is that of the history for a seat.
+/// Returns whether `list` has exactly the events of the seat, each with its index.
 pub fn is_list_of(events: &[CoreEvent], by: &[Option<u64>], seat: u64, list: &[Own]) -> bool
     requires { length by.now ≡ length events.now }
     ensures { MatchBool result (of events.now by.now seat ≡ list.now) (of events.now by.now seat ≢ list.now) }
@@ -144,7 +144,7 @@ pub fn is_list_of(events: &[CoreEvent], by: &[Option<u64>], seat: u64, list: &[O
     found == list.len()
 }
 
-// Returns whether the name is this seat's.
+// Returns whether the name is that of `seat`.
 fn is_seat(seat: u64, name: Option<u64>) -> bool
     ensures { result ≡ is_of seat name }
 {
@@ -154,7 +154,7 @@ fn is_seat(seat: u64, name: Option<u64>) -> bool
     }
 }
 
-// Returns whether recording ended at this place.
+// Returns whether recording ended at event `place`.
 fn is_end(end: &Option<Id>, place: Id) -> bool
     ensures { MatchBool result (end.now ≡ Some place) (end.now ≢ Some place) }
 {
@@ -164,14 +164,14 @@ fn is_end(end: &Option<Id>, place: Id) -> bool
     }
 }
 
-// Returns whether a passed call found that recording had ended at this place, by this Stop.
+// Returns whether a passed call found that recording had ended at event `end`, by this Stop.
 fn has_found(end: &Option<Id>, stop: Option<End>, call: &PassedCall) -> bool
     ensures { MatchBool result (Found end.now stop call.now) (Found end.now stop call.now → ⊥) }
 {
     is_end(end, call.place) && stop == call.stop
 }
 
-/// Returns whether each passed call found that recording had ended at this place, by this Stop.
+/// Returns whether each passed call found that recording had ended at event `end`, by this Stop.
 pub fn are_passed(end: &Option<Id>, stop: Option<End>, passed: &[PassedCall]) -> bool
     ensures { MatchBool result (Each (Found end.now stop) passed.now)
         (Fails (Found end.now stop) passed.now) }
@@ -184,7 +184,7 @@ pub fn are_passed(end: &Option<Id>, stop: Option<End>, passed: &[PassedCall]) ->
     true
 }
 
-// Returns whether this cause is one of the two.
+// Returns whether this cause is `stop` or `end`.
 fn is_cause(cause: End, stop: Option<End>, end: Option<End>) -> bool
     ensures { MatchBool result ((stop ≡ Some cause) ⊎ (end ≡ Some cause))
         (((stop ≡ Some cause) ⊎ (end ≡ Some cause)) → ⊥) }
@@ -192,7 +192,7 @@ fn is_cause(cause: End, stop: Option<End>, end: Option<End>) -> bool
     stop == Some(cause) || end == Some(cause)
 }
 
-// Returns whether this cause is one of the two, if it was reported.
+// Returns whether this cause is `stop` or `end`, if it was reported.
 fn may_be_told(told: bool, cause: End, stop: Option<End>, end: Option<End>) -> bool
     ensures { MatchBool result (MayBeReported told cause stop end)
         (MayBeReported told cause stop end → ⊥) }
@@ -200,7 +200,7 @@ fn may_be_told(told: bool, cause: End, stop: Option<End>, end: Option<End>) -> b
     !told || is_cause(cause, stop, end)
 }
 
-/// Returns whether each cause that was reported to a seat is one of these two.
+/// Returns whether each cause that was reported to a seat is `stop` or `end`.
 pub fn are_causes(told: &Told, stop: Option<End>, end: Option<End>) -> bool
     ensures { MatchBool result (AreCauses told.now stop end) (AreCauses told.now stop end → ⊥) }
 {

@@ -18,7 +18,7 @@ use std::alloc::Global;
 use std::marker::{Model, PhantomData};
 
 /// The value under the data lock: the recorded device, and the requests that were passed to it, in
-/// order. Contracts see it as these two.
+/// order. Contracts see these two.
 #[derive(Drop)]
 pub struct DataState<D: BlockDev + Drop, R: Run> {
     device: D,
@@ -37,7 +37,7 @@ impl<D: BlockDev + Drop, R: Run> Model for DataState<D, R> {
 }
 
 impl<D: BlockDev + Drop, R: Run> DataState<D, R> {
-    /// Makes the value of a device to which no request was passed yet.
+    /// Returns the value for a device to which no request was passed yet.
     pub fn new(alloc: Global, device: D) -> DataState<D, R>
         requires { (D.shown device).size ≡ R.sectors }
         ensures { result ≡ record { device = device; calls = [] } }
@@ -49,28 +49,28 @@ impl<D: BlockDev + Drop, R: Run> DataState<D, R> {
         }
     }
 
-    /// Passes a request to the device, and notes it: a write with flush as a flush, and then the
-    /// write if the flush succeeded. If there is no memory for the note, the device isn't called,
-    /// and nothing changes.
+    /// Passes a request to the device, and notes it. A write with flush is passed as a flush, and
+    /// then as a write if the flush succeeded. If memory for the note runs out, the device isn't
+    /// called, and nothing changes.
     pub fn apply(&mut self, now: Ms, id: Option<Id>, bio: &Bio) -> Result<(), DevError>
         requires tracked { is_tracked bio.now ≡ true }
         requires checked { check_answer bio.now R.sectors ≡ Ok tt }
 
-        // It makes these calls of the device, each of which ended well, and notes the request as
-        // one that succeeded.
+        // If the result is Ok, these calls of the device were made, each succeeded, and the request
+        // is noted as one that succeeded.
         ensures done { OnOk result
             (self.new.calls ≡ self.old.calls ++ done_call id bio.now true ∷ []) }
         ensures does { OnOk result
             (DoesInTurn D.does now (calls_of bio.now) self.old.device (Ok tt) self.new.device) }
 
-        // Each sector that the request covers holds its value then, and each other is as it was,
-        // unless the device lied.
+        // Each sector that the request covers then holds its value, and each other sector is
+        // unchanged, unless the device lied.
         ensures content { OnOk result ((D.shown self.new.device).lies ≡ 0 → (sector : ℕ) →
             (D.shown self.new.device).content sector
             ≡ put (values_of bio.now) (D.shown self.old.device).content sector) }
 
-        // Else a call of the device ended by this error, and the request is noted as one that
-        // failed; or there was no memory for the note.
+        // If the result is an error, a call of the device ended by this error, and the request is
+        // noted as one that failed; or memory for the note ran out.
         ensures failed { IfErr result (λ error. ((error ≡ Memory) × (self.new ≡ self.old))
             ⊎ ((self.new.calls ≡ self.old.calls ++ done_call id bio.now false ∷ [])
             × DoesInTurn D.does now (calls_of bio.now) self.old.device
@@ -87,8 +87,8 @@ impl<D: BlockDev + Drop, R: Run> DataState<D, R> {
         result
     }
 
-    /// Reads whole sectors of the device from `first` on: one call of it, which is not noted as a
-    /// request.
+    /// Reads whole sectors of the device from `first` on. Makes one call of the device, which isn't
+    /// noted as a request.
     pub fn read(&mut self, now: Ms, first: u64, buffer: &mut [u8]) -> Result<(), DevError>
         requires { IsByteRange R.sectors first (length buffer.old) }
         ensures calls { self.new.calls ≡ self.old.calls }
@@ -104,8 +104,8 @@ impl<D: BlockDev + Drop, R: Run> DataState<D, R> {
         Ok(())
     }
 
-    /// Returns the requests that were passed, in order. If the device didn't lie, each sector that
-    /// a request which ended Ok covers holds the value of one after which none that ended Ok covers
+    /// Returns the requests that were passed, in order. Unless the device lied, each sector that a
+    /// successful request covers holds the value of a request after which no successful one covers
     /// it.
     pub fn done(&self) -> &[Done]
         ensures calls { result.now ≡ self.now.calls }
@@ -131,8 +131,8 @@ impl<D: BlockDev + Drop, R: Run> DataState<D, R> {
     }
 }
 
-// Passes a request to a device: a write with flush as a flush, and then the write if the flush
-// succeeded.
+// Passes a request to a device. A write with flush is passed as a flush, and then as a write if the
+// flush succeeded.
 fn do_request<D: BlockDev>(device: &mut D, now: Ms, bio: &Bio) -> Result<(), DevError>
     requires tracked { is_tracked bio.now ≡ true }
     requires checked { check_answer bio.now (D.shown device.old).size ≡ Ok tt }

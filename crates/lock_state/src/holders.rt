@@ -1,10 +1,10 @@
 //! A keeper and its holders, which provably agree on what each holder holds.
 //!
-//! The keeper is inside a value that a lock guards; each thread has a holder of its own. When a
-//! thread takes the lock, nothing is known of the value under it but its invariant. A call with
-//! both shows that the keeper's list has, at the holder's number, exactly what the holder holds. So
-//! a fact that the invariant states for the keeper's list is known for what the thread itself
-//! holds. No call waits, and only the first takes memory.
+//! The keeper is inside a value that a lock guards; each thread has a holder. A thread that takes
+//! the lock knows nothing of the value under it but its invariant. A call with both shows that the
+//! keeper's list has, at the holder's number, exactly what the holder holds. So what the invariant
+//! states for the keeper's list is known for what the thread itself holds. No call waits, and only
+//! the first allocates.
 ghost use Rattle.std.specs.Prelude.{◌≡◌, ℕ, List, [], ◌∷◌, ◌++◌, length, Option, None, Some};
 ghost use Rattle.std.specs.Prelude.{slice_get, slice_set};
 ghost use Rattle.atomic_table.specs.Seated.{TableId};
@@ -17,8 +17,8 @@ use atomic_table::Seat;
 use std::alloc::{AllocError, Global};
 use std::marker::{Brand, Model, PhantomData};
 
-/// Names the table on which a keeper and its holders agree. Each keeper has a table of its own, so
-/// a holder of another keeper is refused by its type.
+/// Names the table on which a keeper and its holders agree. Each keeper has a table, so the type of
+/// a holder refuses another keeper.
 pub trait Whose {
     ghost use Rattle.atomic_table.specs.Seated.{TableId};
 
@@ -53,8 +53,8 @@ impl Model for Fresh {
         × (f.board.shared.table_id.words ≡ 1) × (f.pass.me ≡ (keeper_of [], [])) };
 }
 
-/// The keeper: it knows for each holder, by its number, what it holds. Contracts see it as the list
-/// of that.
+/// The keeper. It knows what each holder holds, by the holder's number. Contracts see it as the
+/// list of what they hold.
 #[derive(Drop)]
 pub struct Keeper<W: Whose> {
     board: Board,
@@ -75,8 +75,8 @@ impl<W: Whose> Model for Keeper<W> {
         × (k.pass.me ≡ (keeper_of k.pass.me.0.all, [])) };
 }
 
-/// A holder: it holds a number, or nothing. It has no bytes. Contracts see it as its own number
-/// among the holders and what it holds.
+/// A holder: it holds a number, or nothing. It has no bytes. Contracts see its number among the
+/// holders, and what it holds.
 #[derive(Drop)]
 pub struct Holder<W: Whose> {
     pass: Seat<(), Knows>,
@@ -96,7 +96,7 @@ impl<W: Whose> Model for Holder<W> {
 }
 
 impl Fresh {
-    /// Makes a keeper with no holder. Returns `Err` if there is no memory.
+    /// Returns a keeper without holders, or `Err` if memory runs out.
     pub fn new(alloc: Global) -> Result<Fresh, AllocError> {
         let (board, pass) = Board::of_words(alloc, &[0], &())?;
         Ok(Fresh { board, pass })

@@ -1,17 +1,17 @@
-// The notes of seats, and why a step wasn't taken.
+// The notes of seats, and why a step was refused.
 use crate::run::{Ends, Run};
 use crate::stop::Shown;
 use bio::{Bio, CoreEvent, End, Id};
 use log_format::Entry;
 
-/// An event of the history, with its place there.
+/// An event of the history, with its index there.
 #[derive(Debug, Drop)]
 pub struct Own {
     pub place: Id,
     pub event: CoreEvent,
 }
 
-/// An entry of the log, with the place of its submission in the history.
+/// An entry of the log, with the index of its submission in the history.
 #[derive(Debug, Drop)]
 pub struct Item {
     pub id: Id,
@@ -27,15 +27,15 @@ pub struct Done {
     pub ok: bool,
 }
 
-/// A call that was passed to the device unrecorded: the place at which recording had ended, and the
-/// cause of the Stop that ended it; none if a Close ended it.
+/// A call that was passed to the device unrecorded: the index at which recording had ended, and the
+/// cause of the Stop that ended it, or none if a Close ended it.
 #[derive(Clone, Copy, Debug, PartialEq, Eq)]
 pub struct PassedCall {
     pub place: Id,
     pub stop: Option<End>,
 }
 
-/// The causes that were reported to a seat as those that ended logging.
+/// The causes that were reported to a seat as having ended logging.
 #[derive(Clone, Copy, Debug, PartialEq, Eq)]
 pub struct Told {
     pub full: bool,
@@ -46,16 +46,16 @@ pub struct Told {
 /// Why a request wasn't recorded.
 #[derive(Clone, Copy, Debug, PartialEq, Eq)]
 pub enum Unrecorded {
-    /// There was no memory outside the core: nothing is changed.
+    /// Memory ran out outside the core; nothing has changed.
     NoRoom,
-    /// There was no memory in the core: logging has ended.
+    /// Memory ran out in the core; logging has ended.
     Stopped,
 }
 
 /// Why an item wasn't placed.
 #[derive(Drop)]
 pub enum Unplaced<R: Run> {
-    /// There was no room in the list of items: nothing is changed.
+    /// There was no room in the list of items; nothing has changed.
     NoRoom,
     /// The log has ended, by this cause.
     Ended(Shown<Ends<R>>),

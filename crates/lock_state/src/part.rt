@@ -1,4 +1,4 @@
-// The part of a seat: the notes of its own calls.
+// The part of a seat: the notes of its calls.
 ghost use Rattle.std.specs.Prelude.{◌≡◌, ◌==◌, None, is_none, length, true, false};
 ghost use Rattle.lock_state.specs.History.{new_part, with_reported_cause, with_calls};
 ghost use Rattle.lock_state.specs.PlacedItems.{awaited_in, settles_hand};
@@ -12,9 +12,9 @@ use std::marker::{Model, PhantomData};
 use std::mem::swap;
 use std::sync::ledger::Share;
 
-/// A seat's part: its number, its recorded events with their places, and its request that is under
-/// way. It also has the places at which its passed calls found that recording had ended, and the
-/// causes that were reported to it.
+/// A seat's part: its number, its recorded events with their indices, and its request that is under
+/// way. It also has what its passed calls found, that is, at which event recording had ended, and
+/// the causes that were reported to it.
 #[derive(Drop)]
 pub struct SeatPart<R: Run> {
     pub(crate) number: u64,
@@ -46,7 +46,7 @@ impl<R: Run> Model for SeatPart<R> {
 }
 
 impl<R: Run> SeatPart<R> {
-    /// Makes a seat with this number, with no call yet.
+    /// Returns a seat with this number, without a call yet.
     pub fn new(alloc: Global, number: u64, share: Share<R>, holder: Holder<R>) -> SeatPart<R>
         requires share { (share.parts ≡ 1) × (share.amount ≡ 0) }
         requires holder { (holder.number ≡ number) × (holder.held ≡ None) }
@@ -74,8 +74,8 @@ impl<R: Run> SeatPart<R> {
         self.under_way
     }
 
-    // Exchanges two seats' events and passed calls if they have as many events; else nothing
-    // changes.
+    // Exchanges the events and passed calls of two seats, if both have the same number of events;
+    // else nothing changes.
     fn exchange_calls<C: Run>(&mut self, other: &mut SeatPart<C>) -> bool
         requires idle { (self.old.under_way ≡ None) × (other.old.under_way ≡ None) }
         ensures why { result ≡ (length self.old.own == length other.old.own) }
@@ -92,7 +92,7 @@ impl<R: Run> SeatPart<R> {
         true
     }
 
-    // Returns a share of the seat's ledger that has no part and counts nothing.
+    // Returns an empty share of the seat's ledger, which has no part and counts nothing.
     pub(crate) fn no_share(&mut self) -> Share<R>
         ensures share { (result.parts ≡ 0) × (result.amount ≡ 0) }
         ensures same { self.new ≡ self.old }
@@ -100,7 +100,7 @@ impl<R: Run> SeatPart<R> {
         self.share.empty()
     }
 
-    /// Notes a cause that is reported to the seat. Takes no memory.
+    /// Notes a cause that is reported to the seat. Allocates nothing.
     pub fn tell(&mut self, cause: End)
         ensures { self.new ≡ with_reported_cause self.old cause }
     {
@@ -112,8 +112,8 @@ impl<R: Run> SeatPart<R> {
     }
 }
 
-/// A caller's seat: between two calls no request of it is under way. Contracts see it as its part.
-/// Code that borrows the part ensures this again at the end.
+/// A caller's seat. Between two calls no request of it is under way. Contracts see its part. Code
+/// that borrows the part ensures this again at the end.
 #[derive(Drop)]
 pub struct Seat<R: Run> {
     pub part: SeatPart<R>,
@@ -131,9 +131,9 @@ impl<R: Run> Model for Seat<R> {
 }
 
 impl<R: Run> Seat<R> {
-    /// Exchanges two seats' events and passed calls if they have as many events; else nothing
-    /// changes. So a seat's list may be that of another recorder, which a recorder that closes is
-    /// to find.
+    /// Exchanges the events and passed calls of two seats, if both have the same number of events;
+    /// else nothing changes. So a seat may have the list of another recorder, and a recorder that
+    /// closes has to find this.
     pub fn exchange_calls<C: Run>(&mut self, other: &mut Seat<C>) -> bool
         ensures why { result ≡ (length self.old.own == length other.old.own) }
         ensures changed { result ≡ true
@@ -146,7 +146,7 @@ impl<R: Run> Seat<R> {
 }
 
 /// The writer's part: the item that it took and hasn't placed yet, if there is one. Contracts see
-/// it as that item.
+/// this item.
 #[derive(Drop)]
 pub struct WriterPart<R: Run> {
     pub(crate) hand: Option<Item>,
@@ -166,7 +166,7 @@ impl<R: Run> Model for WriterPart<R> {
 }
 
 impl<R: Run> WriterPart<R> {
-    /// Makes a part with nothing in hand.
+    /// Returns a part with nothing in hand.
     pub fn new() -> WriterPart<R>
         ensures { result ≡ None }
     {
@@ -193,8 +193,8 @@ impl<R: Run> WriterPart<R> {
         }
     }
 
-    /// Returns the id of the item in hand, if that is to be settled at once: its seat waits for
-    /// that.
+    /// Returns the id of the item in hand, if the log is to be settled right after it: its seat
+    /// waits for that.
     pub fn awaited(&self) -> Option<Id>
         ensures { result ≡ awaited_in self.now }
     {

@@ -3,11 +3,11 @@ use crate::holders::Whose;
 use std::marker::{Brand, PhantomData};
 use std::sync::ledger::Ledger;
 
-/// The name of one shared recorder, with the ledger of its seats, and three tables. On one its
-/// queue and seats agree, on one its queue and log about the first stop, and on one about the log's
-/// end. It also has the number of 512-byte sectors of the recorded device, the number of bytes in a
-/// log sector, and the properties of the log's device before the log was begun. So the type refuses
-/// a seat of another recorder.
+/// The name of one shared recorder, with the ledger of its seats, and three tables. On the first,
+/// its queue and its seats agree. On the second, its queue and its log agree about the first stop,
+/// and on the third about the log's end. The name also has the number of 512-byte sectors of the
+/// recorded device, and the number of bytes in a log sector. It has the properties of the log's
+/// device before the log was begun. So a seat of another recorder has another type, and is refused.
 pub trait Run: Ledger + Whose {
     ghost use Rattle.std.specs.Prelude.{ℕ};
     ghost use Rattle.lock_state.specs.PlacedItems.{Ground};

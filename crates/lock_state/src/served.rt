@@ -1,4 +1,4 @@
-// The test whether each request that ended Ok was done exactly once. It walks over the calls once
+// The test whether each request that ended Ok was done exactly once. It goes over the calls once
 // and over the events once, with a note for each event.
 ghost use Rattle.std.specs.Prelude.{◌≡◌, ◌≤◌, ℕ, [], MatchBool, Some, length, slice_get};
 ghost use Rattle.lock_state.specs.declared.served.Seen.{Seen as Noted};
@@ -10,12 +10,12 @@ use crate::compare::same_bio;
 use crate::note::Done;
 use bio::CoreEvent;
 
-/// How often a request's call was seen to end Ok.
+/// How many successful calls of a request were seen.
 #[derive(Clone, Copy, Debug, PartialEq, Eq)]
 pub enum Seen {
-    /// Not yet.
+    /// None yet.
     Never,
-    /// Once, at this place of the calls.
+    /// One, at this index of the calls.
     Once(usize),
     /// More than once.
     Again,
@@ -58,7 +58,7 @@ fn clear(notes: &mut [Seen])
     }
 }
 
-// Notes the call at this place.
+// Notes the call at index `place`.
 fn note(notes: &mut [Seen], place: usize, call: &Done)
     ensures noted { (id : ℕ) (seen : Noted) → slice_get notes.new id ≡ Some seen
         → IsNoted notes.old place call.now id seen }
@@ -77,7 +77,7 @@ fn note(notes: &mut [Seen], place: usize, call: &Done)
     notes[id] = more(notes[id], place);
 }
 
-// Returns the note after one more call that ended Ok.
+// Returns the note after one more successful call.
 fn more(seen: Seen, place: usize) -> Seen
     ensures { result ≡ seen_more seen place }
 {
@@ -87,7 +87,8 @@ fn more(seen: Seen, place: usize) -> Seen
     }
 }
 
-// Returns whether the event's request was done exactly once, if the event is an end with success.
+// Returns whether the event's request was done exactly once, if the event is a completion with
+// success.
 fn is_event_served(events: &[CoreEvent], calls: &[Done], notes: &[Seen], event: &CoreEvent) -> bool
     requires told { AllNotesMatch calls.now notes.now }
     requires size { length events.now ≤ length notes.now }
@@ -114,7 +115,7 @@ fn is_done_once(events: &[CoreEvent], calls: &[Done], notes: &[Seen], id: u64) -
     is_done_as(&events[at], calls, notes[at], id)
 }
 
-// Returns whether a request with the note `seen` was done exactly once, as this event submits it.
+// Returns whether a request with the note `seen` was done exactly once, as `event` submits it.
 fn is_done_as(event: &CoreEvent, calls: &[Done], seen: Seen, id: u64) -> bool
     requires { Tells calls.now id seen }
     ensures { MatchBool result (IsDoneOnce calls.now id (Some event.now))

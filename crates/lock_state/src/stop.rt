@@ -10,8 +10,8 @@ use crate::run::{Ends, Run, Stops};
 use bio::End;
 use std::marker::Model;
 
-/// A cause that was shown to its owner: that of the first stop, or of the log's end. Contracts see
-/// it as the cause. Only `QueueState::show_stop` and `LogState::place` make one.
+/// A cause that was shown to its owner: the cause of the first stop, or of the log's end. Contracts
+/// see the cause. Only `QueueState::show_stop` and `LogState::place` make one.
 #[derive(Drop)]
 pub struct Shown<W: Whose> {
     cause: End,
@@ -38,7 +38,7 @@ impl<W: Whose> Shown<W> {
         self.cause
     }
 
-    // Shows this cause to a new holder. The keeper shows no other.
+    // Shows this cause to a new holder. The keeper has shown no other.
     pub(crate) fn new(keeper: &mut Keeper<W>, cause: End) -> Shown<W>
         requires { IsShown (Some cause) keeper.old }
         ensures shown { IsShown (Some cause) keeper.new }
@@ -48,7 +48,7 @@ impl<W: Whose> Shown<W> {
         Shown::to(holder, keeper, cause)
     }
 
-    // Shows this cause to the holder. The keeper shows no other.
+    // Shows this cause to the holder. The keeper has shown no other.
     fn to(holder: Holder<W>, keeper: &mut Keeper<W>, cause: End) -> Shown<W>
         requires { IsShown (Some cause) keeper.old }
         ensures shown { IsShown (Some cause) keeper.new }
@@ -70,9 +70,9 @@ impl<W: Whose> Shown<W> {
     }
 }
 
-/// The cause of the first stop, if there was one. Contracts see it as that. A keeper knows whether
-/// it was shown to the writer. Unless the cause is Memory, it is that of the log's end, as the log
-/// showed it.
+/// The cause of the first stop, if there was one. Contracts see this cause. A keeper knows whether
+/// it was shown to the writer. Unless the cause is Memory, it is that of the log's end, which the
+/// log has shown.
 #[derive(Drop)]
 pub struct FirstStop<R: Run> {
     cause: Option<End>,
@@ -92,7 +92,7 @@ impl<R: Run> Model for FirstStop<R> {
     ghost invariant = { λ s. IsShown s.cause s.keeper × HasStopCause s.cause s.ended };
 }
 
-/// The writer's right to be shown the first stop, once. Contracts see it as whether it is unused.
+/// The writer's right to be shown the first stop, once. Contracts see whether it is unused.
 #[derive(Drop)]
 pub struct StopPart<R: Run> {
     holder: Option<Holder<Stops<R>>>,
@@ -107,7 +107,7 @@ impl<R: Run> Model for StopPart<R> {
 }
 
 impl<R: Run> FirstStop<R> {
-    /// Makes the value of no stop yet, and the writer's part.
+    /// Returns the value without a stop, and the writer's part.
     pub fn new(fresh: Fresh) -> (FirstStop<R>, StopPart<R>)
         requires { fresh ≡ R.stops }
         ensures stop { result.0 ≡ None }
@@ -134,8 +134,8 @@ impl<R: Run> FirstStop<R> {
         self.cause
     }
 
-    // Stops logging by this cause: Memory, or the one that was shown for the log's end. The first
-    // cause stays.
+    // Stores the cause of a stop: Memory, or the cause that was shown for the log's end. An earlier
+    // cause is kept.
     pub(crate) fn keep(&mut self, cause: End, ended: Option<Shown<Ends<R>>>)
         requires { (cause ≡ Memory) ⊎ (ended ≡ Some cause) }
         ensures { self.new ≡ first_cause self.old (Some cause) }
@@ -146,7 +146,7 @@ impl<R: Run> FirstStop<R> {
         }
     }
 
-    /// Shows the first stop to the writer. Returns None if there is none, or if it was shown
+    /// Shows the first stop to the writer. Returns None if there is no stop, or if it was shown
     /// before.
     pub fn show(&mut self, mine: &mut StopPart<R>) -> Option<Shown<Stops<R>>>
         ensures same { self.new ≡ self.old }
@@ -172,7 +172,8 @@ impl<R: Run> FirstStop<R> {
         stopped.confirm(&mut self.keeper);
     }
 
-    // Confirms that the first stop was for lack of memory, or by the log's end. Nothing changes.
+    // Confirms that the first stop was because memory ran out, or by the log's end. Nothing
+    // changes.
     pub(crate) fn confirm_cause(&mut self, ends: &mut Keeper<Ends<R>>)
         ensures same { (self.new ≡ self.old) × (ends.new ≡ ends.old) }
         ensures cause { (end : Option Cause) → IsShown end ends.old → HasStopCause self.old end }

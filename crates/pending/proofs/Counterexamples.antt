@@ -1,6 +1,5 @@
--- What a core never is, how many links a call may change, which
--- numbers of entries belong to a moment, and which events are alike
--- but for their results: examples that hold and examples that don't.
+-- Examples that hold, and examples that don't, for: sound cores, the links that a call may change,
+-- the moments to which numbers of entries belong, and events that differ only in their results.
 use Rattle.std.proofs.Common.{◌≡◌, true, false, List, [], ◌∷◌, length, map, replicate, refl, arith}
 use Rattle.bio.specs.declared.event.CoreEvent.{CoreEvent}
 use Rattle.bio.specs.declared.event.CoreEvent.TheVariants.{Submit, Complete, Mark, Stop, Close}

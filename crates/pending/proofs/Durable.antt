@@ -1,5 +1,5 @@
--- What was durable at a moment is queued by then, and what a request finds ended before it, where
--- they overlap or it has a flush, is queued first.
+-- A request that is durable at a moment is queued by then. And if a request ended before another
+-- was submitted, it is queued first, if the two overlap or the other has a flush.
 use Rattle.std.proofs.Common.{◌≡◌, ℕ, ◌<◌, ◌≤◌, Bool, true, false, not, ◌&&◌, ◌||◌, Option, Some}
 use Rattle.std.proofs.Common.{None, List, [], ◌∷◌, ◌++◌, length, take, drop, refl, ap, sym, ◌∙◌}
 use Rattle.std.proofs.Common.{subst, inl, inr, arith, append-nil, append_assoc, length-append}

@@ -1,4 +1,4 @@
--- What replaying entries leaves in a sector: the value of the last entry that has one.
+-- After replaying entries a sector has the value of the last entry that has one for it.
 use Rattle.std.proofs.Common.{◌≡◌, ℕ, zero, suc, ◌*◌, ◌<◌, Option, Some, None, List, [], ◌∷◌, true}
 use Rattle.std.proofs.Common.{length, take, refl, ap, sym, ◌∙◌, inl, inr, arith}
 use Rattle.std.specs.Prelude.{◌⊎◌, slice_get, option_map, unwrap_or}

@@ -1,4 +1,4 @@
--- The lemmas of `pending`; the proof of a function stands in the folder of its source file.
+-- The lemmas of `pending`. The proof of a function is in the folder of its source file.
 pub mod PlaceTests
 pub mod LinkChains
 pub mod Rows

@@ -1,4 +1,4 @@
--- The words of the ordered list: examples that hold, and examples that don't.
+-- Examples that hold, and examples that don't, for the definitions of the queue rule.
 use Rattle.std.proofs.Common.{◌≡◌, ℕ, zero, suc, ◌<◌, true, false, Some, List, [], ◌∷◌, replicate}
 use Rattle.std.proofs.Common.{refl, sym, ◌∙◌, arith}
 use Rattle.std.specs.Prelude.{slice_get}

@@ -1,4 +1,4 @@
--- The headline's plain words: an example that holds and one that doesn't of each.
+-- The headline's plain definitions: for each one an example that holds and one that doesn't.
 use Rattle.std.proofs.Common.{◌≡◌, ℕ, zero, suc, ◌+◌, ◌<◌, ◌≤◌, Bool, true, false, Some, List, []}
 use Rattle.std.proofs.Common.{◌∷◌, ◌++◌, ◌||◌, get_or, length, replicate, take, refl, ap, sym}
 use Rattle.std.proofs.Common.{subst, ◌∙◌, inl, inr, arith}

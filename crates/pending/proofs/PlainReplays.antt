@@ -1,4 +1,4 @@
--- What replaying entries leaves, in plain words.
+-- The plain definition of what a replay leaves agrees with that of the contracts.
 use Rattle.std.proofs.Common.{◌≡◌, ℕ, zero, suc, ◌<◌, true, Some, None, List, [], ◌∷◌}
 use Rattle.std.proofs.Common.{subst, take, refl, ap, sym, ◌∙◌, inl, inr}
 use Rattle.std.proofs.Math.Nat.{eq-or-lt_of_le}

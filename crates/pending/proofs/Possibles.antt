@@ -1,4 +1,4 @@
--- Replaying a beginning of the log gives what the device could hold.
+-- Replaying a prefix of the log gives a content that the device could hold.
 use Rattle.std.proofs.Common.{◌≡◌, ℕ, suc, ◌+◌, ◌-◌, ◌/◌, ◌<◌, ◌≤◌, true, false, ◌&&◌, ◌||◌, Option}
 use Rattle.std.proofs.Common.{Some, None, List, length, take, drop, replicate, refl, ap, sym, ◌∙◌}
 use Rattle.std.proofs.Common.{inl, inr, arith}

@@ -1,5 +1,5 @@
--- Event lists of logs that are known, and their completion lists by computation: each entry with
--- the place of its submission.
+-- The event lists of some known logs, and their completion lists by computation: each entry with
+-- the index of its submission.
 use Rattle.std.specs.Prelude.{◌≡◌, ℕ, true, false, List, [], ◌∷◌, map, replicate, Some}
 use Rattle.std.proofs.Common.{refl, ap}
 use Rattle.bio.specs.declared.event.CoreEvent.{CoreEvent}

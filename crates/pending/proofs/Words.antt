@@ -1,4 +1,4 @@
--- The queue rule in the words of chains and needs.
+-- The queue rule, with the relations of `Chains`: chains and needs.
 use Rattle.std.proofs.Common.{◌≡◌, ℕ, zero, suc, ◌<◌, true, false, ◌&&◌, ◌||◌, Some, None, List}
 use Rattle.std.proofs.Common.{length, ap, sym, ◌∙◌, inl, inr}
 use Rattle.std.proofs.lemmas.Bool.{and_parts, lt-ltb, ltb-true}

@@ -1,10 +1,10 @@
--- An event list's ends taken as successes, for `results_are_ignored`: results
--- don't change the log.
+-- Events with each result replaced by a success. By the law `results_are_ignored` the log doesn't
+-- depend on results.
 use Rattle.std.specs.Prelude.{true}
 use Rattle.bio.specs.declared.event.CoreEvent.{CoreEvent}
 use Rattle.bio.specs.declared.event.CoreEvent.TheVariants.{Submit, Complete, Mark, Stop, Close}
 
--- the event; if it is an end, the same end with success
+-- the event; a completion becomes one with success
 abbrev pub as_success : CoreEvent → CoreEvent
 as_success (Complete id ok) = Complete id true
 as_success (Submit bio) = Submit bio

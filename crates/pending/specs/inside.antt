@@ -1,4 +1,4 @@
--- The definitions of `pending` that only its proofs use: no other crate cites them.
+-- The definitions of `pending` that no other crate uses.
 pub mod Release
 pub mod SectorBits
 pub mod Covers

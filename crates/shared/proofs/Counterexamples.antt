@@ -1,5 +1,5 @@
--- For each clause of what a call is answered, and of what a close compares and hands back, what
--- breaks it, and is refused by it.
+-- For each clause of what a call is answered, and of what a close compares and returns: a change
+-- that the clause refuses.
 use Rattle.std.proofs.Common.{◌≡◌, ◌==◌, ◌<◌, ℕ, true≢false, List, [], ◌∷◌}
 use Rattle.std.proofs.Common.{Global, Option, Some, None, Vec, ap, arith, inl, inr, length, refl}
 use Rattle.std.proofs.Common.{sym, take}

@@ -1,4 +1,4 @@
--- Worked answers: some that hold, and some that don't.
+-- Worked answers: some match what the call adds, and some don't.
 use Rattle.std.proofs.Common.{◌≡◌, ◌==◌, ◌<◌, ℕ, zero, suc, Bool, true, false, List, [], ◌∷◌}
 use Rattle.std.proofs.Common.{length}
 use Rattle.std.proofs.Common.{None, Ok, Some, inl, inr, refl, ap, subst, sym, ◌∙◌, true≢false}

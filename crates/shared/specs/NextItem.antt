@@ -1,4 +1,4 @@
--- What the writer finds at the queue, and has in hand.
+-- What the writer finds at the queue, and what it has in hand afterwards.
 use Rattle.std.specs.Prelude.{◌≡◌, ◌≤◌, IsSome, None, Option, Some, false, is_some, length, true}
 use Rattle.bio.specs.Lawful.{has_no_close}
 use Rattle.pending.specs.CoreState.{items_of, next_item}
@@ -12,17 +12,18 @@ abbrev pub InHand : Next → Option Placing → Type 0
 InHand Item hand = IsSome hand
 InHand _ hand = Unit {0}
 
--- nothing more is given, and nothing changes
+-- the queue gives no item, and nothing changes
 abbrev pub GivesNone : Queue → Queue → Option Placing → Type 0
 GivesNone old new hand = (next_item old.core ≡ None) × ((new ≡ old) × (hand ≡ None))
 
--- nothing more is given, since all of the list was taken, and logging goes on
+-- the queue gives no item because all of the list was taken, and logging goes on
 abbrev pub AllTaken : Queue → Queue → Option Placing → Type 0
 AllTaken old new hand =
     (old.stop ≡ None) × ((length (items_of old.core) ≤ old.core.taken) × GivesNone old new hand)
 
--- What the writer finds with nothing in hand: the next item, which it takes; no memory to take it;
--- and if none is given, that logging stopped; that recording is closed; or nothing yet.
+-- What the writer finds if it has nothing in hand. It takes the next item, or memory to take it
+-- runs out. If the queue gives none, the writer finds that logging stopped, that recording is
+-- closed, or that it has to wait (None).
 abbrev pub FindsNext : Queue → Option Next → Queue → Option Placing → Type 0
 FindsNext old (Some Item) new hand =
     (is_some (next_item old.core) ≡ true)

@@ -1,12 +1,13 @@
--- What one who waits for an entry finds in the log.
+-- What a thread that waits for an entry finds in the log.
 use Rattle.std.specs.Prelude.{◌≡◌, ◌≤◌, Err, None, Ok, Option, Result, Some, ℕ}
 use Rattle.refusals.specs.declared.end.End.{End}
 use Rattle.lock_state.specs.History.{first_cause}
 use Rattle.lock_state.specs.PlacedItems.{IsNoneFrom, IsSettledAt, Log}
 use Rattle.lock_state.specs.Comparison.{Receipt}
 
--- An item of this id that is settled at this number or a later one; if there is none the store's
--- end, or else the cause by which those who wait were let go; and nothing if logging goes on.
+-- A receipt if a settled item from number `from` on has this id. If there is none, the cause of the
+-- store's end, or else the cause by which the waiting threads were released. None if logging goes
+-- on.
 abbrev pub Finds : Log → ℕ → ℕ → Option (Result Receipt End) → Type 0
 Finds log id from (Some (Ok receipt)) =
     (receipt.id ≡ id) × ((from ≤ receipt.number) × IsSettledAt log id receipt.number)

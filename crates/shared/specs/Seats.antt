@@ -1,11 +1,11 @@
--- The seats that a recorder begins with.
+-- The seats of a new recorder.
 use Rattle.std.specs.Prelude.{◌≡◌, ℕ, List, [], ◌∷◌, length, slice_get, Some}
 use Rattle.std.specs.List.{AllByRecursion}
 use Rattle.bio.specs.declared.outcome.Status.{Status}
 use Rattle.board.specs.Posts.{opening}
 use Rattle.lock_state.specs.History.{Part, new_part}
 
--- There are `many` of them, with the numbers from 0 on, and none has had a call.
+-- There are `many` seats, numbered from 0, and none has made a call.
 pub record AreNewSeats (many : ℕ) (seats : List Part) : Type 0 where
   pub count : length seats ≡ many
   pub each : (number : ℕ) (seat : Part) → slice_get seats number ≡ Some seat → seat

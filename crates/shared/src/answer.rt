@@ -1,32 +1,32 @@
-// What the calls of a seat answer.
+// The answers to the calls of a seat.
 use bio::{BadBio, DevError, End};
 use refusals::Refusal;
 use thiserror::Error;
 
-/// What became of a request. `C` is the `Receipt` of its recorder.
+/// The answer to a request. `C` is the `Receipt` of its recorder.
 #[derive(Debug, Drop)]
 pub enum Answer<C> {
     /// It succeeded.
     Done,
     /// A read: the bytes of its sectors.
     Read(Vec<u8>),
-    /// A write with FUA: it succeeded, and the receipt is of its entry. A close that is passed the
-    /// receipt finds that the entry is in each log that a crash leaves.
+    /// A write with FUA: it succeeded, and this is the receipt of its entry. A close to which the
+    /// receipt is passed finds that the entry is in each log that a crash leaves.
     Logged(C),
-    /// The device failed it, or there was no memory.
+    /// The device failed it, or memory ran out.
     Failed(DevError),
     /// A write with FUA: it succeeded, and logging ended by this cause before its entry was
     /// durable. The entry may be in the log.
     NotLogged(End),
-    /// It may not be sent to the device: nothing was recorded, and the device wasn't called.
+    /// It may not be sent to the device. Nothing was recorded, and the device wasn't called.
     Refused(BadBio),
 }
 
-/// What became of a mark. `C` is the `Receipt` of its recorder.
+/// The answer to a mark. `C` is the `Receipt` of its recorder.
 #[derive(Debug, Drop)]
 pub enum MarkAnswer<C> {
-    /// The receipt is of its entry. A close that is passed the receipt finds that the entry is in
-    /// each log that a crash leaves.
+    /// This is the receipt of its entry. A close to which the receipt is passed finds that the
+    /// entry is in each log that a crash leaves.
     Logged(C),
     /// Logging ended by this cause before its entry was durable. The entry may be in the log.
     NotLogged(End),
@@ -40,7 +40,7 @@ pub enum MarkRefusal {
     /// Its text has a zero byte.
     #[error("a zero byte in a mark's text")]
     BadText,
-    /// There was no memory.
+    /// Memory ran out.
     #[error("no memory")]
     Memory,
     /// Recording was closed, and no Stop had ended it before.

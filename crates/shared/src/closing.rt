@@ -1,4 +1,4 @@
-// The close of a recorder: what it compares, and what it hands back.
+// The close of a recorder: what it compares, and what it returns.
 ghost use Rattle.std.specs.Prelude.{◌≡◌, ◌<◌, ◌≤◌, List, [], length, IfErr, IfOk};
 ghost use Rattle.std.specs.Prelude.{MatchBool, None, Some, is_some, true, false};
 ghost use Rattle.bio.specs.Lawful.{has_no_close};
@@ -39,10 +39,10 @@ pub struct Closed<D: Drop, L: Drop> {
     pub device: D,
     /// The log's device.
     pub log: L,
-    /// How far the log came.
+    /// How far the log has come.
     pub status: Status,
-    /// Why logging ended: the cause of the first Stop, else that of the
-    /// log itself. If it is None, a close that is Ok has written all.
+    /// Why logging ended: the cause of the first Stop, or else of the log's end. If it is None, a
+    /// close that is Ok has written all.
     pub end: Option<End>,
     /// The core, with the history (`Core::events`).
     pub core: Core,
@@ -50,35 +50,35 @@ pub struct Closed<D: Drop, L: Drop> {
     pub by: Vec<Option<u64>>,
     /// The first hazard, if there is one.
     pub hazard: Option<Hazard>,
-    /// The requests that were passed to the recorded
-    /// device, in order, also those that aren't recorded.
+    /// The requests that were passed to the recorded device, in order, including those that weren't
+    /// recorded.
     pub done: Vec<Done>,
     /// The items that were placed in the log, in order.
     pub placed: Vec<Item>,
-    /// How many of them are settled.
+    /// The number of settled items.
     pub settled: u64,
-    /// How many items were taken to be placed.
+    /// The number of items that were taken to be placed.
     pub taken: u64,
-    /// The cause of the first Stop, also of one after the Close.
+    /// The cause of the first Stop, even of one after the Close.
     pub stop: Option<End>,
-    /// Why the log itself ended.
+    /// Why the store ended.
     pub store_end: Option<End>,
 }
 
-/// What a close hands back: the recorder, taken apart, and what was posted of its log.
+/// What a close returns: the recorder, taken apart, and what was posted about its log.
 #[derive(Drop)]
 pub struct Ending<D: Drop, L: Drop, R: Run + Names> {
     pub closed: Closed<D, L>,
     pub posts: Posts<R>,
-    /// Why those who waited for the log were let go, if they were.
+    /// Why the waiting threads were released, if they were.
     pub released: Option<End>,
-    /// How many items the writer had placed. The close placed the others.
+    /// The number of items that the writer had placed. The close placed the others.
     pub written: u64,
     /// Why logging had ended before the close wrote, if it had.
     pub found: Option<End>,
 }
 
-/// What is returned if recording wasn't closed: all that was passed in.
+/// What a close returns if recording wasn't closed: all that was passed in.
 #[derive(Drop)]
 pub struct Open<D: BlockDev + Drop, L: BlockDev + Drop, R: Run + Names> {
     pub recorder: Shared<D, L, R>,
@@ -87,13 +87,13 @@ pub struct Open<D: BlockDev + Drop, L: BlockDev + Drop, R: Run + Names> {
     pub receipts: Vec<Receipt<R>>,
 }
 
-/// What is returned if what was passed in isn't the recorder's own: the recorder, taken apart,
-/// with nothing more written, what was posted about its log, and all that was passed in.
+/// What a close returns if what was passed in isn't the recorder's. It has the recorder, taken
+/// apart, with nothing more written, what was posted about its log, and all that was passed in.
 #[derive(Drop)]
 pub struct Strangers<D: Drop, L: Drop, R: Run + Names> {
     pub closed: Closed<D, L>,
     pub posts: Posts<R>,
-    /// Why those who waited for the log were let go, if they were.
+    /// Why the waiting threads were released, if they were.
     pub released: Option<End>,
     pub seats: Vec<Seat<R>>,
     pub writer: WriterSeat<R>,
@@ -105,15 +105,14 @@ pub struct Strangers<D: Drop, L: Drop, R: Run + Names> {
 pub enum Unclosed<B, F> {
     /// `ask_close` hasn't succeeded.
     Busy(B),
-    /// A seat, a receipt, the placed items or the device's
-    /// calls aren't what the history has of them.
+    /// A seat, a receipt, the placed items or the device's calls don't match the history.
     Foreign(F),
 }
 
 impl<D: BlockDev + Drop, L: BlockDev + Drop, R: Run + Names> Shared<D, L, R> {
-    /// Closes the recorder, once `ask_close` has succeeded and all threads have left it. Compares
-    /// all that is passed in, and the placed items and the device's calls, with the history; then
-    /// writes what the writer left.
+    /// Closes the recorder, after `ask_close` has succeeded and all threads have left it. Compares
+    /// all that is passed in, the placed items and the device's calls with the history. Then writes
+    /// what the writer left.
     pub fn close(
         self,
         seats: Vec<Seat<R>>,
@@ -293,7 +292,7 @@ impl<D: BlockDev + Drop, L: BlockDev + Drop, R: Run + Names> Shared<D, L, R> {
         }))
     }
 
-    // What the locks guard, if recording was closed; else the recorder again.
+    // Returns what the locks guard if recording was closed, or else the recorder.
     fn leave_locks(self) -> Result<Held<D, L, R>, Shared<D, L, R>>
         ensures posted { IfOk result (λ held. ArePosted R.sector_bytes held.log.placed held.posts) }
         ensures latest { IfOk result (λ held. IsLatest R.sector_bytes held.log held.posts) }
@@ -348,8 +347,8 @@ struct Held<D: BlockDev + Drop, L: BlockDev + Drop, R: Run + Names> {
     device: DataState<D, R>,
 }
 
-// Whether all agrees with the history. There is to be a
-// note for each event; what the notes were doesn't matter.
+// Returns whether all agrees with the history. The caller passes a note for each event; the values
+// of the notes don't matter.
 fn agree<D: BlockDev + Drop, L: BlockDev + Drop, R: Run>(
     queue: &QueueState<R>,
     log: &LogState<L, R>,
@@ -383,7 +382,7 @@ fn agree<D: BlockDev + Drop, L: BlockDev + Drop, R: Run>(
     queue.is_served(device.done(), notes)
 }
 
-// Writes what the writer left, and takes all apart.
+// Writes what the writer left, and takes the recorder apart.
 fn finish<D: BlockDev + Drop, L: BlockDev + Drop, R: Run>(
     queue: QueueState<R>,
     log: LogState<L, R>,
@@ -432,14 +431,14 @@ fn finish<D: BlockDev + Drop, L: BlockDev + Drop, R: Run>(
     take_apart(queue, log, device)
 }
 
-// The cause of the first Stop, else that of the log itself.
+// Returns the cause of the first Stop, or else of the log's end.
 fn first_of(stop: Option<End>, end: Option<End>) -> Option<End>
     ensures { result ≡ first_cause stop end }
 {
     stop.or(end)
 }
 
-// What the locks guarded, part by part.
+// Takes apart what the locks guarded.
 fn take_apart<D: BlockDev + Drop, L: BlockDev + Drop, R: Run>(
     queue: QueueState<R>,
     log: LogState<L, R>,

@@ -1,10 +1,10 @@
-//! The recorder, shared by threads: each has a seat of its own, and one thread writes the log.
+//! A recorder that threads share: each thread has a seat, and one thread writes the log.
 //!
 //! Three locks guard three values of `lock_state`: the queue with the history; the log, with the
-//! writer's seat at the board; and the recorded device. No lock is taken while another is held, so
-//! the queue's isn't held while a device is called. A call's contract says what the call adds to
-//! its seat's list, and which answer goes with that. No contract says which lock is taken when, or
-//! that a thread runs or is woken.
+//! writer's seat at the board; and the recorded device. No thread takes a lock while it holds
+//! another. So no thread holds the queue's lock while it calls a device. A call's contract says
+//! what the call adds to its seat's list, for each answer. No contract says which lock is taken
+//! when, or that a thread runs or is woken.
 #![tactic(auto)]
 
 pub use answer::{Answer, MarkAnswer, MarkRefusal};

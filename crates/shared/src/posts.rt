@@ -1,4 +1,4 @@
-// What a close hands back of the board.
+// The board that a close returns.
 ghost use Rattle.std.specs.Prelude.{◌≡◌, ℕ, List};
 ghost use Rattle.board.specs.Posts.{Begins, last_of};
 ghost use Rattle.lock_state.specs.declared.note.Item.{Item as Placing};
@@ -8,8 +8,8 @@ use bio::Status;
 use board::{Board, Names, StatusSeat};
 use std::marker::Model;
 
-/// The board of a recorder that was closed, with the seat of its one writer. Contracts see it as
-/// the statuses that were posted, in order.
+/// The board of a recorder that was closed, with the seat of its one writer. Contracts see the
+/// statuses that were posted, in order.
 #[derive(Drop)]
 pub struct Posts<R: Names> {
     board: Board<R>,
@@ -26,22 +26,23 @@ impl<R: Names> Model for Posts<R> {
 }
 
 impl<R: Names> Posts<R> {
-    // The board and its writer's seat.
+    // Returns the board and its writer's seat as one value.
     pub(crate) fn new(board: Board<R>, writer: board::WriterSeat<R>) -> Posts<R>
         ensures { result ≡ writer }
     {
         Posts { board, writer }
     }
 
-    /// The status that was posted last.
+    /// Returns the status that was posted last.
     pub fn last(&self) -> Status
         ensures { result ≡ last_of self.now }
     {
         self.writer.last()
     }
 
-    /// What a status seat has seen is a prefix of what was posted. So if each posted status is that
-    /// of a prefix of some items, and none goes back, so is each that was seen.
+    /// Proves that what a status seat has seen is a prefix of what was posted. So if the posted
+    /// statuses are those of prefixes of some items, and none goes back, the same holds for those
+    /// that were seen.
     pub fn agree(&mut self, mine: &mut StatusSeat<R>)
         ensures begins { Begins mine.old self.old }
         ensures seen { (bytes : ℕ) (placed : List Placing) → ArePosted bytes placed self.old

@@ -1,9 +1,9 @@
-// What the writer has of the recorder for itself. A submitter's seat is `lock_state`'s, and that of
-// a thread that looks at the status `board`'s.
+// The writer's seat. A submitter's seat is in `lock_state`, and the seat of a thread that looks at
+// the status is in `board`.
 use lock_state::{Run, StopPart, WriterPart};
 
-/// The seat of the one thread that writes the log: the item that it has in hand, and its part of
-/// the first stop.
+/// The seat of the one thread that writes the log: the item that it has in hand, and its right to
+/// be shown the first stop.
 #[derive(Drop)]
 pub struct WriterSeat<R: Run> {
     pub(crate) part: WriterPart<R>,

@@ -1,13 +1,14 @@
-// What a recorder is begun with, before it has a name.
+// What a new recorder is made of, before it has a name.
 ghost use Rattle.std.specs.Prelude.{◌≡◌, ◌<◌, ◌≤◌, IfOk};
 
 use lock_state::Fresh;
 use std::alloc::{AllocError, Global};
 use std::sync::ledger::Blank;
 
-/// The ledger of a recorder's seats, three tables and the board of its status. On one table the
-/// queue and the seats agree, on one the queue and the log about the first stop, and on one about
-/// the log's end. They name the recorder: a seat of another one has another type.
+/// The ledger of a recorder's seats, three tables, and the board of its status. On the first table
+/// the queue and the seats agree. On the second the queue and the log agree about the first stop,
+/// and on the third about the log's end. They name the recorder: a seat of another recorder has
+/// another type.
 #[derive(Drop)]
 pub struct Unnamed {
     /// The ledger, which has a part for each seat.
@@ -23,7 +24,8 @@ pub struct Unnamed {
 }
 
 impl Unnamed {
-    /// Those of a recorder with this count of seats, 1 to 64. `Err` if there is no memory.
+    /// Returns these for a recorder with this number of seats, 1 to 64, or `Err` if memory runs
+    /// out.
     pub fn new(alloc: Global, seats: u64) -> Result<Unnamed, AllocError>
         requires { (0 < seats) × (seats ≤ 64) }
         ensures { IfOk result (λ unnamed. unnamed.ledger.parts ≡ seats) }

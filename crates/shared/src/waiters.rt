@@ -1,20 +1,20 @@
-// Those who wait until their entry is durable. Nothing is claimed of waking.
+// The threads that wait until their entry is durable. No contract says that they are woken.
 ghost use Rattle.std.specs.Prelude.{◌<◌};
 
 use bio::Id;
 use std::array::from_fn;
 use std::sync::{Condvar, MutexGuard, Wait};
 
-// How many condition variables there are. No recorder has more seats.
+// The number of condition variables. No recorder has more seats.
 const ROWS: usize = 64;
 
-// A row of condition variables for the log's lock: a thread that waits for the entry of an id waits
+// A row of condition variables for the log's lock. A thread that waits for the entry of an id waits
 // at variable id modulo 64, so a settle wakes another seat only by chance.
 //
-// No wake-up is lost. What a waiter looks for changes only under the log's lock, which it holds
-// from its look until it waits, and whoever changed it wakes it afterwards. Threads wait only for
-// writes with FUA and marks, and each is settled as it is placed: a settle is news only for the id
-// in hand, and an end for all.
+// No wake-up is lost. What a thread waits for changes only under the log's lock, which it holds
+// from its look until it waits; and whoever changed it wakes the thread afterwards. Threads wait
+// only for writes with FUA and marks, and each is settled when it is placed. So a settle concerns
+// only the id in hand, and an end concerns all.
 #[derive(Drop)]
 pub(crate) struct Waiters {
     row: [Condvar; ROWS],
@@ -27,7 +27,8 @@ impl Waiters {
         }
     }
 
-    // Gives the log's lock up, waits for the entry of this id, or for an end, and takes it again.
+    // Releases the log's lock, waits for the entry of this id or for an end, and takes the lock
+    // again.
     pub(crate) fn wait<'a, H: Wait, T>(
         &self,
         rt: &H,
@@ -37,12 +38,12 @@ impl Waiters {
         self.row[row_of(id)].wait(rt, desk)
     }
 
-    // Wakes who waits for the entry of this id.
+    // Wakes the threads that wait for the entry of this id.
     pub(crate) fn wake(&self, id: Id) {
         self.row[row_of(id)].notify_all();
     }
 
-    // Wakes all.
+    // Wakes all threads that wait.
     pub(crate) fn wake_all(&self) {
         for place in 0..ROWS {
             self.row[place].notify_all();
@@ -50,7 +51,7 @@ impl Waiters {
     }
 }
 
-// The place of an id's condition variable.
+// Returns the index of an id's condition variable.
 fn row_of(id: Id) -> usize
     ensures { result < 64 }
 {

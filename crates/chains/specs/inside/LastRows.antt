@@ -1,6 +1,6 @@
 -- How one word holds a chain's last row.
 use Rattle.std.specs.Prelude.{ℕ, ◌==◌, Option, Some, None, if◌then◌else◌}
 
--- the row of this number; the greatest number that a word holds means none
+-- the row of this number; 2^64 - 1 means none
 abbrev pub row_in : ℕ → Option ℕ
 row_in word = if word == 18446744073709551615 then None else Some word

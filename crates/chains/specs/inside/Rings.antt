@@ -4,7 +4,7 @@ use Rattle.std.specs.Prelude.{None, slice_index_or, if◌then◌else◌}
 use Rattle.std.specs.List.{sum_by}
 use Rattle.chains.specs.Edits.{chain_in}
 
--- the row to which the link of a row leads
+-- the row to which the link of `row` leads
 abbrev pub after : List ℕ → ℕ → ℕ
 after next row = slice_index_or next row 0
 
@@ -21,23 +21,22 @@ times row (other ∷ rows) = (if other == row then 1 else 0) + times row rows
 abbrev pub times_in : ℕ → List (List ℕ) → ℕ
 times_in row chains = sum_by (times row) chains
 
--- the links lead from one row over these, and the last of them is that one
+-- the links lead from `from` over exactly these rows to `to`, which is the last of them
 abbrev pub Leads : List ℕ → ℕ → List ℕ → ℕ → Type 0
 Leads next from [] to = from ≡ to
 Leads next from (row ∷ rows) to = (after next from ≡ row) × Leads next row rows to
 
--- the links lead from the last row over all rows to the last
+-- the links lead from `last` over all rows back to `last`
 pub record IsRing (next : List ℕ) (last : ℕ) (rows : List ℕ) : Type 0 where
   pub leads : Leads next last rows last
   pub some : 0 < length rows
 
--- a chain with these rows, of which this is the last, if it has rows
+-- `rows` are a chain: a ring with this last row, or empty if there is no last row
 abbrev pub IsChain : List ℕ → Option ℕ → List ℕ → Type 0
 IsChain next None rows = rows ≡ []
 IsChain next (Some last) rows = IsRing next last rows
 
--- The links hold these chains. Each row is there exactly once, in one of them or in the list of
--- loose rows.
+-- The links hold these chains. Each row is exactly once in a chain or in the list of loose rows.
 pub record Holds (next : List ℕ) (lasts : List (Option ℕ)) (loose : List ℕ)
     (chains : List (List ℕ)) : Type 0 where
   pub size : length chains ≡ length lasts

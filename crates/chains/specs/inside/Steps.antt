@@ -1,11 +1,11 @@
--- What the ways to write links ask for, and what they count.
+-- What the functions of `rings` require of the links, and how many changes they count.
 use Rattle.std.specs.Prelude.{◌≡◌, ℕ, ◌+◌, ◌<◌, ◌≤◌, List, ◌∷◌, ◌++◌, length, Option, Some}
 use Rattle.std.specs.Prelude.{vec_capacity}
 use Rattle.chains.specs.declared.links.Links.{Links}
 use Rattle.chains.specs.inside.Rings.{last_in, Holds, IsRing}
 
--- At most `most` more changes are counted. The room, the number of rows and the number of chains
--- are the same.
+-- At most `most` changes were counted. The room, the number of rows and the number of chains don't
+-- change.
 pub record Changes (old new : Links) (most : ℕ) : Type 0 where
   pub few : new.changed ≤ old.changed + most
   pub rises : old.changed ≤ new.changed
@@ -14,7 +14,7 @@ pub record Changes (old new : Links) (most : ℕ) : Type 0 where
   pub rows : length new.next.items ≡ length old.next.items
   pub chains : length new.lasts.items ≡ length old.lasts.items
 
--- the links hold chains
+-- the links hold some chains
 pub record IsKept (next : List ℕ) (lasts : List (Option ℕ)) : Type 0 where
   pub loose : List ℕ
   pub chains : List (List ℕ)
@@ -29,8 +29,8 @@ pub record IsLast (next : List ℕ) (last : ℕ) : Type 0 where
   pub holds : Holds next lasts loose chains
   pub there : last_in lasts chain ≡ Some last
 
--- The row is loose, and the chain is there. Its last row is the
--- one that is noted; another chain's may be seen elsewhere.
+-- The row is loose, and the chain exists. Its last row is the noted one; for other chains, a walk
+-- may see another last row than the noted one.
 pub record IsLoose (next : List ℕ) (noted : List (Option ℕ)) (chain row : ℕ) : Type 0 where
   pub lasts : List (Option ℕ)
   pub loose : List ℕ
@@ -40,7 +40,7 @@ pub record IsLoose (next : List ℕ) (noted : List (Option ℕ)) (chain row : �
   pub there : chain < length noted
   pub within : chain < length lasts
 
--- there are loose rows that are a ring with this last row, and the chain is there
+-- There are loose rows that are a ring with the last row `moved`, and the chain exists.
 pub record IsLooseRing (next : List ℕ) (lasts : List (Option ℕ)) (chain moved : ℕ) : Type 0 where
   pub rows : List ℕ
   pub loose : List ℕ

@@ -1,11 +1,11 @@
-// The rule over the passes of a keeper and its holders, and their steps under it.
+// The rule for the passes of a keeper and its holders, and the steps that they take under it.
 
 use atomic_table::{Join, Play, Split, Table, TableRule};
 use std::alloc::Global;
 use std::collections::LinkedList;
 
-// The knowledge of a pass: a keeper knows what all holders hold, a holder its number and what it
-// holds. No value of it is made.
+// What a pass knows. A keeper knows what all holders hold, a holder knows its number and what it
+// holds. No value of this type is made.
 pub struct Knows {
     pub keeps: bool,
     pub all: LinkedList<Option<u64>>,
@@ -29,7 +29,7 @@ impl TableRule<(), Knows, ()> for Law {
 // Its one word is the number that was begun last; nothing is read from it.
 pub type Board = Table<(), Knows, (), Law, Global>;
 
-// One more holder.
+// The keeper gets one more holder.
 pub struct Enrol;
 
 impl Play<(), Knows> for Enrol {
@@ -47,7 +47,7 @@ impl Play<(), Knows> for Begin {
     ghost then = { Begins };
 }
 
-// A holder lets go of its number.
+// A holder gives up its number.
 pub struct Finish;
 
 impl Play<(), Knows> for Finish {
@@ -65,7 +65,7 @@ impl Play<(), Knows> for Compare {
     ghost then = { Agrees };
 }
 
-// The holder's part goes from one pass to another.
+// The holder's part moves from one pass to another.
 pub struct Part;
 
 impl Split<Knows> for Part {

@@ -39,7 +39,7 @@ use Rattle.shared.specs.Close.{Agrees, Differs, IsReceipt, LeavesLog}
 use Rattle.shared.specs.declared.answer.Answer.{Answer}
 use Rattle.shared.specs.declared.answer.MarkAnswer.{MarkAnswer}
 use Rattle.shared.specs.declared.closing.Closed.{Closed}
-use Rattle.table_line.specs.LayerOrder.{some_drops}
+use Rattle.layer_table.specs.LayerOrder.{some_drops}
 
 -- a seat made a call, which came to this: the recorder answered
 -- it so, and the seat's list has what goes with that answer

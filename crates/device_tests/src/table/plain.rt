@@ -2,7 +2,7 @@
 use crate::calls::Call;
 use bio::Ms;
 use fault_layers::{Kind, Verdict};
-use table_line::{Feature, LayerSpec, Target};
+use layer_table::{Feature, LayerSpec, Target};
 
 // A layer: what its line asks for, its load time, and counts of calls: those that it passed and a
 // fuse counts, and those that it failed or dropped.

@@ -1,8 +1,8 @@
 //! Tests of stacks of layers, which are made from their table lines.
 ghost use Rattle.std.specs.Prelude.{◌≡◌};
 ghost use Rattle.std.specs.List.{AllByRecursion};
-ghost use Rattle.table_line.specs.declared.layer_spec.Target.TheVariants.{Linear};
-ghost use Rattle.table_line.specs.Ranges.{IsLayerSpec};
+ghost use Rattle.layer_table.specs.declared.layer_spec.Target.TheVariants.{Linear};
+ghost use Rattle.layer_table.specs.Ranges.{IsLayerSpec};
 
 use crate::calls::{Call, ask, asked};
 use bio::Ms;
@@ -16,7 +16,7 @@ use std::alloc::Global;
 use std::io::Print;
 use std::process::Abort;
 use std::test::Fail;
-use table_line::{LayerSpec, Target, parse_line};
+use layer_table::{LayerSpec, Target, parse_line};
 use test_devices::is_same;
 
 mod plain;

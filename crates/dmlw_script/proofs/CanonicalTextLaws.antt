@@ -44,15 +44,15 @@ use Rattle.dmlw_script.specs.Plans.{IsName, IsWellFormed, IsPlan, ScriptValue, W
 use Rattle.dmlw_script.specs.CanonicalText.{line_text, canonical_text}
 use Rattle.dmlw_script.specs.Words.{byte_text, hex_digit}
 use Rattle.refusals.specs.Words.{before_byte, IsNumber}
-use Rattle.table_line.specs.LineLaws.{printed_again}
-use Rattle.table_line.specs.Ranges.{IsLayerSpec, IsTargetInRange}
-use Rattle.table_line.specs.Texts as table_texts
-use Rattle.table_line.specs.Texts.{feature_words, set_words, target_words}
-use Rattle.table_line.specs.declared.feature.Feature.{Feature}
-use Rattle.table_line.specs.declared.feature.Feature.TheVariants as features
-use Rattle.table_line.specs.declared.layer_spec.LayerSpec.{LayerSpec}
-use Rattle.table_line.specs.declared.layer_spec.Target.{Target}
-use Rattle.table_line.specs.declared.layer_spec.Target.TheVariants as targets
+use Rattle.layer_table.specs.LineLaws.{printed_again}
+use Rattle.layer_table.specs.Ranges.{IsLayerSpec, IsTargetInRange}
+use Rattle.layer_table.specs.Texts as table_texts
+use Rattle.layer_table.specs.Texts.{feature_words, set_words, target_words}
+use Rattle.fault_layers.specs.declared.feature.Feature.{Feature}
+use Rattle.fault_layers.specs.declared.feature.Feature.TheVariants as features
+use Rattle.layer_table.specs.declared.layer_spec.LayerSpec.{LayerSpec}
+use Rattle.layer_table.specs.declared.layer_spec.Target.{Target}
+use Rattle.layer_table.specs.declared.layer_spec.Target.TheVariants as targets
 use Rattle.dmlw_script.proofs.DiskLaws.{disk_small, layer_specs, top_small}
 use Rattle.dmlw_script.proofs.FoldLaws.{all_append, all_map, barred_ok, tells_said, Tells}
 use Rattle.dmlw_script.proofs.BodyLaws.{count_after_command-is, submissions-cons}

@@ -5,10 +5,10 @@ use Rattle.std.specs.Prelude.{nat_le, slice_get}
 use Rattle.std.specs.List.{AllByRecursion}
 use Rattle.std.proofs.lemmas.Bool.{and_parts, leb-true}
 use Rattle.std.proofs.lemmas.List.{length-append}
-use Rattle.table_line.specs.declared.layer_spec.LayerSpec.{LayerSpec}
-use Rattle.table_line.specs.Ranges.{IsLayerSpec}
+use Rattle.layer_table.specs.declared.layer_spec.LayerSpec.{LayerSpec}
+use Rattle.layer_table.specs.Ranges.{IsLayerSpec}
 use Rattle.dmlw_script.specs.Plans.{is_disk_size, is_within, top_of, Disk, IsDisk}
-use Rattle.table_line.specs.LayerOrder.{top_sectors, IsAllowed}
+use Rattle.layer_table.specs.LayerOrder.{top_sectors, IsAllowed}
 use Rattle.dmlw_script.specs.FirstFault.{bare, with_layer}
 
 -- the last layer is on top

@@ -2,10 +2,10 @@
 use Rattle.std.proofs.Common.{◌≡◌, ℕ, Bool, true, false, None, Some, List, [], ◌∷◌, Err, Ok}
 use Rattle.std.proofs.Common.{replicate, refl, arith}
 use Rattle.std.specs.Prelude.{◌/◌, ◌≤◌, ◌++◌, codes, decimal}
-use Rattle.table_line.specs.Ranges.{IsLayerSpec}
-use Rattle.table_line.specs.declared.layer_spec.LayerSpec.{LayerSpec}
-use Rattle.table_line.specs.declared.layer_spec.Target.TheVariants as targets
-use Rattle.table_line.specs.declared.table_error.TableError.TheVariants as table_errors
+use Rattle.layer_table.specs.Ranges.{IsLayerSpec}
+use Rattle.layer_table.specs.declared.layer_spec.LayerSpec.{LayerSpec}
+use Rattle.layer_table.specs.declared.layer_spec.Target.TheVariants as targets
+use Rattle.layer_table.specs.declared.table_error.TableError.TheVariants as table_errors
 use Rattle.bio.specs.Sizes.{bytes_of}
 use Rattle.bio.specs.declared.request.BadBio.TheVariants.{PastEnd, Unaligned}
 use Rattle.refusals.specs.declared.refusal.Refusal.TheVariants.{BadLine, BadNumber, OutOfRange}
@@ -21,7 +21,7 @@ use Rattle.dmlw_script.specs.CanonicalText.{line_text, step_text}
 use Rattle.dmlw_script.specs.Plans.{head_count, is_log_disk_size, is_within, layer_line}
 use Rattle.dmlw_script.specs.Plans.{lines_of_script, time_after, range_test, top_of, Disk}
 use Rattle.dmlw_script.specs.Plans.{IsInTime, IsPlan, ScriptValue}
-use Rattle.table_line.specs.LayerOrder.{IsAllowed}
+use Rattle.layer_table.specs.LayerOrder.{IsAllowed}
 use Rattle.dmlw_script.specs.FirstFault.{bare, data_due, head_refusal, in_body, in_head}
 use Rattle.dmlw_script.specs.FirstFault.{prefix_after, MayFollowInScript}
 use Rattle.dmlw_script.specs.Grammar.{spaced}

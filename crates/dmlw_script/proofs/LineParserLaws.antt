@@ -46,9 +46,9 @@ use Rattle.dmlw_script.specs.inside.LineParser.{write_of, write_words}
 use Rattle.dmlw_script.specs.Options.{option_text, option_word, option_words, options_text}
 use Rattle.dmlw_script.specs.Words.{byte_from, byte_of, byte_text, half_of, hex_digit}
 use Rattle.dmlw_script.proofs.PickLaws.{split_first}
-use Rattle.table_line.specs.declared.layer_spec.LayerSpec.{LayerSpec}
-use Rattle.table_line.specs.declared.table_error.TableError.{TableError}
-use Rattle.table_line.specs.TableLines.{line_answer}
+use Rattle.layer_table.specs.declared.layer_spec.LayerSpec.{LayerSpec}
+use Rattle.layer_table.specs.declared.table_error.TableError.{TableError}
+use Rattle.layer_table.specs.TableLines.{line_answer}
 use Rattle.refusals.specs.Words.{after_byte, before_byte, is_number, number_of, words_of}
 use Rattle.refusals.specs.Words.{IsNumber}
 

@@ -8,7 +8,7 @@ use Rattle.dmlw_script.specs.Plans.{data_line, layer_line, log_line, Disk}
 use Rattle.dmlw_script.specs.RunPlans.{data_layer, log_layer, run_head, RunPlan}
 use Rattle.dmlw_script.specs.RunText.{ended_run_line, seats_line}
 use Rattle.dmlw_script.specs.declared.disk_name.DiskName.TheVariants as disks
-use Rattle.table_line.specs.declared.layer_spec.LayerSpec.{LayerSpec}
+use Rattle.layer_table.specs.declared.layer_spec.LayerSpec.{LayerSpec}
 
 -- layers are spelled as in a recorder's script
 data_layers_spelled : (layers : List LayerSpec)

@@ -16,9 +16,9 @@ use Rattle.dmlw_script.specs.Ids.{letters_of}
 use Rattle.dmlw_script.specs.Options.{option_words}
 use Rattle.dmlw_script.specs.Plans.{lines_of_script, ScriptValue}
 use Rattle.dmlw_script.specs.Words.{byte_text}
-use Rattle.table_line.specs.Texts as table_texts
-use Rattle.table_line.specs.declared.layer_spec.LayerSpec.{LayerSpec}
-use Rattle.table_line.specs.declared.table_error.TableError.{TableError}
+use Rattle.layer_table.specs.Texts as table_texts
+use Rattle.layer_table.specs.declared.layer_spec.LayerSpec.{LayerSpec}
+use Rattle.layer_table.specs.declared.table_error.TableError.{TableError}
 
 -- the line of a submission, with no leading zeroes
 abbrev pub submission_text : ScriptId → Submission → List ℕ

@@ -21,8 +21,8 @@ use Rattle.dmlw_script.specs.Ids.{same_name}
 use Rattle.dmlw_script.specs.Plans.{disk_of, is_disk_size, is_ended, is_log_disk_size, is_within}
 use Rattle.dmlw_script.specs.Plans.{least_sectors, time_at_step, request_of, step_answer}
 use Rattle.dmlw_script.specs.Plans.{submission_answer, top_of, Disk, IsInTime, ScriptValue}
-use Rattle.table_line.specs.declared.layer_spec.LayerSpec.{LayerSpec}
-use Rattle.table_line.specs.TableLines.{table_refusal}
+use Rattle.layer_table.specs.declared.layer_spec.LayerSpec.{LayerSpec}
+use Rattle.layer_table.specs.TableLines.{table_refusal}
 
 -- these lines and some lines after them are a script
 pub record BeginsScript (lines : List (List ℕ)) : Type 0 where

@@ -20,9 +20,9 @@ use Rattle.dmlw_script.specs.Options.{option_words}
 use Rattle.dmlw_script.specs.Plans.{head_count, lines_after_head, lines_of_script, IsPlan}
 use Rattle.dmlw_script.specs.Plans.{ScriptValue}
 use Rattle.dmlw_script.specs.Words.{byte_text}
-use Rattle.table_line.specs.declared.layer_spec.LayerSpec.{LayerSpec}
-use Rattle.table_line.specs.declared.table_error.TableError.{TableError}
-use Rattle.table_line.specs.TableLines.{line_answer}
+use Rattle.layer_table.specs.declared.layer_spec.LayerSpec.{LayerSpec}
+use Rattle.layer_table.specs.declared.table_error.TableError.{TableError}
+use Rattle.layer_table.specs.TableLines.{line_answer}
 use Rattle.refusals.specs.Words.{words_of, IsNumber}
 
 -- the word is the id with this name

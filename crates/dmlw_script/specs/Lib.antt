@@ -1,10 +1,10 @@
 -- The definitions that the contracts of `dmlw_script` are written in.
 pub use Rattle.bio.specs.Refusals
 pub use Rattle.bio.specs.Sizes
-pub use Rattle.table_line.specs.Ranges
-pub use Rattle.table_line.specs.LayerOrder
-pub use Rattle.table_line.specs.TableLines
-pub use Rattle.table_line.specs.Texts as TableTexts
+pub use Rattle.layer_table.specs.Ranges
+pub use Rattle.layer_table.specs.LayerOrder
+pub use Rattle.layer_table.specs.TableLines
+pub use Rattle.layer_table.specs.Texts as TableTexts
 pub mod Words
 pub mod Ids
 pub mod Lines

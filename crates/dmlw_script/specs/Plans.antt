@@ -24,8 +24,8 @@ use Rattle.dmlw_script.specs.declared.line.BodyLine.{BodyLine}
 use Rattle.dmlw_script.specs.declared.line.BodyLine.TheVariants as body_lines
 use Rattle.dmlw_script.specs.Ids.{is_id, script_id, same_name}
 use Rattle.dmlw_script.specs.Lines.{is_line_text}
-use Rattle.table_line.specs.LayerOrder.{top_sectors, IsAllowed}
-use Rattle.table_line.specs.declared.layer_spec.LayerSpec.{LayerSpec}
+use Rattle.layer_table.specs.LayerOrder.{top_sectors, IsAllowed}
+use Rattle.layer_table.specs.declared.layer_spec.LayerSpec.{LayerSpec}
 
 -- a disk of a script: its sectors, and the layers over it, from the lowest up
 pub record Disk : Type 0 where

@@ -18,7 +18,7 @@ use Rattle.dmlw_script.specs.RunGrammar.{AreRunLines, MeansLine}
 use Rattle.dmlw_script.specs.RunPlans.{call_answer, RunPlan}
 use Rattle.dmlw_script.specs.declared.run_line.RunLine.{RunLine}
 use Rattle.dmlw_script.specs.declared.run_line.RunLine.TheVariants as run_lines
-use Rattle.table_line.specs.TableLines.{table_refusal}
+use Rattle.layer_table.specs.TableLines.{table_refusal}
 
 -- these lines and some lines after them are a run's script
 pub record BeginsRun (lines : List (List ℕ)) : Type 0 where

@@ -5,7 +5,7 @@ ghost use Rattle.dmlw_script.specs.FirstFault.{bare, with_layer};
 
 use std::alloc::{AllocError, Global};
 use std::marker::Model;
-use table_line::LayerSpec;
+use layer_table::LayerSpec;
 
 /// A disk of a script: its sectors of 512 bytes, and the layers over it, from the lowest up.
 /// Contracts see it as a `Disk` (`specs/Plans`).

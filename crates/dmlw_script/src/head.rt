@@ -15,7 +15,7 @@ use crate::line_error::LineError;
 use bio::{MAX_DEVICE_SECTORS, SectorSize};
 use refusals::Refusal;
 use std::alloc::Global;
-use table_line::{LayerSpec, TableError};
+use layer_table::{LayerSpec, TableError};
 
 // The maximum number of layers over one disk.
 const MAX_LAYERS: usize = 4;

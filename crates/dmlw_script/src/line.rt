@@ -22,7 +22,7 @@ use crate::script_id::ScriptId;
 use crate::values::byte_of;
 use bio::{Ms, SectorSize};
 use refusals::{cut, number_of};
-use table_line::{LayerSpec, TableError, parse_line};
+use layer_table::{LayerSpec, TableError, parse_line};
 
 /// The meaning of a line that is no crash.
 #[derive(Drop)]

@@ -3,12 +3,12 @@ ghost use Rattle.std.specs.Prelude.{◌≡◌};
 ghost use Rattle.dmlw_script.specs.declared.line_error.LineError.TheVariants.{Memory};
 ghost use Rattle.dmlw_script.specs.declared.line_error.LineError.TheVariants as line_errors;
 ghost use Rattle.bio.specs.Refusals.{bad_bio_refusal};
-ghost use Rattle.table_line.specs.TableLines.{table_refusal};
+ghost use Rattle.layer_table.specs.TableLines.{table_refusal};
 
 use bio::BadBio;
 use refusals::Refusal;
 use std::alloc::{AllocError, AllocFailed};
-use table_line::TableError;
+use layer_table::TableError;
 
 /// Why reading ends at a line.
 #[derive(Clone, Copy)]

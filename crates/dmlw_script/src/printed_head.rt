@@ -9,7 +9,7 @@ use crate::disk_name::DiskName;
 use crate::parts::push_value;
 use bio::SectorSize;
 use std::alloc::AllocError;
-use table_line::{LayerSpec, push_line};
+use layer_table::{LayerSpec, push_line};
 
 // Appends the lines of a script's head.
 pub(crate) fn push_head(

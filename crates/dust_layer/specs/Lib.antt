@@ -3,7 +3,6 @@ pub use Rattle.blockdev.specs.Calls
 pub use Rattle.blockdev.specs.Law
 pub use Rattle.blockdev.specs.Messages
 pub use Rattle.blockdev.specs.View
-pub use Rattle.table_line.specs.Ranges
 pub mod BadBlocks
 pub mod Change
 pub mod Walk

@@ -1,8 +1,7 @@
 //! The layer with bad blocks, as Linux's dm-dust has them: `Dust`, a block device over another one.
 //! In bypass it passes every call. In the other mode reads, writes and discards go block by block.
 ghost use Rattle.std.proofs.Props.{props};
-ghost use Rattle.table_line.specs.Ranges.{IsBlockSize};
-ghost use Rattle.dust_layer.specs.Sizes.{IsBlock};
+ghost use Rattle.dust_layer.specs.Sizes.{IsBlock, IsBlockSize};
 
 use crate::apply::apply;
 use crate::bad_blocks::BadBlocks;

@@ -3,7 +3,7 @@ use Rattle.std.proofs.Common.{◌≡◌, ℕ, true, false, [], ◌∷◌, refl}
 use Rattle.std.specs.Prelude.{◌-◌, ◌^◌}
 use Rattle.blockdev.specs.Calls.{Discards, Flushes}
 use Rattle.bio.specs.Content.{Content, moved}
-use Rattle.table_line.specs.declared.feature.Feature.TheVariants as features
+use Rattle.fault_layers.specs.declared.feature.Feature.TheVariants as features
 use Rattle.fault_layers.specs.declared.gate.Kind.TheVariants.{Discard, Flush, Read, Write}
 use Rattle.fault_layers.specs.declared.gate.Verdict.TheVariants.{Drop, Fail, Pass}
 use Rattle.fault_layers.specs.Window.{call_from}

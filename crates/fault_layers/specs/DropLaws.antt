@@ -1,8 +1,8 @@
 -- A layer that may not drop calls drops none, and none learns to.
 use Rattle.std.proofs.Common.{◌≡◌, ℕ, Bool, zero, suc, true, false, refl}
-use Rattle.table_line.specs.declared.feature.Feature.{Feature}
-use Rattle.table_line.specs.declared.feature.Feature.TheVariants as features
-use Rattle.table_line.specs.LayerOrder.{is_drop_writes}
+use Rattle.fault_layers.specs.declared.feature.Feature.{Feature}
+use Rattle.fault_layers.specs.declared.feature.Feature.TheVariants as features
+use Rattle.fault_layers.specs.Features.{is_drop_writes}
 use Rattle.fault_layers.specs.declared.delay.DelayGate.{DelayGate}
 use Rattle.fault_layers.specs.declared.error_dev.ErrorGate.{ErrorGate}
 use Rattle.fault_layers.specs.declared.gate.Kind.{Kind}

@@ -6,7 +6,7 @@ pub use Rattle.blockdev.specs.Law
 pub use Rattle.blockdev.specs.Messages
 pub use Rattle.blockdev.specs.View
 pub use Rattle.bio.specs.Content
-pub use Rattle.table_line.specs.Ranges
+pub mod Features
 pub mod Window
 pub mod WindowLaws
 pub mod Decision

@@ -1,7 +1,7 @@
 -- No layer drops a read.
 use Rattle.std.proofs.Common.{◌≡◌, ℕ, Bool, true, false}
-use Rattle.table_line.specs.declared.feature.Feature.{Feature}
-use Rattle.table_line.specs.declared.feature.Feature.TheVariants as features
+use Rattle.fault_layers.specs.declared.feature.Feature.{Feature}
+use Rattle.fault_layers.specs.declared.feature.Feature.TheVariants as features
 use Rattle.fault_layers.specs.declared.gate.Kind.TheVariants.{Read}
 use Rattle.fault_layers.specs.declared.gate.Verdict.TheVariants.{Drop}
 use Rattle.fault_layers.specs.declared.delay.DelayGate.{DelayGate}

@@ -1,14 +1,14 @@
 //! The flakey layer: it works for some seconds and is unreliable for some, in turn.
 //! `layer_table` makes its gate of a `flakey` line.
 ghost use Rattle.fault_layers.specs.FlakeyRule.{Cycle};
-ghost use Rattle.table_line.specs.Ranges.{IsCycle};
+ghost use Rattle.fault_layers.specs.Features.{IsCycle};
 
+use crate::feature::Feature;
 use crate::gate::{Gate, Kind, Verdict};
 use crate::gated::Gated;
 use bio::Ms;
 use blockdev::BlockDev;
 use std::marker::Model;
-use table_line::Feature;
 
 /// The gate that is up for some seconds, then down for some, and so on. What it does while it is
 /// down its feature says. Contracts see its `Cycle`.
@@ -70,7 +70,7 @@ impl FlakeyGate {
 }
 
 impl Gate for FlakeyGate {
-    ghost use Rattle.table_line.specs.LayerOrder.{is_drop_writes};
+    ghost use Rattle.fault_layers.specs.Features.{is_drop_writes};
     ghost use Rattle.fault_layers.specs.DropLaws.{flakey_honest, flakey_stays};
     ghost use Rattle.fault_layers.specs.FlakeyRule.{flakey_verdict};
     ghost use Rattle.fault_layers.specs.ReadLaws.{flakey_keeps_reads};

@@ -7,15 +7,16 @@
 
 pub use delay::{Delay, DelayGate};
 pub use error_dev::{ErrorDev, ErrorGate};
+pub use feature::Feature;
 pub use flakey::{Flakey, FlakeyGate};
 pub use fuse::{Fuse, FuseGate};
 pub use gate::{Gate, Kind, Verdict};
 pub use gated::Gated;
 pub use linear::Linear;
-pub use table_line::Feature;
 
 mod delay;
 mod error_dev;
+mod feature;
 mod flakey;
 mod fuse;
 mod gate;

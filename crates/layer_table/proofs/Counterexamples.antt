@@ -6,9 +6,9 @@ use Rattle.blockdev.specs.Calls.{Flushes}
 use Rattle.blockdev.specs.View.{View}
 use Rattle.fault_layers.specs.declared.gate.Verdict.TheVariants.{Drop}
 use Rattle.bio.specs.Content.{Content}
-use Rattle.table_line.specs.declared.layer_spec.LayerSpec.{LayerSpec}
-use Rattle.table_line.specs.declared.layer_spec.Target.{Target}
-use Rattle.table_line.specs.declared.layer_spec.Target.TheVariants as targets
+use Rattle.layer_table.specs.declared.layer_spec.LayerSpec.{LayerSpec}
+use Rattle.layer_table.specs.declared.layer_spec.Target.{Target}
+use Rattle.layer_table.specs.declared.layer_spec.Target.TheVariants as targets
 use Rattle.layer_table.specs.declared.any_gate.AnyGate.TheVariants.{Open}
 use Rattle.layer_table.specs.Layers.{AreOver, Deciding, Decides, IsPartOf, IsPut, IsSeenAs, Layer}
 

@@ -4,11 +4,11 @@ use Rattle.blockdev.specs.View.{View}
 use Rattle.fault_layers.specs.declared.gate.Kind.TheVariants as kinds
 use Rattle.fault_layers.specs.declared.gate.Verdict.TheVariants as verdicts
 use Rattle.fault_layers.specs.declared.gate.Verdict.TheVariants.{Drop, Fail, Pass}
-use Rattle.table_line.specs.declared.feature.Feature.TheVariants as features
-use Rattle.table_line.specs.declared.layer_spec.Target.TheVariants as targets
-use Rattle.table_line.specs.declared.layer_spec.LayerSpec.{LayerSpec}
-use Rattle.table_line.specs.declared.layer_spec.Target.{Target}
-use Rattle.table_line.specs.LayerOrder.{some_drops}
+use Rattle.fault_layers.specs.declared.feature.Feature.TheVariants as features
+use Rattle.layer_table.specs.declared.layer_spec.Target.TheVariants as targets
+use Rattle.layer_table.specs.declared.layer_spec.LayerSpec.{LayerSpec}
+use Rattle.layer_table.specs.declared.layer_spec.Target.{Target}
+use Rattle.layer_table.specs.LayerOrder.{some_drops}
 use Rattle.layer_table.specs.declared.any_gate.AnyGate.{AnyGate}
 use Rattle.layer_table.specs.declared.any_gate.AnyGate.TheVariants.{Delay, Error, Flakey, Fuse}
 use Rattle.layer_table.specs.declared.any_gate.AnyGate.TheVariants.{Open}

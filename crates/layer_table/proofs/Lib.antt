@@ -1,5 +1,6 @@
 -- The lemmas of `layer_table`; the proof of a function stands in the folder of its source file.
 mod Examples
+mod LineExamples
 mod StackLayers
 mod LayerKept
 mod Counterexamples

@@ -7,10 +7,10 @@ use Rattle.std.proofs.lemmas.List.{append_assoc}
 use Rattle.std.specs.Prelude.{◌⊎◌, ◌||◌, Err, IfErr, IsErrAnd, Ok, Result}
 use Rattle.std.specs.List.{AllByRecursion}
 use Rattle.blockdev.specs.View.{Place}
-use Rattle.table_line.specs.declared.layer_spec.LayerSpec.{LayerSpec}
-use Rattle.table_line.specs.Ranges.{IsLayerSpec}
-use Rattle.table_line.specs.LayerOrder.{drops_writes, some_drops, top_origin, top_sectors}
-use Rattle.table_line.specs.LayerOrder.{IsAllowed}
+use Rattle.layer_table.specs.declared.layer_spec.LayerSpec.{LayerSpec}
+use Rattle.layer_table.specs.Ranges.{IsLayerSpec}
+use Rattle.layer_table.specs.LayerOrder.{drops_writes, some_drops, top_origin, top_sectors}
+use Rattle.layer_table.specs.LayerOrder.{IsAllowed}
 use Rattle.layer_table.specs.declared.stack.Stack.{Stack}
 use Rattle.layer_table.specs.Layers.{disk_of, layer_asked, layers_of, layers_under, stack_shown}
 use Rattle.layer_table.specs.Layers.{AreOver, IsPartlyUnder, IsPut, Layer}

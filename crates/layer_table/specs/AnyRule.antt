@@ -7,7 +7,7 @@ use Rattle.fault_layers.specs.DelayRule.{delay_verdict}
 use Rattle.fault_layers.specs.ErrorRule.{error_verdict}
 use Rattle.fault_layers.specs.FlakeyRule.{flakey_verdict}
 use Rattle.fault_layers.specs.FuseRule.{fuse_after, fuse_verdict}
-use Rattle.table_line.specs.LayerOrder.{is_drop_writes}
+use Rattle.fault_layers.specs.Features.{is_drop_writes}
 use Rattle.layer_table.specs.declared.any_gate.AnyGate.{AnyGate}
 use Rattle.layer_table.specs.declared.any_gate.AnyGate.TheVariants.{Delay, Error, Flakey, Fuse}
 use Rattle.layer_table.specs.declared.any_gate.AnyGate.TheVariants.{Open}

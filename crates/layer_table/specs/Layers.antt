@@ -19,10 +19,10 @@ use Rattle.fault_layers.specs.Window.{call_from, window, SeenFrom}
 use Rattle.fault_layers.specs.Decision.{kind_of, KeepsBuffer}
 use Rattle.sector_disk.specs.declared.disk.SectorDisk.{SectorDisk}
 use Rattle.sector_disk.specs.DiskView.{Does}
-use Rattle.table_line.specs.declared.layer_spec.LayerSpec.{LayerSpec}
-use Rattle.table_line.specs.LayerOrder.{drops_writes, some_drops, top_origin, top_sectors}
-use Rattle.table_line.specs.declared.layer_spec.Target.{Target}
-use Rattle.table_line.specs.declared.layer_spec.Target.TheVariants as targets
+use Rattle.layer_table.specs.declared.layer_spec.LayerSpec.{LayerSpec}
+use Rattle.layer_table.specs.LayerOrder.{drops_writes, some_drops, top_origin, top_sectors}
+use Rattle.layer_table.specs.declared.layer_spec.Target.{Target}
+use Rattle.layer_table.specs.declared.layer_spec.Target.TheVariants as targets
 use Rattle.layer_table.specs.declared.any_gate.AnyGate.{AnyGate}
 use Rattle.layer_table.specs.declared.any_gate.AnyGate.TheVariants as gates
 use Rattle.layer_table.specs.declared.levels.one.One.{One}

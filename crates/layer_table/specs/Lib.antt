@@ -11,8 +11,14 @@ pub use Rattle.dust_layer.specs.MessageRule
 pub use Rattle.fault_layers.specs.Decision
 pub use Rattle.fault_layers.specs.DelayRule
 pub use Rattle.bio.specs.Content
-pub use Rattle.table_line.specs.Ranges
-pub use Rattle.table_line.specs.LayerOrder
+pub use Rattle.dust_layer.specs.Sizes
+pub use Rattle.fault_layers.specs.Features
+pub use Rattle.refusals.specs.Words
+pub mod Ranges
+pub mod LayerOrder
+pub mod TableLines
+pub mod Texts
+pub mod LineLaws
 pub mod AnyRule
 pub mod AnyLaws
 pub mod Slots

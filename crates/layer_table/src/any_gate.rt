@@ -1,8 +1,8 @@
 //! One gate for all layers that only decide about calls: error, flakey, fuse, delay, or open. A
 //! `Slot` keeps such a layer by it, so that its type has no parameter for the gate.
+use crate::layer_spec::Target;
 use bio::Ms;
 use fault_layers::{DelayGate, ErrorGate, FlakeyGate, FuseGate, Gate, Kind, Verdict};
-use table_line::Target;
 
 /// The gate of any layer that only decides.
 #[derive(Clone, Copy, Debug, Drop, PartialEq, Eq)]
@@ -21,7 +21,7 @@ pub enum AnyGate {
 
 impl AnyGate {
     ghost use Rattle.std.specs.Prelude.{◌≡◌};
-    ghost use Rattle.table_line.specs.Ranges.{IsTargetInRange};
+    ghost use Rattle.layer_table.specs.Ranges.{IsTargetInRange};
     ghost use Rattle.layer_table.specs.Layers.{gate_asked};
 
     /// Returns the gate of a target, which is open if the target decides about no call; a flakey

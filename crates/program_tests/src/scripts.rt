@@ -5,7 +5,7 @@ use std::alloc::{AllocError, Global};
 use std::io::Print;
 use std::process::Abort;
 use std::test::Fail;
-use table_line::{TableError, parse_line};
+use layer_table::{TableError, parse_line};
 use test_devices::{is_told, rows_are_told};
 
 // Returns the result of parsing a text: the printed script, or the fault.

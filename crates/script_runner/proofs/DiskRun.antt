@@ -15,9 +15,9 @@ use Rattle.layer_table.specs.declared.stack.Stack.{Stack}
 use Rattle.layer_table.specs.Layers.{disk_of, layers_of, layers_under, stack_shown, AreOver}
 use Rattle.layer_table.specs.Layers.{IsSeenAs, Layer}
 use Rattle.layer_table.specs.StackLaws.{part_of_disk}
-use Rattle.table_line.specs.declared.layer_spec.LayerSpec.{LayerSpec}
-use Rattle.table_line.specs.Ranges.{IsLayerSpec}
-use Rattle.table_line.specs.LayerOrder.{top_origin, top_sectors, IsAllowed}
+use Rattle.layer_table.specs.declared.layer_spec.LayerSpec.{LayerSpec}
+use Rattle.layer_table.specs.Ranges.{IsLayerSpec}
+use Rattle.layer_table.specs.LayerOrder.{top_origin, top_sectors, IsAllowed}
 use Rattle.std.specs.List.{AllByRecursion}
 use Rattle.sector_disk.specs.declared.disk.SectorDisk.{SectorDisk}
 use Rattle.sector_disk.specs.CandidateLaws.{is_current}

@@ -15,7 +15,7 @@ use Rattle.log_format.specs.LogOf.{IsLogOf, status_of}
 use Rattle.layer_table.specs.declared.stack.Stack.{Stack}
 use Rattle.layer_table.specs.Layers.{disk_of, layers_of, layers_under, on_stack, stack_shown}
 use Rattle.layer_table.specs.Layers.{AreOver}
-use Rattle.table_line.specs.LayerOrder.{some_drops, top_origin}
+use Rattle.layer_table.specs.LayerOrder.{some_drops, top_origin}
 use Rattle.log_store.specs.Fields.{store_of}
 use Rattle.log_store.specs.Store.{entries_of}
 use Rattle.dmlw_script.specs.Plans.{ScriptValue}

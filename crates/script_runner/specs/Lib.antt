@@ -11,7 +11,7 @@ pub use Rattle.log_format.specs.LogOf
 pub use Rattle.layer_table.specs.Layers
 pub use Rattle.layer_table.specs.StackMessages
 pub use Rattle.blockdev.specs.Messages
-pub use Rattle.table_line.specs.LayerOrder
+pub use Rattle.layer_table.specs.LayerOrder
 pub use Rattle.pending.specs.Moments
 pub use Rattle.recorder.specs.Acknowledged
 pub use Rattle.recorder.specs.RecorderView

@@ -40,7 +40,7 @@ use Rattle.seat_runner.specs.Tallies.{joined}
 use Rattle.seat_runner.proofs.Seats.{take_next}
 use Rattle.shared.specs.Close.{LeavesLog}
 use Rattle.shared.specs.declared.closing.Closed.{Closed}
-use Rattle.table_line.specs.LayerOrder.{top_origin, top_sectors}
+use Rattle.layer_table.specs.LayerOrder.{top_origin, top_sectors}
 
 module _ {A : Type 0} where
   -- what stands in a list that is one longer

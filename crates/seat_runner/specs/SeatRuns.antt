@@ -39,7 +39,7 @@ use Rattle.shared.specs.Close.{Agrees, Differs, IsReceipt, LeavesLog}
 use Rattle.shared.specs.declared.answer.Answer.{Answer}
 use Rattle.shared.specs.declared.answer.MarkAnswer.{MarkAnswer}
 use Rattle.shared.specs.declared.closing.Closed.{Closed}
-use Rattle.table_line.specs.LayerOrder.{some_drops}
+use Rattle.layer_table.specs.LayerOrder.{some_drops}
 
 -- A seat made `call`. The recorder gave some answer, and the seat's list changed from `old` to
 -- `new` as this answer allows. `came` has the answer's outcome, and its receipt if it has one.

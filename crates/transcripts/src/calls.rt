@@ -6,7 +6,7 @@ use layer_table::Stack;
 use refusals::Refusal;
 use sector_disk::SectorDisk;
 use std::alloc::{AllocError, Global};
-use table_line::parse_line;
+use layer_table::parse_line;
 
 // The most sectors that a call may name.
 const MAX_SECTORS: u64 = 4096;

@@ -12,7 +12,7 @@ use sector_disk::SectorDisk;
 use std::alloc::{AllocError, Global};
 use std::sync::Wait;
 use std::thread::Threads;
-use table_line::{parse_line, push_line};
+use layer_table::{parse_line, push_line};
 use test_devices::{Folder, Outlet};
 
 // The number of sectors of the largest disk.

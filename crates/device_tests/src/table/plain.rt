@@ -2,7 +2,7 @@
 use crate::calls::Call;
 use bio::Ms;
 use fault_layers::{Kind, Verdict};
-use table_line::{Feature, LayerSpec, Target};
+use layer_table::{Feature, LayerSpec, Target};
 
 // A layer: its line, its load time, the number of calls that a fuse has passed, and the numbers of
 // calls that it failed and dropped.

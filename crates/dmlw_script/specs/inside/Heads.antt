@@ -5,9 +5,9 @@ use Rattle.bio.specs.Sizes.{bytes_of}
 use Rattle.bio.specs.declared.sector_size.SectorSize.{SectorSize}
 use Rattle.refusals.specs.declared.refusal.Refusal.{Refusal}
 use Rattle.refusals.specs.declared.refusal.Refusal.TheVariants.{BadLine, OutOfRange}
-use Rattle.table_line.specs.declared.layer_spec.LayerSpec.{LayerSpec}
-use Rattle.table_line.specs.declared.table_error.TableError.{TableError}
-use Rattle.table_line.specs.TableLines.{table_refusal}
+use Rattle.layer_table.specs.declared.layer_spec.LayerSpec.{LayerSpec}
+use Rattle.layer_table.specs.declared.table_error.TableError.{TableError}
+use Rattle.layer_table.specs.TableLines.{table_refusal}
 use Rattle.dmlw_script.specs.declared.disk_name.DiskName.{DiskName}
 use Rattle.dmlw_script.specs.declared.disk_name.DiskName.TheVariants as disks
 use Rattle.dmlw_script.specs.declared.head.Head.{Head}

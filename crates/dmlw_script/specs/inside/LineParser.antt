@@ -21,7 +21,7 @@ use Rattle.dmlw_script.specs.declared.command.Step.TheVariants as steps
 use Rattle.dmlw_script.specs.declared.script_id.ScriptId.{ScriptId}
 use Rattle.dmlw_script.specs.Words.{byte_of}
 use Rattle.refusals.specs.Words.{before_byte, after_byte, number_of, words_of}
-use Rattle.table_line.specs.TableLines.{line_answer}
+use Rattle.layer_table.specs.TableLines.{line_answer}
 use Rattle.dmlw_script.specs.Ids.{id_of_word}
 use Rattle.dmlw_script.specs.Lines.{is_line_text}
 use Rattle.dmlw_script.specs.declared.command.WriteOptions.{WriteOptions}

@@ -2,7 +2,7 @@
 //! `Stack` is built with it (stack/building).
 ghost use Rattle.std.specs.Prelude.{◌≡◌, ◌∷◌, List, false, true};
 ghost use Rattle.blockdev.specs.Calls.{IsRange};
-ghost use Rattle.table_line.specs.Ranges.{IsLayerSpec};
+ghost use Rattle.layer_table.specs.Ranges.{IsLayerSpec};
 ghost use Rattle.layer_table.specs.Layers.{layer_asked, layers_one, layers_three, layers_two};
 ghost use Rattle.layer_table.specs.Layers.{layers_with, IsPut, Layer};
 ghost use Rattle.layer_table.specs.Levels.{disk_one, disk_three, disk_two, shape_one, shape_three};
@@ -13,6 +13,7 @@ ghost use Rattle.layer_table.specs.ThreeLevel.{three_shown};
 ghost use Rattle.layer_table.specs.TwoLevel.{two_shown};
 
 use crate::any_gate::AnyGate;
+use crate::layer_spec::{LayerSpec, Target};
 use crate::levels::{One, Three, Two};
 use crate::slot::Slot;
 use bio::Ms;
@@ -21,7 +22,6 @@ use dust_layer::Dust;
 use fault_layers::{Gated, Linear};
 use sector_disk::SectorDisk;
 use std::alloc::Global;
-use table_line::{LayerSpec, Target};
 
 impl One {
     // Puts the layer into the slot, which is free.

@@ -5,8 +5,8 @@ ghost use Rattle.std.specs.Prelude.{OnOk, false, length, true};
 ghost use Rattle.refusals.specs.declared.refusal.Refusal.TheVariants as refusals;
 ghost use Rattle.blockdev.specs.Calls.{IsRange};
 ghost use Rattle.sector_disk.specs.DiskView.{shown_of};
-ghost use Rattle.table_line.specs.Ranges.{IsLayerSpec};
-ghost use Rattle.table_line.specs.LayerOrder.{IsAllowed};
+ghost use Rattle.layer_table.specs.Ranges.{IsLayerSpec};
+ghost use Rattle.layer_table.specs.LayerOrder.{IsAllowed};
 ghost use Rattle.std.specs.List.{AllByRecursion};
 ghost use Rattle.layer_table.specs.Layers.{disk_of, layer_asked, layers_of, layers_three};
 ghost use Rattle.layer_table.specs.Layers.{layers_under, layers_with, stack_shown, AreOver};
@@ -14,6 +14,7 @@ ghost use Rattle.layer_table.specs.Layers.{IsPartlyUnder, IsPut, IsSeenAs};
 ghost use Rattle.layer_table.specs.Levels.{disk_three, shape_of};
 ghost use Rattle.layer_table.specs.Slots.{device_of, has_layer, has_no_gap, slot_shown};
 
+use crate::layer_spec::LayerSpec;
 use crate::levels::{One, Three, Two, layer};
 use crate::slot::Slot;
 use crate::stack::Stack;
@@ -22,7 +23,6 @@ use blockdev::BlockDev;
 use refusals::Refusal;
 use sector_disk::SectorDisk;
 use std::alloc::Global;
-use table_line::LayerSpec;
 
 impl Stack {
     /// Makes a stack of the disk and no layer.

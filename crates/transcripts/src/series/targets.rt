@@ -12,7 +12,7 @@ use sector_disk::SectorDisk;
 use std::alloc::{AllocError, Global};
 use std::sync::Wait;
 use std::thread::Threads;
-use table_line::Feature;
+use fault_layers::Feature;
 
 // The device has `SECTORS` sectors of zeroes at first.
 const SECTORS: u64 = 16;

@@ -1,6 +1,6 @@
 use Rattle.std.proofs.Common.{◌≡◌, ◌-◌, length, List, Some, ap, subst, sym, ◌∙◌}
 use Rattle.std.specs.Prelude.{option_copied, slice_get}
-use Rattle.table_line.specs.declared.layer_spec.LayerSpec.{LayerSpec}
+use Rattle.layer_table.specs.declared.layer_spec.LayerSpec.{LayerSpec}
 use Rattle.dmlw_script.proofs.DiskLaws.{top_is_last}
 use Rattle.dmlw_script.proofs.disk.DiskSpec.top_sectors.Goals as goal
 

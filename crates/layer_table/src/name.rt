@@ -2,7 +2,7 @@
 //! numbers are. `parse_line` tests these before it parses a value.
 ghost use Rattle.std.specs.Prelude.{◌≡◌, nat_eq};
 ghost use Rattle.std.specs.List.{list_any};
-ghost use Rattle.table_line.specs.TableLines.{named, row};
+ghost use Rattle.layer_table.specs.TableLines.{named, row};
 
 /// The name of a target.
 #[derive(Clone, Copy, Debug, PartialEq, Eq)]

@@ -1,12 +1,11 @@
 -- Layers over a device, each over the one before it, from the lowest up.
-use Rattle.std.specs.Prelude.{ℕ, ◌+◌, ◌≤◌, Bool, true, false, List, [], ◌∷◌}
+use Rattle.std.specs.Prelude.{ℕ, ◌+◌, ◌≤◌, Bool, false, List, [], ◌∷◌}
 use Rattle.std.specs.List.{list_any}
-use Rattle.table_line.specs.declared.layer_spec.LayerSpec.{LayerSpec}
-use Rattle.table_line.specs.declared.feature.Feature.{Feature}
-use Rattle.table_line.specs.declared.feature.Feature.TheVariants as features
-use Rattle.table_line.specs.declared.layer_spec.Target.{Target}
-use Rattle.table_line.specs.declared.layer_spec.Target.TheVariants as targets
-use Rattle.table_line.specs.Ranges.{IsLayerSpec}
+use Rattle.layer_table.specs.declared.layer_spec.LayerSpec.{LayerSpec}
+use Rattle.layer_table.specs.declared.layer_spec.Target.{Target}
+use Rattle.layer_table.specs.declared.layer_spec.Target.TheVariants as targets
+use Rattle.fault_layers.specs.Features.{is_drop_writes}
+use Rattle.layer_table.specs.Ranges.{IsLayerSpec}
 
 -- the sectors of the top of these layers, over a device of `sectors` sectors
 abbrev pub top_sectors : ℕ → List LayerSpec → ℕ
@@ -25,14 +24,6 @@ abbrev pub IsAllowed : ℕ → List LayerSpec → Type 0
 IsAllowed sectors [] = Unit {0}
 IsAllowed sectors (layer ∷ layers) =
     IsLayerSpec layer × (layer.offset + layer.length ≤ sectors) × IsAllowed layer.length layers
-
--- with this feature a flakey layer that is down answers Ok to writes, discards and flushes, and
--- drops them
-abbrev pub is_drop_writes : Feature → Bool
-is_drop_writes features.None = false
-is_drop_writes features.ErrorReads = false
-is_drop_writes features.ErrorWrites = false
-is_drop_writes features.DropWrites = true
 
 -- whether the layer may report writes as done, and drop them
 abbrev pub drops_writes : Target → Bool

@@ -8,16 +8,16 @@ use Rattle.std.specs.Str.{bytes_eq}
 use Rattle.refusals.specs.declared.refusal.Refusal.{Refusal}
 use Rattle.refusals.specs.declared.refusal.Refusal.TheVariants as refusals
 use Rattle.refusals.specs.Words.{number_of}
-use Rattle.table_line.specs.declared.feature.Feature.{Feature}
-use Rattle.table_line.specs.declared.feature.Feature.TheVariants as features
-use Rattle.table_line.specs.declared.layer_spec.LayerSpec.{LayerSpec}
-use Rattle.table_line.specs.declared.layer_spec.Target.{Target}
-use Rattle.table_line.specs.declared.layer_spec.Target.TheVariants as targets
-use Rattle.table_line.specs.declared.name.Name.{Name}
-use Rattle.table_line.specs.declared.name.Name.TheVariants as names
-use Rattle.table_line.specs.declared.table_error.TableError.{TableError}
-use Rattle.table_line.specs.declared.table_error.TableError.TheVariants as errors
-use Rattle.table_line.specs.Ranges.{is_in_range}
+use Rattle.fault_layers.specs.declared.feature.Feature.{Feature}
+use Rattle.fault_layers.specs.declared.feature.Feature.TheVariants as features
+use Rattle.layer_table.specs.declared.layer_spec.LayerSpec.{LayerSpec}
+use Rattle.layer_table.specs.declared.layer_spec.Target.{Target}
+use Rattle.layer_table.specs.declared.layer_spec.Target.TheVariants as targets
+use Rattle.layer_table.specs.declared.name.Name.{Name}
+use Rattle.layer_table.specs.declared.name.Name.TheVariants as names
+use Rattle.layer_table.specs.declared.table_error.TableError.{TableError}
+use Rattle.layer_table.specs.declared.table_error.TableError.TheVariants as errors
+use Rattle.layer_table.specs.Ranges.{is_in_range}
 
 -- ---- the words of a line by their places, which are counted from 0
 

@@ -10,22 +10,22 @@ use Rattle.std.proofs.lemmas.List.{append-nil}
 use Rattle.refusals.specs.Words.{is_word, number_of, words_of}
 use Rattle.refusals.specs.WordLaws.{decimal_number, number_again, number_low, number_read}
 use Rattle.refusals.specs.SplitLaws.{number_word, words_of_joined}
-use Rattle.table_line.specs.declared.feature.Feature.{Feature}
-use Rattle.table_line.specs.declared.feature.Feature.TheVariants as features
-use Rattle.table_line.specs.declared.layer_spec.LayerSpec.{LayerSpec}
-use Rattle.table_line.specs.declared.layer_spec.Target.{Target}
-use Rattle.table_line.specs.declared.layer_spec.Target.TheVariants as targets
-use Rattle.table_line.specs.declared.name.Name.{Name}
-use Rattle.table_line.specs.declared.name.Name.TheVariants as names
-use Rattle.table_line.specs.declared.table_error.TableError.{TableError}
-use Rattle.table_line.specs.declared.table_error.TableError.TheVariants as errors
-use Rattle.table_line.specs.Ranges.{are_delays, is_in_range, is_length, is_target, AreDelays, IsLayerSpec}
-use Rattle.table_line.specs.Ranges.{IsLength, IsTargetInRange}
-use Rattle.table_line.specs.TableLines.{delay_in, feature_in, line_answer, named, offset_in, row}
-use Rattle.table_line.specs.TableLines.{◌>>=◌, has_count, has_numbers, has_ranges, if_holds, layer_of}
-use Rattle.table_line.specs.TableLines.{value_in, word_in}
-use Rattle.table_line.specs.Texts.{behind_spaces, feature_words, line_text, line_words, set_words}
-use Rattle.table_line.specs.Texts.{target_words}
+use Rattle.fault_layers.specs.declared.feature.Feature.{Feature}
+use Rattle.fault_layers.specs.declared.feature.Feature.TheVariants as features
+use Rattle.layer_table.specs.declared.layer_spec.LayerSpec.{LayerSpec}
+use Rattle.layer_table.specs.declared.layer_spec.Target.{Target}
+use Rattle.layer_table.specs.declared.layer_spec.Target.TheVariants as targets
+use Rattle.layer_table.specs.declared.name.Name.{Name}
+use Rattle.layer_table.specs.declared.name.Name.TheVariants as names
+use Rattle.layer_table.specs.declared.table_error.TableError.{TableError}
+use Rattle.layer_table.specs.declared.table_error.TableError.TheVariants as errors
+use Rattle.layer_table.specs.Ranges.{are_delays, is_in_range, is_length, is_target, AreDelays, IsLayerSpec}
+use Rattle.layer_table.specs.Ranges.{IsLength, IsTargetInRange}
+use Rattle.layer_table.specs.TableLines.{delay_in, feature_in, line_answer, named, offset_in, row}
+use Rattle.layer_table.specs.TableLines.{◌>>=◌, has_count, has_numbers, has_ranges, if_holds, layer_of}
+use Rattle.layer_table.specs.TableLines.{value_in, word_in}
+use Rattle.layer_table.specs.Texts.{behind_spaces, feature_words, line_text, line_words, set_words}
+use Rattle.layer_table.specs.Texts.{target_words}
 
 -- ---- what is asked for is in its ranges
 

@@ -1,11 +1,11 @@
 //! Prints a layer as the one line that asks for it: `push_line`.
 //! The printer of scripts calls it.
 ghost use Rattle.std.specs.Prelude.{◌≡◌, ◌++◌, ◌∷◌, [], decimal, OnOk};
-ghost use Rattle.table_line.specs.Texts.{behind_spaces, feature_words, later_sets, line_text};
-ghost use Rattle.table_line.specs.Texts.{set_words, target_words};
+ghost use Rattle.layer_table.specs.Texts.{behind_spaces, feature_words, later_sets, line_text};
+ghost use Rattle.layer_table.specs.Texts.{set_words, target_words};
 
-use crate::feature::Feature;
 use crate::layer_spec::{LayerSpec, Target};
+use fault_layers::Feature;
 use refusals::push_number;
 use std::alloc::AllocError;
 

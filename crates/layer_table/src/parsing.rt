@@ -3,15 +3,15 @@
 ghost use Rattle.std.specs.Prelude.{◌≡◌, ◌<◌, ◌^◌, IfOk};
 ghost use Rattle.std.specs.List.{list_all};
 ghost use Rattle.refusals.specs.Words.{words_of};
-ghost use Rattle.table_line.specs.Ranges.{IsLayerSpec};
-ghost use Rattle.table_line.specs.TableLines.{feature_in, delay_in, feature_named, has_number};
-ghost use Rattle.table_line.specs.TableLines.{has_one_place, is_same_place, later_delay};
-ghost use Rattle.table_line.specs.TableLines.{line_answer, offset_in, row, value_in, word_in};
+ghost use Rattle.layer_table.specs.Ranges.{IsLayerSpec};
+ghost use Rattle.layer_table.specs.TableLines.{feature_in, delay_in, feature_named, has_number};
+ghost use Rattle.layer_table.specs.TableLines.{has_one_place, is_same_place, later_delay};
+ghost use Rattle.layer_table.specs.TableLines.{line_answer, offset_in, row, value_in, word_in};
 
-use crate::feature::Feature;
 use crate::layer_spec::{LayerSpec, Target, is_in_range};
 use crate::name::Name;
 use crate::table_error::TableError;
+use fault_layers::Feature;
 use refusals::{count_words, number_of, word_at};
 
 /// Parses a line: returns the layer that its words ask for, or the first error in it. One or more

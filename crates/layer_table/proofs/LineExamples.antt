@@ -3,18 +3,20 @@ use Rattle.std.proofs.Common.{◌≡◌, ◌||◌, List, ℕ, true, false, [], �
 use Rattle.std.proofs.Common.{refl, sym, true≢false, arith}
 use Rattle.std.specs.Prelude.{codes, decimal}
 use Rattle.refusals.specs.Words.{words_of}
-use Rattle.table_line.specs.declared.feature.Feature.TheVariants as features
-use Rattle.table_line.specs.declared.layer_spec.LayerSpec.{LayerSpec}
-use Rattle.table_line.specs.declared.layer_spec.Target.{Target}
-use Rattle.table_line.specs.declared.layer_spec.Target.TheVariants as targets
-use Rattle.table_line.specs.declared.table_error.TableError.{TableError}
-use Rattle.table_line.specs.declared.table_error.TableError.TheVariants.{BadFeature, BadNumber}
-use Rattle.table_line.specs.declared.table_error.TableError.TheVariants.{OutOfRange, UnknownTarget}
-use Rattle.table_line.specs.declared.table_error.TableError.TheVariants.{WrongCount}
-use Rattle.table_line.specs.Ranges.{IsBlockSize, IsCycle, IsLayerSpec}
-use Rattle.table_line.specs.LayerOrder.{drops_writes, top_origin, top_sectors, IsAllowed}
-use Rattle.table_line.specs.TableLines.{line_answer}
-use Rattle.table_line.specs.Texts.{line_text}
+use Rattle.fault_layers.specs.declared.feature.Feature.TheVariants as features
+use Rattle.layer_table.specs.declared.layer_spec.LayerSpec.{LayerSpec}
+use Rattle.layer_table.specs.declared.layer_spec.Target.{Target}
+use Rattle.layer_table.specs.declared.layer_spec.Target.TheVariants as targets
+use Rattle.layer_table.specs.declared.table_error.TableError.{TableError}
+use Rattle.layer_table.specs.declared.table_error.TableError.TheVariants.{BadFeature, BadNumber}
+use Rattle.layer_table.specs.declared.table_error.TableError.TheVariants.{OutOfRange, UnknownTarget}
+use Rattle.layer_table.specs.declared.table_error.TableError.TheVariants.{WrongCount}
+use Rattle.dust_layer.specs.Sizes.{IsBlockSize}
+use Rattle.fault_layers.specs.Features.{IsCycle}
+use Rattle.layer_table.specs.Ranges.{IsLayerSpec}
+use Rattle.layer_table.specs.LayerOrder.{drops_writes, top_origin, top_sectors, IsAllowed}
+use Rattle.layer_table.specs.TableLines.{line_answer}
+use Rattle.layer_table.specs.Texts.{line_text}
 
 -- what a line asks for, or the first test that it fails
 abbrev answer : List ℕ → Result LayerSpec TableError

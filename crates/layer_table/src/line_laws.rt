@@ -1,11 +1,11 @@
-//! Laws of the lines of a table, apart from the code: each
-//! function does nothing, and its clause is the law.
+//! Laws of the lines of a table, apart from the code: each function does nothing, and its clause is
+//! the law.
 ghost use Rattle.std.specs.Prelude.{◌≡◌, Ok, ℕ, List};
 ghost use Rattle.refusals.specs.Words.{words_of};
-ghost use Rattle.table_line.specs.declared.layer_spec.LayerSpec.{LayerSpec};
-ghost use Rattle.table_line.specs.Ranges.{IsLayerSpec};
-ghost use Rattle.table_line.specs.TableLines.{line_answer};
-ghost use Rattle.table_line.specs.Texts.{line_text};
+ghost use Rattle.layer_table.specs.declared.layer_spec.LayerSpec.{LayerSpec};
+ghost use Rattle.layer_table.specs.Ranges.{IsLayerSpec};
+ghost use Rattle.layer_table.specs.TableLines.{line_answer};
+ghost use Rattle.layer_table.specs.Texts.{line_text};
 
 /// The values that words ask for are in their ranges.
 pub fn layers_asked_for_are_in_range()

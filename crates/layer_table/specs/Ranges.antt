@@ -1,20 +1,11 @@
 -- The ranges of a layer's values.
 use Rattle.std.specs.Prelude.{ℕ, ◌+◌, ◌<◌, ◌≤◌, ◌^◌, ◌≡◌, Bool, true, ◌&&◌, nat_le}
 use Rattle.std.specs.Int.{is_power_of_two}
-use Rattle.table_line.specs.declared.layer_spec.LayerSpec.{LayerSpec}
-use Rattle.table_line.specs.declared.layer_spec.Target.{Target}
-use Rattle.table_line.specs.declared.layer_spec.Target.TheVariants as targets
-
--- how long a flakey device is up and down, in seconds: together at least one, and within 32 bits
-pub record IsCycle (up down : ℕ) : Type 0 where
-  pub some : 1 ≤ up + down
-  pub few : up + down ≤ 4294967295
-
--- the bytes of a dust device's block: a power of two, from 512 to 1,073,741,824
-pub record IsBlockSize (bytes : ℕ) : Type 0 where
-  pub power : is_power_of_two bytes ≡ true
-  pub some : 512 ≤ bytes
-  pub few : bytes ≤ 1073741824
+use Rattle.dust_layer.specs.Sizes.{IsBlockSize}
+use Rattle.fault_layers.specs.Features.{IsCycle}
+use Rattle.layer_table.specs.declared.layer_spec.LayerSpec.{LayerSpec}
+use Rattle.layer_table.specs.declared.layer_spec.Target.{Target}
+use Rattle.layer_table.specs.declared.layer_spec.Target.TheVariants as targets
 
 -- how much later a delay device's calls begin, in milliseconds, each within 32 bits
 pub record AreDelays (read write flush : ℕ) : Type 0 where

@@ -1,11 +1,11 @@
 //! The layer that a line of a table asks for: its length, its offset and its target. `parse_line`
 //! parses one, `push_line` prints one, and scripts keep them for their disks.
 ghost use Rattle.std.specs.Prelude.{◌≡◌};
-ghost use Rattle.table_line.specs.Ranges.{are_delays, is_block_size, is_cycle};
-ghost use Rattle.table_line.specs.Ranges.{is_in_range as is_within};
+ghost use Rattle.layer_table.specs.Ranges.{are_delays, is_block_size, is_cycle};
+ghost use Rattle.layer_table.specs.Ranges.{is_in_range as is_within};
 
-use crate::feature::Feature;
 use bio::MAX_DEVICE_SECTORS;
+use fault_layers::Feature;
 
 /// The most seconds that a flakey device is up and down, together.
 const MAX_CYCLE_SECONDS: u64 = 4_294_967_295;

@@ -1,8 +1,8 @@
 use Rattle.std.proofs.Common.{◌++◌, ◌∷◌, [], decimal, ap, ◌∙◌}
 use Rattle.std.proofs.lemmas.Result.{IfOk-equal}
-use Rattle.table_line.specs.LineLaws.{line_joined}
-use Rattle.table_line.specs.Texts.{behind_spaces, target_words}
-use Rattle.table_line.proofs.printing.push_line.Goals as goal
+use Rattle.layer_table.specs.LineLaws.{line_joined}
+use Rattle.layer_table.specs.Texts.{behind_spaces, target_words}
+use Rattle.layer_table.proofs.printing.push_line.Goals as goal
 
 pub returns : goal.returns
 returns c =

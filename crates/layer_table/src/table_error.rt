@@ -1,7 +1,7 @@
 //! Why a line of a table asks for no layer, and the refusal that is shown for it. `parse_line`
 //! returns it, and the parser of scripts passes it on.
 ghost use Rattle.std.specs.Prelude.{◌≡◌};
-ghost use Rattle.table_line.specs.TableLines.{table_refusal};
+ghost use Rattle.layer_table.specs.TableLines.{table_refusal};
 
 use refusals::Refusal;
 use thiserror::Error;

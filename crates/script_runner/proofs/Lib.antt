@@ -13,3 +13,5 @@ mod Plays
 mod RequestFates
 mod BareDisk
 mod LawfulRuns
+mod SeatRunSteps
+mod Seats

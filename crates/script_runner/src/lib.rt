@@ -1,10 +1,14 @@
-//! Runs a script of `dmlw record`: its requests go through the recorder and to the data device, and
-//! a line says what became of each.
+//! Runs the scripts of `dmlw record` and `dmlw run` over disks in memory.
 //!
-//! `Running` is a script's run so far: the recorder over the log's device, the data device, and the
-//! requests that were submitted. `run` runs the lines of a script one after another. `specs/Lines`
-//! says what each line does and prints, in one case for each kind of line, and `specs/Runs` what
-//! all lines do.
+//! `record`: requests go through the recorder and to the data device, and a line says what became of
+//! each. `Running` is a script's run so far: the recorder over the log's device, the data device,
+//! and the requests that were submitted. `run` runs the lines of a script one after another.
+//! `specs/Lines` says what each line does and prints, in one case for each kind of line, and
+//! `specs/Runs` what all lines do.
+//!
+//! `run_seats`: a thread for each seat makes the calls of its lines in order, at moment 0, and one
+//! more writes the log. It closes the recorder, and returns each seat's tally and the log's disk.
+//! `specs/SeatRuns` has the result of a run.
 #![tactic(auto)]
 
 pub use playing::new_stack;
@@ -13,7 +17,10 @@ pub use rehearsing::{Rehearsed, events_of_run};
 pub use request::{Request, bio_of};
 pub use run_script::run;
 pub use running::Running;
+pub use seat_run::{Ran, run_seats};
+pub use seat_work::Work;
 pub use step_error::StepError;
+pub use tally::{Outcome, Tally};
 pub use write_data::WriteData;
 
 mod asking;
@@ -26,6 +33,10 @@ mod rehearsing;
 mod request;
 mod run_script;
 mod running;
+mod seat_run;
+mod seat_threads;
+mod seat_work;
 mod shortage;
 mod step_error;
+mod tally;
 mod write_data;

@@ -1,9 +1,9 @@
 //! Chains of values: added, joined, taken, replaced, walked and lifted, with rows used again.
 ghost use Rattle.std.specs.Prelude.{◌<◌, ◌≡◌, ◌==◌, IsTrue, None, length};
 ghost use Rattle.std.specs.List.{list_any};
-ghost use Rattle.chains.specs.Edits.{chain_in};
+ghost use Rattle.pending.specs.Edits.{chain_in};
 
-use chains::Chains;
+use pending::chains::Chains;
 use std::alloc::{AllocError, Global};
 use std::test::Fail;
 

@@ -1,4 +1,10 @@
 -- The definitions of `pending` that only its proofs use: no other crate cites them.
+pub mod Rings
+pub mod Changes
+pub mod ChainSteps
+pub mod Tables
+pub mod LastRows
+pub mod Looks
 pub mod Release
 pub mod SectorBits
 pub mod Covers

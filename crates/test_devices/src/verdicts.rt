@@ -5,7 +5,7 @@ use judge::{First, Verdict, could_hold, is_lawful};
 use std::alloc::{AllocError, Global};
 use std::process::Abort;
 use std::test::Fail;
-use test_devices::{holds, rows_are_told};
+use crate::{holds, rows_are_told};
 
 // Returns a write of `length` bytes, each this one, with no flush.
 fn write(

@@ -4,7 +4,7 @@ use refusals::{count_words, cut, number_of, push_number, word_at};
 use std::alloc::{AllocError, Global};
 use std::process::Abort;
 use std::test::Fail;
-use test_devices::rows_are_told;
+use crate::rows_are_told;
 
 // Returns what a word is parsed as, and printed as again; or that it is no number.
 fn answer(alloc: Global, word: &str) -> Result<String, Fail> {

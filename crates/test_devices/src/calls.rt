@@ -9,7 +9,7 @@ use std::alloc::{AllocError, Global};
 use std::io::Print;
 use std::process::Abort;
 use std::test::Fail;
-use test_devices::{is_same, is_told};
+use crate::{is_same, is_told};
 
 // The bytes of 16 sectors.
 const MOST: usize = 8192;

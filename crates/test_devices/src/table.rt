@@ -17,7 +17,7 @@ use std::io::Print;
 use std::process::Abort;
 use std::test::Fail;
 use table_line::{LayerSpec, Target, parse_line};
-use test_devices::is_same;
+use crate::is_same;
 
 mod plain;
 

@@ -9,7 +9,7 @@ use std::alloc::Global;
 use std::io::Print;
 use std::process::Abort;
 use std::test::Fail;
-use test_devices::{is_same, is_told};
+use crate::{is_same, is_told};
 
 // Returns how many writes of a sector fail before one passes.
 fn failed_writes<D: Message + Drop>(rt: &impl Abort, device: &mut D, sector: u64) -> u64 {

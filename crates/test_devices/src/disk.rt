@@ -7,7 +7,7 @@ use std::alloc::Global;
 use std::io::Print;
 use std::process::Abort;
 use std::test::Fail;
-use test_devices::{Failing, Lying, holds, is_same};
+use crate::{Failing, Lying, holds, is_same};
 
 // Takes the words of a line. `w31` writes 1s to sector 3, and `F31` does with FUA. `d32` discards 2
 // sectors from sector 3 on, and `c12` crashes with the picks 1 and 2.

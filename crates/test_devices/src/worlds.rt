@@ -6,7 +6,7 @@ use judge::{First, is_lawful};
 use refusals::{Fault, Refusal};
 use std::alloc::{AllocError, Global};
 use std::test::Fail;
-use test_devices::{holds, rows_are_told};
+use crate::{holds, rows_are_told};
 use world::{Step, StepError, World, reach};
 
 // Returns a device that holds these bytes, up to the last whole sector.

@@ -2,7 +2,7 @@
 
 use refusals::{Fault, Refusal};
 use std::test::Fail;
-use test_devices::is_told;
+use crate::is_told;
 
 // Returns a fault without a line, or at one.
 fn fault(line: Option<u64>, refusal: Refusal) -> Fault {

@@ -12,9 +12,11 @@ ghost use Rattle.script_runner.specs.inside.SeatWork.{AreNewPlayers, FitsRecorde
 ghost use Rattle.script_runner.specs.SeatRuns.{FailsRun, IsClosed, IsRun, IsUnclosed};
 ghost use Rattle.shared.specs.Seats.{AreNewSeats};
 
+use crate::playing::new_stack;
+use crate::recording::Lies;
 use crate::seat_threads::run_all;
-use crate::tally::Tally;
 use crate::seat_work::Work;
+use crate::tally::Tally;
 use bio::{End, Status};
 use blockdev::BlockDev;
 use board::Names;
@@ -22,8 +24,6 @@ use dmlw_script::RunScript;
 use layer_table::Stack;
 use lock_state::{Receipt, Run, Seat};
 use refusals::{Refusal, RunError};
-use crate::playing::new_stack;
-use crate::recording::Lies;
 use sector_disk::SectorDisk;
 use shared::{Closed, Ending, Shared, Started, Unclosed, Unnamed, WriterSeat};
 use std::alloc::{AllocError, Global};

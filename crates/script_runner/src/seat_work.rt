@@ -8,14 +8,14 @@ ghost use Rattle.script_runner.specs.inside.SeatWork.{CanMake, DoesLine, DoesLin
 ghost use Rattle.script_runner.specs.inside.SeatWork.{Makes, new_player};
 ghost use Rattle.script_runner.specs.Tallies.{and_kept, mark_receipt_in, receipt_in};
 
+use crate::request::bio_of;
 use crate::tally::{Outcome, Tally};
+use crate::write_data::WriteData;
 use bio::Ms;
 use blockdev::BlockDev;
 use board::Names;
 use dmlw_script::{Call, RunScript, SeatCall, Submission};
 use lock_state::{Receipt, Run, Seat};
-use crate::request::bio_of;
-use crate::write_data::WriteData;
 use shared::{Answer, MarkAnswer, Shared};
 use std::alloc::Global;
 use std::marker::Model;

@@ -1,5 +1,6 @@
 // Calls of a device, and what each shows: the harness of all these tests. A call is written in
 // words, in a row, or in letters, in a line of words.
+use crate::{is_same, is_told};
 use bio::{DevError, Ms};
 use blockdev::{BlockDev, Message};
 use fault_layers::Kind;
@@ -9,7 +10,6 @@ use std::alloc::{AllocError, Global};
 use std::io::Print;
 use std::process::Abort;
 use std::test::Fail;
-use crate::{is_same, is_told};
 
 // The bytes of 16 sectors.
 const MOST: usize = 8192;

@@ -1,5 +1,6 @@
 //! The disk in memory.
 use crate::calls::{ask, byte_of, look, play, read_of, step};
+use crate::{Failing, Lying, holds, is_same};
 use bio::{DevError, Ms};
 use blockdev::BlockDev;
 use sector_disk::SectorDisk;
@@ -7,7 +8,6 @@ use std::alloc::Global;
 use std::io::Print;
 use std::process::Abort;
 use std::test::Fail;
-use crate::{Failing, Lying, holds, is_same};
 
 // Takes the words of a line. `w31` writes 1s to sector 3, and `F31` does with FUA. `d32` discards 2
 // sectors from sector 3 on, and `c12` crashes with the picks 1 and 2.

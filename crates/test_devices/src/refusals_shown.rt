@@ -1,8 +1,8 @@
 //! How a fault is shown.
 
+use crate::is_told;
 use refusals::{Fault, Refusal};
 use std::test::Fail;
-use crate::is_told;
 
 // Returns a fault without a line, or at one.
 fn fault(line: Option<u64>, refusal: Refusal) -> Fault {

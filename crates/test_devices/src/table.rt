@@ -5,6 +5,7 @@ ghost use Rattle.table_line.specs.declared.layer_spec.Target.TheVariants.{Linear
 ghost use Rattle.table_line.specs.Ranges.{IsLayerSpec};
 
 use crate::calls::{Call, ask, asked};
+use crate::is_same;
 use bio::Ms;
 use blockdev::BlockDev;
 use fault_layers::Kind;
@@ -17,7 +18,6 @@ use std::io::Print;
 use std::process::Abort;
 use std::test::Fail;
 use table_line::{LayerSpec, Target, parse_line};
-use crate::is_same;
 
 mod plain;
 

@@ -1,11 +1,11 @@
 //! Which images are judged possible, and which lists of events are lawful.
 
+use crate::{holds, rows_are_told};
 use bio::{Bio, Bytes, CoreEvent, End, Id};
 use judge::{First, Verdict, could_hold, is_lawful};
 use std::alloc::{AllocError, Global};
 use std::process::Abort;
 use std::test::Fail;
-use crate::{holds, rows_are_told};
 
 // Returns a write of `length` bytes, each this one, with no flush.
 fn write(

@@ -1,10 +1,10 @@
 //! How texts are cut, and which words are numbers.
 
+use crate::rows_are_told;
 use refusals::{count_words, cut, number_of, push_number, word_at};
 use std::alloc::{AllocError, Global};
 use std::process::Abort;
 use std::test::Fail;
-use crate::rows_are_told;
 
 // Returns what a word is parsed as, and printed as again; or that it is no number.
 fn answer(alloc: Global, word: &str) -> Result<String, Fail> {

@@ -1,12 +1,12 @@
 //! Which runs a device with a cache has, and what they leave.
 
 use crate::verdicts::{ROWS, events_of, image_of};
+use crate::{holds, rows_are_told};
 use bio::{CoreEvent, Id};
 use judge::{First, is_lawful};
 use refusals::{Fault, Refusal};
 use std::alloc::{AllocError, Global};
 use std::test::Fail;
-use crate::{holds, rows_are_told};
 use world::{Step, StepError, World, reach};
 
 // Returns a device that holds these bytes, up to the last whole sector.

@@ -1,6 +1,7 @@
 //! The messages of a layer with bad blocks.
 use super::{by_sector, over, talk_over};
 use crate::calls::{answer_of, ask, read_of};
+use crate::{is_same, is_told};
 use bio::Ms;
 use blockdev::{BlockDev, Message, MessageError};
 use dust_layer::{Dust, Mode};
@@ -9,7 +10,6 @@ use std::alloc::Global;
 use std::io::Print;
 use std::process::Abort;
 use std::test::Fail;
-use crate::{is_same, is_told};
 
 // Returns how many writes of a sector fail before one passes.
 fn failed_writes<D: Message + Drop>(rt: &impl Abort, device: &mut D, sector: u64) -> u64 {

@@ -3,7 +3,7 @@ use Rattle.std.specs.Prelude.{ℕ}
 use Rattle.std.specs.Borrow.{Fml, Lends, MutBor, RattleType}
 use Rattle.pending.specs.Edits.{with_first}
 use Rattle.pending.specs.ChainsView.{Shown}
-use Rattle.pending.specs.contracts.table.Chains.{the_row}
+use Rattle.pending.specs.contracts.chains.table.Chains.{the_row}
 
 -- what is seen with another first value of a chain
 abbrev pub with_value : {T : Type 0} → Shown T → ℕ → T → Shown T

@@ -15,10 +15,10 @@ use Rattle.dmlw_script.specs.RunFirstFault.{IsRunFaultAt}
 use Rattle.refusals.specs.declared.run_error.RunError.{RunError}
 use Rattle.refusals.specs.declared.run_error.RunError.TheVariants.{Refused}
 use Rattle.script_runner.specs.declared.recording.Lies.{Lies}
-use Rattle.seat_runner.specs.declared.seat_run.Ran.{Ran}
-use Rattle.seat_runner.specs.declared.tally.Tally.{Tally}
+use Rattle.script_runner.specs.declared.seat_run.Ran.{Ran}
+use Rattle.script_runner.specs.declared.tally.Tally.{Tally}
 use Rattle.refusals.specs.Errors.{IsFileError, io_refusal, refused_by}
-use Rattle.seat_runner.specs.SeatRuns.{FailsRun, IsRun}
+use Rattle.script_runner.specs.SeatRuns.{FailsRun, IsRun}
 use Rattle.dmlw_files.specs.declared.files.FileError.{FileError}
 use Rattle.dmlw_files.specs.declared.files.FileError.TheVariants as errors
 use Rattle.dmlw_files.specs.FileErrors.{file_refusal}

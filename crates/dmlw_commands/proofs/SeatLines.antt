@@ -5,7 +5,7 @@ use Rattle.std.proofs.Common.{sym, take}
 use Rattle.std.specs.Io.KnownBytes.{Appends}
 use Rattle.dmlw_commands.specs.LogRuns.{seat_line, seat_lines}
 use Rattle.script_runner.specs.CallLaws.{appends_twice}
-use Rattle.seat_runner.specs.declared.tally.Tally.{Tally}
+use Rattle.script_runner.specs.declared.tally.Tally.{Tally}
 
 -- a seat's line more
 lines_more : (from : ℕ) (tallies : List Tally) (tally : Tally) (number : ℕ)

@@ -4,7 +4,7 @@ pub use Rattle.replay.specs.Replays as LogReplays
 pub use Rattle.replay.specs.Copies
 pub use Rattle.replay.specs.Resize
 pub use Rattle.refusals.specs.Words
-pub use Rattle.seat_runner.specs.SeatRuns
+pub use Rattle.script_runner.specs.SeatRuns
 pub mod Exits
 pub mod Lists
 pub mod ImageLog

@@ -18,8 +18,8 @@ use Rattle.refusals.specs.declared.run_error.RunError.{RunError}
 use Rattle.refusals.specs.declared.run_error.RunError.TheVariants.{Refused}
 use Rattle.refusals.specs.Errors.{IsFileError}
 use Rattle.script_runner.specs.declared.recording.Lies.{Lies}
-use Rattle.seat_runner.specs.declared.tally.Tally.{Tally}
-use Rattle.seat_runner.specs.SeatRuns.{FailsRun, IsRun}
+use Rattle.script_runner.specs.declared.tally.Tally.{Tally}
+use Rattle.script_runner.specs.SeatRuns.{FailsRun, IsRun}
 
 -- the line with the results of a seat's calls
 abbrev pub seat_line : ℕ → Tally → List ℕ

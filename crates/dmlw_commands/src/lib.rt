@@ -5,7 +5,7 @@
 //! image of a log (`specs/Replays`, `specs/LogCopies`). `judge` and `path` print whether an image
 //! could have been on a script's data disk (`specs/Judgements`, `specs/Paths`). Each reports its
 //! fault and returns how it ended (`specs/Ends`). `run` runs a script of several seats by
-//! `seat_runner` (`specs/LogRuns`). `explain` has what `--explain` adds after a fault's line. What
+//! `script_runner` (`specs/LogRuns`). `explain` has what `--explain` adds after a fault's line. What
 //! a command asks of a file system is `Files` of `dmlw_files`.
 #![tactic(auto)]
 

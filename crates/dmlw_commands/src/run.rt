@@ -20,7 +20,7 @@ use bio::Status;
 use dmlw_files::{Files, Session, read_text};
 use dmlw_script::{RunScript, read_run_script};
 use refusals::{Refusal, RunError};
-use seat_runner::{Ran, Tally, run_seats};
+use script_runner::{Ran, Tally, run_seats};
 use std::alloc::Global;
 use std::io::Write;
 use std::sync::Wait;

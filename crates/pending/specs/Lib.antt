@@ -7,6 +7,9 @@ pub use Rattle.bio.specs.Check
 pub use Rattle.log_format.specs.Entries
 pub use Rattle.log_format.specs.Replay
 pub use Rattle.bio.specs.Content
+pub mod Edits
+pub mod ChainsView
+pub mod Lends
 pub mod QueueEvent
 pub mod Moments
 pub mod Plain

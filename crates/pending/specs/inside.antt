@@ -1,4 +1,10 @@
 -- The definitions of `pending` that no other crate uses.
+pub mod Rings
+pub mod Changes
+pub mod ChainSteps
+pub mod Tables
+pub mod LastRows
+pub mod Looks
 pub mod Release
 pub mod SectorBits
 pub mod Covers

@@ -14,3 +14,5 @@ mod Plays
 mod RequestFates
 mod BareDisk
 mod LawfulRuns
+mod SeatRunSteps
+mod Seats

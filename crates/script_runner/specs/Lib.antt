@@ -19,6 +19,12 @@ pub use Rattle.recorder.specs.CrashReplay
 pub use Rattle.sector_disk.specs.Candidates
 pub use Rattle.sector_disk.specs.DiskView
 pub use Rattle.sector_disk.specs.Sizes
+pub use Rattle.dmlw_script.specs.RunPlans
+pub use Rattle.lock_state.specs.Close
+pub use Rattle.lock_state.specs.History
+pub use Rattle.lock_state.specs.LegalHistory
+pub use Rattle.shared.specs.Answers
+pub use Rattle.shared.specs.Close as Closes
 pub mod CallLaws
 pub mod Submissions
 pub mod HandOver
@@ -30,4 +36,6 @@ pub mod RequestEvents
 pub mod NewRecorder
 pub mod DiskRun
 pub mod Rehearsals
+pub mod Tallies
+pub mod SeatRuns
 pub mod inside

@@ -3,3 +3,4 @@ pub mod Play
 pub mod Replies
 pub mod Steps
 pub mod WriteData
+pub mod SeatWork

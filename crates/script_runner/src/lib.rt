@@ -1,9 +1,13 @@
-//! Runs a script of `dmlw record`: its requests go to the recorder and to the data device, and a
-//! line says how each ended.
+//! Runs the scripts of `dmlw record` and `dmlw run`, over disks in memory.
 //!
+//! `record`: requests go to the recorder and to the data device, and a line says how each ended.
 //! `Running` is a script's run so far: the recorder, the data device, and the requests that were
 //! submitted. `run` runs the lines of a script one after another. `specs/Lines` says what each kind
 //! of line does and prints, and `specs/Runs` what all lines do.
+//!
+//! `run_seats`: a thread for each seat makes the calls of its lines in order, and another thread
+//! writes the log. Then the recorder is closed. `specs/SeatRuns` says what a run returns: each
+//! seat's tally and the log's disk.
 #![tactic(auto)]
 
 pub use playing::new_stack;
@@ -12,7 +16,10 @@ pub use rehearsing::{Rehearsed, events_of_run};
 pub use request::{Request, bio_of};
 pub use run_script::run;
 pub use running::Running;
+pub use seat_run::{Ran, run_seats};
+pub use seat_work::Work;
 pub use step_error::StepError;
+pub use tally::{Outcome, Tally};
 pub use write_data::WriteData;
 
 mod asking;
@@ -25,6 +32,10 @@ mod rehearsing;
 mod request;
 mod run_script;
 mod running;
+mod seat_run;
+mod seat_threads;
+mod seat_work;
 mod shortage;
 mod step_error;
+mod tally;
 mod write_data;

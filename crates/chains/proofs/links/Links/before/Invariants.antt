@@ -1,7 +1,0 @@
-use Rattle.std.proofs.Common.{◌≡◌, ℕ, ◌<◌}
-use Rattle.chains.specs.inside.Rings.{after}
-use Rattle.chains.proofs.links.Links.before.Given as goal
-
-abbrev pub invariant-loop-other : goal.invariant-loop-other
-invariant-loop-other l =
-    (k : ℕ) → k < l.other → after l.self.next.items k ≡ l.row → ⊥

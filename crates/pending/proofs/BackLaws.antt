@@ -1,0 +1,261 @@
+-- How `turn_back` changes the table.
+use Rattle.std.proofs.Common.{◌≡◌, ℕ, suc, ◌<◌, ◌≤◌, List, [], ◌∷◌, ◌++◌, length, set}
+use Rattle.std.proofs.Common.{Option, Some, None, take, drop, refl, ap, sym, ◌∙◌, subst, arith, inl}
+use Rattle.std.proofs.Common.{inr, append_assoc}
+use Rattle.std.specs.Prelude.{◌⊎◌}
+use Rattle.std.proofs.lemmas.Bool.{cases_eq, cases_lt}
+use Rattle.std.proofs.lemmas.List.Sums.{sum_by-cons}
+use Rattle.std.proofs.lemmas.List.{length-set, set-get_or, set-set}
+use Rattle.pending.specs.declared.chains.links.Links.{Links}
+use Rattle.pending.specs.declared.chains.walk.Walk.{Walk}
+use Rattle.pending.specs.Edits.{chain_in, turned}
+use Rattle.pending.specs.inside.Rings.{after, last_in, times, times_in, Holds, IsRing, Leads}
+use Rattle.pending.specs.inside.Tables.{seen_chains, seen_lasts, IsSound, IsTable}
+use Rattle.pending.proofs.ListLaws.{in-other, in-put, there}
+use Rattle.pending.proofs.RingLaws.{last-counts, leads-back, times-append, times-other}
+use Rattle.pending.proofs.RingLaws.{times-same}
+use Rattle.pending.proofs.HoldsLaws.{few-in, few-in-two, holds-turned, is-row, none-at, ring-at}
+use Rattle.pending.proofs.TableLaws.{table-at, table-kept}
+use Rattle.pending.proofs.WalkLaws.{sound-at, walk-last}
+
+-- a row that is in all chains together is in one of them
+row-in : (row : ℕ) (chains : List (List ℕ)) → 0 < times_in row chains
+    → (chain : ℕ) × (0 < times row (chain_in chains chain))
+row-in row [] some = absurd (omega arith)
+row-in row (xs ∷ chains) some = elim (cases_lt 0 (times row xs)) [
+  | inl here ↦ (0, here)
+  | inr none ↦
+      let rest = row-in row chains (omega (arith, sum_by-cons (times row) xs chains)) in (suc rest.0, rest.1)
+]
+
+-- a list that has a row: what comes before it, and what comes after it
+around : (row : ℕ) (rows : List ℕ) → 0 < times row rows
+    → (front : List ℕ) × (back : List ℕ) × (rows ≡ front ++ row ∷ back)
+around row [] some = absurd (omega arith)
+around row (x ∷ xs) some = elim (cases_eq x row) [
+  | inl same ↦ ([], xs, ap (λ y. y ∷ xs) same)
+  | inr other ↦
+      let rest = around row xs (let e = times-other row x xs other in omega arith) in
+      (x ∷ rest.0, rest.1, ap (λ ys. x ∷ ys) rest.2)
+]
+
+-- The row whose link leads to a ring's last row is the one before that, or the only one. The ring
+-- has its last row once.
+ring-before : (next : List ℕ) (last : ℕ) (rows front : List ℕ) (row : ℕ) (back : List ℕ)
+    → IsRing next last rows → rows ≡ front ++ row ∷ back → after next row ≡ last
+    → times last rows ≤ 1
+    → ((front ≡ []) × (back ≡ [])) ⊎ (back ≡ last ∷ [])
+ring-before next last rows front row back ring is leads few =
+    let P : List ℕ → Type 0 = λ rs. Leads next last rs last in
+    by_back front back (subst P is ring.leads)
+    (let e = ap (times last) is in omega arith)
+  where
+    ends : (xs : List ℕ) (x : ℕ) → Leads next x xs last → 0 < times last (x ∷ xs)
+    ends [] x way = omega (arith, times-same last x [] way)
+    ends (y ∷ ys) x way = elim (cases_eq x last) [
+      | inl same ↦ omega (arith, times-same last x (y ∷ ys) same)
+      | inr other ↦ omega (arith, times-other last x (y ∷ ys) other, ends ys y way.1)
+    ]
+
+    by_back : (front back : List ℕ) → Leads next last (front ++ row ∷ back) last
+        → times last (front ++ row ∷ back) ≤ 1
+        → ((front ≡ []) × (back ≡ [])) ⊎ (back ≡ last ∷ [])
+    by_back front (b ∷ []) way once =
+        let rest = leads-back next last front row (b ∷ []) last way in
+        inr (ap (λ y. y ∷ []) (sym rest.0 ∙ leads))
+    by_back front (b ∷ y ∷ ys) way once = absurd (
+        let rest = leads-back next last front row (b ∷ y ∷ ys) last way in
+        let first = times-same last b (y ∷ ys) (sym rest.0 ∙ leads) in
+        let more = ends ys y rest.1.1 in
+        let apart = times-append last front (row ∷ b ∷ y ∷ ys) in
+        elim (cases_eq row last) [
+          | inl same ↦
+              let e = times-same last row (b ∷ y ∷ ys) same in omega arith
+          | inr other ↦
+              let e = times-other last row (b ∷ y ∷ ys) other in omega arith
+        ])
+    by_back [] [] way once = inl (refl, refl)
+    by_back (f ∷ fs) [] way once = absurd (
+        let rest = leads-back next last (f ∷ fs) row [] last way in
+        let first : f ≡ last = sym way.0 ∙ ap (after next) (sym rest) ∙ leads in
+        let here = times-same last f (fs ++ row ∷ []) first in
+        let apart = times-append last fs (row ∷ []) in
+        let end = times-same last row [] rest in
+        omega arith)
+
+-- a row of a ring leads to a row of that ring
+ring-closed : (next : List ℕ) (last : ℕ) (front : List ℕ) (row : ℕ) (back : List ℕ)
+    → Leads next last (front ++ row ∷ back) last
+    → 0 < times (after next row) (front ++ row ∷ back)
+ring-closed next last front row (b ∷ bs) way =
+    let rest = leads-back next last front row (b ∷ bs) last way in
+    let to = after next row in
+    omega (
+      arith,
+      times-append to front (row ∷ b ∷ bs),
+      times-append to (row ∷ []) (b ∷ bs),
+      times-same to b bs (sym rest.0),
+    )
+ring-closed next last [] row [] way =
+    let same : row ≡ after next row = sym way.0 ∙ ap (after next) (sym way.1) in
+    omega (arith, times-same (after next row) row [] same)
+ring-closed next last (f ∷ fs) row [] way =
+    let rest = leads-back next last (f ∷ fs) row [] last way in
+    let same : f ≡ after next row = sym way.0 ∙ ap (after next) (sym rest) in
+    omega (arith, times-same (after next row) f (fs ++ row ∷ []) same)
+
+-- a row of a chain leads to a row of that chain
+chain-closed : {next : List ℕ} {lasts : List (Option ℕ)} {chains : List (List ℕ)}
+    → Holds next lasts [] chains
+    → (chain row : ℕ) → 0 < times row (chain_in chains chain)
+    → 0 < times (after next row) (chain_in chains chain)
+chain-closed {next} {lasts} {chains} h chain row some = by_last (last_in lasts chain) refl
+  where
+    by_last : (last : Option ℕ) → last_in lasts chain ≡ last
+        → 0 < times (after next row) (chain_in chains chain)
+    by_last None noted = absurd (let e = ap (times row) (none-at h chain noted) in omega arith)
+    by_last (Some last) noted =
+        let parts = around row (chain_in chains chain) some in
+        let P : List ℕ → Type 0 = λ rs. Leads next last rs last in
+        let closed =
+        ring-closed next last parts.0 row parts.1 (subst P parts.2
+        (ring-at h chain last noted).leads) in
+        let e = ap (times (after next row)) parts.2 in omega arith
+
+-- the row whose link leads to the last one of a chain is in that chain
+row-of : {next : List ℕ} {lasts : List (Option ℕ)} {chains : List (List ℕ)}
+    → Holds next lasts [] chains
+    → (chain last row : ℕ) → last_in lasts chain ≡ Some last → row < length next
+    → after next row ≡ last
+    → 0 < times row (chain_in chains chain)
+row-of {next} {lasts} {chains} h chain last row noted small leads =
+    let found = row-in row chains (let once = h.once row small in omega arith) in
+    elim (cases_eq found.0 chain) [
+      | inl same ↦
+          let P : ℕ → Type 0 = λ k. 0 < times row (chain_in chains k) in subst P same found.1
+      | inr apart ↦ absurd (
+          let there = chain-closed h found.0 row found.1 in
+          let e = ap (λ r. times r (chain_in chains found.0)) leads in
+          let here = last-counts next last (chain_in chains chain) (ring-at h chain last noted) in
+          let few = few-in-two h found.0 chain last apart in
+          omega arith)
+    ]
+
+-- some row's link leads to the end of a way
+way-end : (next : List ℕ) (from row : ℕ) (rows : List ℕ) (to : ℕ) → Leads next from (row ∷ rows) to
+    → (x : ℕ) × (after next x ≡ to) × (0 < times x (from ∷ row ∷ rows))
+way-end next from row [] to way =
+    (from, way.0 ∙ way.1, omega (arith, times-same from from (row ∷ []) refl))
+way-end next from row (other ∷ rows) to way =
+    let rest = way-end next row other rows to way.1 in (
+      rest.0,
+      rest.1,
+      let some = rest.2 in
+          omega (arith, times-append rest.0 (from ∷ []) (row ∷ other ∷ rows)),
+    )
+
+-- some row's link leads to the last one of a chain
+pub before-there : {next : List ℕ} {lasts : List (Option ℕ)} {chains : List (List ℕ)}
+    → Holds next lasts [] chains
+    → (chain last : ℕ) → last_in lasts chain ≡ Some last
+    → (x : ℕ) × (x < length next) × (after next x ≡ last)
+before-there {next} {lasts} {chains} h chain last noted =
+    by_rows (chain_in chains chain) refl (ring-at h chain last noted)
+  where
+    by_rows : (rows : List ℕ) → chain_in chains chain ≡ rows → IsRing next last (chain_in chains chain)
+        → (x : ℕ) × (x < length next) × (after next x ≡ last)
+    by_rows [] is ring = absurd (let some = ring.some in let e = ap length is in omega arith)
+    by_rows (row ∷ rows) is ring =
+        let P : List ℕ → Type 0 = λ rs. Leads next last rs last in
+        let end = way-end next last row rows last (subst P is ring.leads) in (
+          end.0,
+          is-row h chain end.0
+              (let some = end.2 in
+              let e = ap (times end.0) is in
+              let counts = last-counts next last (chain_in chains chain) ring in
+              elim (cases_eq last end.0) [
+                | inl same ↦
+                    let there = ap (λ r. times r (chain_in chains chain)) same in omega arith
+                | inr other ↦
+                    let first = times-other end.0 last (row ∷ rows) other in omega arith
+              ]),
+          end.1,
+        )
+
+-- the rows of a chain seen from the row before its last: turned they are as they were
+back-rows : {next : List ℕ} {lasts : List (Option ℕ)} {chains : List (List ℕ)}
+    → Holds next lasts [] chains
+    → (chain last row : ℕ) → last_in lasts chain ≡ Some last → row < length next
+    → after next row ≡ last
+    → (new : List ℕ) × (drop 1 new ++ take 1 new ≡ chain_in chains chain)
+    × Holds next (set lasts chain (Some row)) [] (set chains chain new)
+back-rows {next} {lasts} {chains} h chain last row noted small leads =
+    let ring = ring-at h chain last noted in
+    let parts =
+    around row (chain_in chains chain) (row-of h chain last row noted small leads) in
+    let few = few-in h chain last in
+    elim (ring-before next last (chain_in chains chain) parts.0 row parts.1 ring parts.2 leads
+    (omega arith)) [
+      | inl alone ↦
+          let is : chain_in chains chain ≡ [] ++ row ∷ [] =
+          parts.2 ∙ ap (λ xs. xs ++ row ∷ parts.1) alone.0 ∙ ap (λ xs. row ∷ xs) alone.1 in
+          (row ∷ [], sym is, holds-turned h chain [] row [] is)
+      | inr before ↦
+          let is : chain_in chains chain ≡ parts.0 ++ row ∷ last ∷ [] =
+          parts.2 ∙ ap (λ xs. parts.0 ++ row ∷ xs) before in (
+            last ∷ (parts.0 ++ row ∷ []),
+            append_assoc parts.0 (row ∷ []) (last ∷ []) ∙ sym is,
+            holds-turned h chain parts.0 row (last ∷ []) is,
+          )
+    ]
+
+module _ {T : Type 0} where
+  -- the table then
+  back-table : {next : List ℕ} {lasts : List (Option ℕ)} {rows : List (Option T)}
+      {chains : List (List ℕ)} → IsTable next lasts rows chains
+      → (chain last row : ℕ) → 0 < chain → last_in lasts chain ≡ Some last → row < length next
+      → after next row ≡ last
+      → (new : List ℕ) × (drop 1 new ++ take 1 new ≡ chain_in chains chain)
+      × IsTable next (set lasts chain (Some row)) rows (set chains chain new)
+  back-table {next} {lasts} {rows} {chains} t chain last row shown noted small leads =
+      let back = back-rows t.holds chain last row noted small leads in (
+        back.0,
+        back.1,
+        table-kept t next (set lasts chain (Some row)) (set chains chain back.0) back.2
+            refl (length-set lasts chain (Some row))
+            (in-other chains chain 0 back.0 (λ e. absurd (omega arith))),
+      )
+
+  -- what the walk sees then
+  pub back-made : (links : Links) (rows : List (Option T)) (walk : Option Walk) (w : Walk)
+      (at row : ℕ) → IsSound links rows walk → walk ≡ Some w → w.at ≡ Some at
+      → row < length links.next.items → after links.next.items row ≡ at
+      → (new : List ℕ) × (drop 1 new ++ take 1 new ≡ chain_in (seen_chains links walk) w.chain)
+      × IsTable links.next.items
+      (seen_lasts links.lasts.items (Some (record { chain = w.chain; at = Some row }))) rows
+      (set (seen_chains links walk) w.chain new)
+  back-made links rows walk w at row s is there small leads =
+      let other = sound-at walk (Some w) is s in
+      let lasts = links.lasts.items in
+      let back =
+      back-table other.table w.chain at row other.walks.0 (walk-last w other ∙ there) small leads
+      in (
+        back.0,
+        back.1 ∙ ap (λ k. chain_in (seen_chains links k) w.chain) (sym is),
+        table-at (set (seen_lasts lasts (Some w)) w.chain (Some row))
+            (set lasts w.chain (Some row))
+            (set (seen_chains links (Some w)) w.chain back.0)
+            (set (seen_chains links walk) w.chain back.0)
+            (set-set lasts w.chain w.at (Some row))
+            (ap (λ k. set (seen_chains links k) w.chain back.0) (sym is)) back.2,
+      )
+
+-- chains of which one is seen from the row before its last, turned, are as they were
+pub back-turned : (chains : List (List ℕ)) (chain : ℕ) (new : List ℕ) → chain < length chains
+    → drop 1 new ++ take 1 new ≡ chain_in chains chain
+    → turned (set chains chain new) chain ≡ chains
+back-turned chains chain new within is =
+    ap (λ xs. set (set chains chain new) chain (drop 1 xs ++ take 1 xs))
+    (in-put chains chain new within)
+    ∙ set-set chains chain new (drop 1 new ++ take 1 new)
+    ∙ ap (λ xs. set chains chain xs) is ∙ set-get_or chains chain []

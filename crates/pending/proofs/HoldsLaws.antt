@@ -1,0 +1,655 @@
+-- How each operation on links changes the chains that they hold.
+use Rattle.std.proofs.lemmas.List.Sums.{sum_by_push}
+use Rattle.std.proofs.Common.{zero, suc, get_or, ◌≡◌, ◌≢◌, ℕ, ◌+◌, ◌<◌, ◌≤◌, List, [], ◌∷◌, ◌++◌}
+use Rattle.std.proofs.Common.{length, set, drop, Option, Some, None, refl, ap, sym, ◌∙◌, subst, inl}
+use Rattle.std.proofs.Common.{inr, arith, length-append, length-set}
+use Rattle.std.specs.Prelude.{IfSome}
+use Rattle.std.proofs.lemmas.Bool.{cases_eq, cases_lt}
+use Rattle.std.proofs.lemmas.List.{get_or-set_same, get_or-set_other, get_or_past, set-set}
+use Rattle.std.proofs.lemmas.List.{set-get_or, append-nil, append_assoc}
+use Rattle.pending.specs.Edits.{chain_in, fronted, joined, lengthened, preceded, shortened}
+use Rattle.pending.specs.inside.Rings.{after, last_in, times, times_in, Leads, IsRing, IsChain}
+use Rattle.pending.specs.inside.Rings.{Holds}
+use Rattle.pending.proofs.ListLaws.{one-of, two-of, sum-put, in-put, in-other}
+use Rattle.pending.proofs.RingLaws.{SameBut, times-same, times-other, times-append, leads-append}
+use Rattle.pending.proofs.RingLaws.{leads-kept, leads-end, same-but-one, same-but-two, chain-kept}
+use Rattle.pending.proofs.RingLaws.{ring-parts, ring-turned, sources-none, sources-end, last-counts}
+
+-- what is read of a list that got its default at the end
+pub default-grown : {X : Type 0} (xs : List X) (i : ℕ) (d : X)
+    → get_or (xs ++ d ∷ []) i d ≡ get_or xs i d
+default-grown [] zero d = refl
+default-grown [] (suc i) d = refl
+default-grown (x ∷ xs) zero d = refl
+default-grown (x ∷ xs) (suc i) d = default-grown xs i d
+
+-- a link that is added leads to row 0, as one past the end does
+pub after-grown : (next : List ℕ) (row : ℕ) → after (next ++ 0 ∷ []) row ≡ after next row
+after-grown next row = default-grown next row 0
+
+-- a chain with the same last row and the same rows
+pub chain-at : (next : List ℕ) (last other : Option ℕ) (rows same : List ℕ) → last ≡ other
+    → rows ≡ same → IsChain next last rows
+    → IsChain next other same
+chain-at next last other rows same e d chain =
+    let P : Option ℕ → Type 0 = λ l. IsChain next l rows in
+    let Q : List ℕ → Type 0 = λ rs. IsChain next other rs in
+    subst Q d (subst P e chain)
+
+-- a chain with a last row is there
+pub last-there : (lasts : List (Option ℕ)) (chain last : ℕ) → last_in lasts chain ≡ Some last
+    → chain < length lasts
+last-there lasts chain last is = elim (cases_lt chain (length lasts)) [
+  | inl less ↦ less
+  | inr past ↦ absurd (let e = get_or_past lasts chain None past in cc)
+]
+
+-- a chain with a last row is a ring
+pub ring-at : {next : List ℕ} {lasts : List (Option ℕ)} {loose : List ℕ} {chains : List (List ℕ)}
+    → Holds next lasts loose chains
+    → (chain last : ℕ) → last_in lasts chain ≡ Some last → IsRing next last (chain_in chains chain)
+ring-at {next} {lasts} {loose} {chains} h chain last is =
+    chain-at next (last_in lasts chain) (Some last) (chain_in chains chain)
+    (chain_in chains chain) is refl (h.each chain)
+
+-- a chain without a last row has no rows
+pub none-at : {next : List ℕ} {lasts : List (Option ℕ)} {loose : List ℕ} {chains : List (List ℕ)}
+    → Holds next lasts loose chains
+    → (chain : ℕ) → last_in lasts chain ≡ None → chain_in chains chain ≡ []
+none-at {next} {lasts} {loose} {chains} h chain is =
+    chain-at next (last_in lasts chain) None (chain_in chains chain) (chain_in chains chain) is refl
+    (h.each chain)
+
+-- a row is at most once in all chains and among the loose ones
+pub holds-few : {next : List ℕ} {lasts : List (Option ℕ)} {loose : List ℕ} {chains : List (List ℕ)}
+    → Holds next lasts loose chains
+    → (row : ℕ) → times row loose + times_in row chains ≤ 1
+holds-few {next} h row = elim (cases_lt row (length next)) [
+  | inl less ↦ let e = h.once row less in omega arith
+  | inr past ↦ let e = h.within row past in omega arith
+]
+
+-- a row stands at most once in one chain and among the loose ones
+pub few-in : {next : List ℕ} {lasts : List (Option ℕ)} {loose : List ℕ} {chains : List (List ℕ)}
+    → Holds next lasts loose chains
+    → (chain row : ℕ) → times row loose + times row (chain_in chains chain) ≤ 1
+few-in {next} {lasts} {loose} {chains} h chain row =
+    let few = holds-few h row in
+    let part = one-of (times row) chains chain [] refl in
+    omega arith
+
+-- and at most once in two chains
+pub few-in-two : {next : List ℕ} {lasts : List (Option ℕ)} {loose : List ℕ} {chains : List (List ℕ)}
+    → Holds next lasts loose chains
+    → (chain other row : ℕ) → chain ≢ other
+    → times row loose + times row (chain_in chains chain) + times row (chain_in chains other) ≤ 1
+few-in-two {next} {lasts} {loose} {chains} h chain other row apart =
+    let few = holds-few h row in
+    let part = two-of (times row) chains chain other [] refl apart in
+    omega arith
+
+-- a row of a chain is a row
+pub is-row : {next : List ℕ} {lasts : List (Option ℕ)} {loose : List ℕ} {chains : List (List ℕ)}
+    → Holds next lasts loose chains
+    → (chain row : ℕ) → 0 < times row loose + times row (chain_in chains chain) → row < length next
+is-row {next} {lasts} {loose} {chains} h chain row some = elim (cases_lt row (length next)) [
+  | inl less ↦ less
+  | inr past ↦ absurd (
+      let e = h.within row past in
+      let part = one-of (times row) chains chain [] refl in
+      omega arith)
+]
+
+-- One chain is another one then: what it lacks is loose, and what it has more was loose.
+pub holds-put : {next : List ℕ} {lasts : List (Option ℕ)} {loose : List ℕ} {chains : List (List ℕ)}
+    → Holds next lasts loose chains
+    → (new left : List ℕ) (chain : ℕ) (last : Option ℕ) (rows : List ℕ) → chain < length lasts
+    → length new ≡ length next
+    → IsChain new last rows
+    → ((other : ℕ) → other ≢ chain → IsChain new (last_in lasts other) (chain_in chains other))
+    → ((row : ℕ) → times row left + times row rows
+    ≡ times row loose + times row (chain_in chains chain))
+    → length left + length rows ≡ length loose + length (chain_in chains chain)
+    → Holds new (set lasts chain last) left (set chains chain rows)
+holds-put {next} {lasts} {loose}
+    {chains} h new left chain last rows less long here others same count =
+    let within : chain < length chains = let e = h.size in omega arith in
+    record {
+      size = length-set chains chain rows ∙ h.size ∙ sym (length-set lasts chain last);
+      each = λ other. elim (cases_eq other chain) [
+        | inl is ↦
+            chain-at new last (last_in (set lasts chain last) other) rows
+            (chain_in (set chains chain rows) other)
+            (sym (get_or-set_same lasts chain last None less)
+            ∙ ap (λ c. last_in (set lasts chain last) c) (sym is))
+            (sym (in-put chains chain rows within)
+            ∙ ap (λ c. chain_in (set chains chain rows) c) (sym is))
+            here
+        | inr apart ↦
+            chain-at new (last_in lasts other) (last_in (set lasts chain last) other)
+            (chain_in chains other) (chain_in (set chains chain rows) other)
+            (sym (get_or-set_other lasts chain other last None apart))
+            (sym (in-other chains chain other rows apart))
+            (others other apart)
+      ];
+      once = λ row small.
+          let e = h.once row (omega arith) in
+          let put = sum-put (times row) chains chain rows within in
+          let counts = same row in
+          omega arith;
+      within = λ row past.
+          let e = h.within row (omega arith) in
+          let put = sum-put (times row) chains chain rows within in
+          let counts = same row in
+          omega arith;
+      all =
+          let e = h.all in
+          let put = sum-put length chains chain rows within in
+          omega arith;
+    }
+
+-- The chain seen from another of its rows.
+pub holds-turned : {next : List ℕ} {lasts : List (Option ℕ)} {loose : List ℕ}
+    {chains : List (List ℕ)} → Holds next lasts loose chains
+    → (chain : ℕ) (front : List ℕ) (row : ℕ) (back : List ℕ)
+    → chain_in chains chain ≡ front ++ row ∷ back
+    → Holds next (set lasts chain (Some row)) loose (set chains chain (back ++ (front ++ row ∷ [])))
+holds-turned {next} {lasts} {loose} {chains} h chain front row back is =
+    by_last (last_in lasts chain) refl
+  where
+    at : (last : ℕ) → last_in lasts chain ≡ Some last
+        → Holds next (set lasts chain (Some row)) loose
+        (set chains chain (back ++ (front ++ row ∷ [])))
+    at last there =
+        let ring = ring-at h chain last there in
+        let P : List ℕ → Type 0 = λ rows. IsRing next last rows in
+        let turned = ring-turned next last front row back (subst P is ring) in
+        holds-put h next loose chain (Some row) (back ++ (front ++ row ∷ []))
+        (last-there lasts chain last there) refl turned
+        (λ other apart. h.each other)
+        (λ r. let e = ap (times r) is in
+        omega (
+          arith,
+          times-append r front (row ∷ back),
+          times-append r back
+              (front ++ row ∷ []),
+          times-append r front (row ∷ []),
+        ))
+        (let e = ap length is in
+        omega (
+          arith,
+          length-append front (row ∷ back),
+          length-append back (front ++ row ∷ []),
+          length-append front (row ∷ []),
+        ))
+
+    by_last : (last : Option ℕ) → last_in lasts chain ≡ last
+        → Holds next (set lasts chain (Some row)) loose
+        (set chains chain (back ++ (front ++ row ∷ [])))
+    by_last (Some last) there = at last there
+    by_last None there = absurd (
+        let e = ap length (sym (none-at h chain there) ∙ is) in
+        omega (arith, length-append front (row ∷ back)))
+
+-- the chain forgotten: its rows are loose
+pub holds-loosened : {next : List ℕ} {lasts : List (Option ℕ)} {loose : List ℕ}
+    {chains : List (List ℕ)} → Holds next lasts loose chains
+    → (chain : ℕ) → chain < length lasts
+    → Holds next (set lasts chain None) (chain_in chains chain ++ loose) (set chains chain [])
+holds-loosened {next} {lasts} {loose} {chains} h chain less =
+    holds-put h next (chain_in chains chain ++ loose) chain None [] less refl refl
+    (λ other apart. h.each other)
+    (λ row. omega (arith, times-append row (chain_in chains chain) loose))
+    (omega (arith, length-append (chain_in chains chain) loose))
+
+-- the first row of a chain, and that the others come after it
+pub record IsFirst (next : List ℕ) (last : ℕ) (rows rest : List ℕ) : Type 0 where
+  pub is : rows ≡ after next last ∷ rest
+  pub leads : Leads next (after next last) rest last
+  pub behind : drop 1 rows ≡ rest
+
+-- a ring has a first row
+pub first-of : {next : List ℕ} {last : ℕ} {rows : List ℕ} → IsRing next last rows
+    → (rest : List ℕ) × IsFirst next last rows rest
+first-of {next} {last} {rows} ring =
+    let parts = ring-parts next last rows ring in
+    (parts.0, record { is = parts.1; leads = parts.2; behind = ap (λ rs. drop 1 rs) parts.1 })
+
+-- the first row of a chain is a row
+pub first-is-row : {next : List ℕ} {lasts : List (Option ℕ)} {loose : List ℕ}
+    {chains : List (List ℕ)} → Holds next lasts loose chains
+    → (chain last : ℕ) → last_in lasts chain ≡ Some last → after next last < length next
+first-is-row {next} {lasts} {loose} {chains} h chain last there =
+    let first = first-of (ring-at h chain last there) in
+    let e = ap (times (after next last)) (first.1).is in
+    is-row h chain (after next last)
+    (omega (arith, times-same (after next last) (after next last) first.0 refl))
+
+-- the last row of a chain is a row
+pub last-is-row : {next : List ℕ} {lasts : List (Option ℕ)} {loose : List ℕ}
+    {chains : List (List ℕ)} → Holds next lasts loose chains
+    → (chain last : ℕ) → last_in lasts chain ≡ Some last → last < length next
+last-is-row {next} {lasts} {loose} {chains} h chain last there =
+    is-row h chain last
+    (let some = last-counts next last (chain_in chains chain) (ring-at h chain last there) in
+    omega arith)
+
+-- what is noted of a chain is a row, if there is one
+pub noted-is-row : {next : List ℕ} {lasts : List (Option ℕ)} {loose : List ℕ}
+    {chains : List (List ℕ)} → Holds next lasts loose chains
+    → (chain : ℕ) (last : Option ℕ) → last_in lasts chain ≡ last
+    → IfSome last (λ row. row < length next)
+noted-is-row h chain None there = tt
+noted-is-row h chain (Some last) there = last-is-row h chain last there
+
+-- a loose row is a row
+pub loose-is-row : {next : List ℕ} {lasts : List (Option ℕ)} {chains : List (List ℕ)}
+    (row : ℕ) (loose : List ℕ) → Holds next lasts (row ∷ loose) chains → row < length next
+loose-is-row row loose h =
+    is-row h 0 row (let one = times-same row row loose refl in omega arith)
+
+-- the last row of a loose ring is a row
+pub ring-is-row : {next : List ℕ} {lasts : List (Option ℕ)} {chains : List (List ℕ)} (last : ℕ)
+    (rows loose : List ℕ) → Holds next lasts (rows ++ loose) chains → IsRing next last rows
+    → last < length next
+ring-is-row {next} last rows loose h ring =
+    is-row h 0 last
+    (let some = last-counts next last rows ring in omega (arith, times-append last rows loose))
+
+-- The first row taken out of a chain that has others: the last leads to the one behind it.
+pub holds-cut : {next : List ℕ} {lasts : List (Option ℕ)} {loose : List ℕ} {chains : List (List ℕ)}
+    → Holds next lasts loose chains
+    → (chain last : ℕ) → last_in lasts chain ≡ Some last → after next last ≢ last
+    → Holds (set next last (after next (after next last))) (set lasts chain (Some last))
+    (after next last ∷ loose) (shortened chains chain)
+holds-cut {next} {lasts} {loose} {chains} h chain last there apart =
+    let ring = ring-at h chain last there in
+    let first = first-of ring in
+    by_rest first.0 first.1
+  where
+    new : List ℕ
+    new = set next last (after next (after next last))
+
+    small : last < length next
+    small = last-is-row h chain last there
+
+    by_rest : (rest : List ℕ) → IsFirst next last (chain_in chains chain) rest
+        → Holds (set next last (after next (after next last))) (set lasts chain (Some last))
+        (after next last ∷ loose) (shortened chains chain)
+    by_rest [] first = absurd (apart first.leads)
+    by_rest (second ∷ rest) first =
+        let same = same-but-one next last (after next (after next last)) in
+        let few = few-in h chain last in
+        let e = ap (times last) first.is in
+        let lone : times last (second ∷ rest) ≤ 1 =
+        omega (arith, times-other last (after next last) (second ∷ rest) apart) in
+        let none = sources-end next second rest last first.leads.1 lone in
+        let kept = leads-kept next new second rest last last last first.leads.1 same none none in
+        let ring : IsRing new last (second ∷ rest) = record {
+          leads = (
+            get_or-set_same next last (after next (after next last)) 0 small ∙ first.leads.0,
+            kept,
+          );
+          some = omega arith;
+        } in
+        holds-put h new (after next last ∷ loose) chain (Some last) (drop 1 (chain_in chains chain))
+        (last-there lasts chain last there)
+        (length-set next last (after next (after next last)))
+        (let P : List ℕ → Type 0 = λ rows. IsRing new last rows in subst P (sym first.behind) ring)
+        (λ other away.
+        let none : times last (chain_in chains other) ≡ 0 =
+        let two = few-in-two h chain other last (λ d. away (sym d)) in
+        let some = last-counts next last (chain_in chains chain) (ring-at h chain last there) in
+        omega arith in
+        chain-kept next new (last_in lasts other) (chain_in chains other) last last
+        (h.each other) same none none)
+        (λ row. let d = ap (times row) first.is in
+        let b = ap (times row) first.behind in omega arith)
+        (let d = ap length first.is in let b = ap length first.behind in omega arith)
+
+-- the only row taken out of a chain
+pub holds-emptied : {next : List ℕ} {lasts : List (Option ℕ)} {loose : List ℕ}
+    {chains : List (List ℕ)} → Holds next lasts loose chains
+    → (chain last : ℕ) → last_in lasts chain ≡ Some last → after next last ≡ last
+    → Holds next (set lasts chain None) (after next last ∷ loose) (shortened chains chain)
+holds-emptied {next} {lasts} {loose} {chains} h chain last there same =
+    let ring = ring-at h chain last there in
+    let first = first-of ring in
+    by_rest first.0 first.1
+  where
+    by_rest : (rest : List ℕ) → IsFirst next last (chain_in chains chain) rest
+        → Holds next (set lasts chain None) (after next last ∷ loose) (shortened chains chain)
+    by_rest [] first =
+        holds-put h next (after next last ∷ loose) chain None (drop 1 (chain_in chains chain))
+        (last-there lasts chain last there) refl
+        first.behind
+        (λ other away. h.each other)
+        (λ row. let d = ap (times row) first.is in
+        let b = ap (times row) first.behind in omega arith)
+        (let d = ap length first.is in let b = ap length first.behind in omega arith)
+    by_rest (second ∷ rest) first = absurd (
+        let few = few-in h chain last in
+        let e = ap (times last) first.is in
+        let front = times-same last (after next last) (second ∷ rest) same in
+        let end = leads-end next (after next last) second rest last first.leads in
+        let one = times-same last last [] refl in
+        let d = ap (times last) end.1 in
+        omega (arith, times-append last end.0 (last ∷ [])))
+
+-- a loose row before the first of a chain that has rows
+pub holds-preceded : {next : List ℕ} {lasts : List (Option ℕ)} {loose : List ℕ}
+    {chains : List (List ℕ)} {row : ℕ}
+    → Holds next lasts (row ∷ loose) chains → (chain last : ℕ) → last_in lasts chain ≡ Some last
+    → Holds (set (set next row (after next last)) last row) (set lasts chain (Some last)) loose
+    (preceded chains chain row)
+holds-preceded {next} {lasts} {loose} {chains} {row} h chain last there =
+    let ring = ring-at h chain last there in
+    let first = first-of ring in
+    by_rest first.0 first.1
+  where
+    new : List ℕ
+    new = set (set next row (after next last)) last row
+
+    by_rest : (rest : List ℕ) → IsFirst next last (chain_in chains chain) rest
+        → Holds (set (set next row (after next last)) last row) (set lasts chain (Some last)) loose
+        (preceded chains chain row)
+    by_rest rest first =
+        let one = times-same row row loose refl in
+        let ring = ring-at h chain last there in
+        let some = last-counts next last (chain_in chains chain) ring in
+        let small : last < length next = last-is-row h chain last there in
+        let little : row < length next = is-row h chain row (omega arith) in
+        let away : row ≢ last = λ e. absurd (
+        let few = few-in h chain row in
+        let d = ap (λ r. times r (chain_in chains chain)) e in
+        omega arith) in
+        let same = same-but-two next row (after next last) last row in
+        let none : times row (chain_in chains chain) ≡ 0 = let few = few-in h chain row in
+        omega arith in
+        let e = ap (times row) first.is in
+        let d = ap (times last) first.is in
+        let few = few-in h chain last in
+        let kept = leads-kept next new (after next last) rest last row last first.leads same
+        (sources-none next (after next last) rest last row first.leads (omega arith))
+        (sources-end next (after next last) rest last first.leads (omega arith)) in
+        let leads : Leads new last (row ∷ after next last ∷ rest) last = (
+          get_or-set_same (set next row (after next last)) last row 0
+              (omega (arith, length-set next row (after next last))),
+          (
+            get_or-set_other (set next row (after next last)) last row row 0 away
+                ∙ get_or-set_same next row (after next last) 0 little,
+            kept,
+          ),
+        ) in
+        let P : List ℕ → Type 0 = λ rows. Leads new last (row ∷ rows) last in
+        holds-put h new loose chain (Some last) (row ∷ chain_in chains chain)
+        (last-there lasts chain last there)
+        (length-set (set next row (after next last)) last row
+        ∙ length-set next row (after next last))
+        (record { leads = subst P (sym first.is) leads; some = omega arith })
+        (λ other apart.
+        let two = few-in-two h chain other last (λ b. apart (sym b)) in
+        let lone = few-in h other row in
+        chain-kept next new (last_in lasts other) (chain_in chains other) row last
+        (h.each other) same (omega arith) (omega arith))
+        (λ r. omega arith)
+        (omega arith)
+
+-- a loose row as the only one of a chain
+pub holds-begun : {next : List ℕ} {lasts : List (Option ℕ)} {loose : List ℕ}
+    {chains : List (List ℕ)} {row : ℕ}
+    → Holds next lasts (row ∷ loose) chains → (chain : ℕ) → chain < length lasts
+    → last_in lasts chain ≡ None
+    → Holds (set next row row) (set lasts chain (Some row)) loose (preceded chains chain row)
+holds-begun {next} {lasts} {loose} {chains} {row} h chain less there =
+    let one = times-same row row loose refl in
+    let little : row < length next = is-row h chain row (omega arith) in
+    let empty = none-at h chain there in
+    let same = same-but-one next row row in
+    let P : List ℕ → Type 0 = λ rows. IsRing (set next row row) row (row ∷ rows) in
+    holds-put h (set next row row) loose chain (Some row) (row ∷ chain_in chains chain) less
+    (length-set next row row)
+    (subst P (sym empty) (record {
+      leads = (get_or-set_same next row row 0 little, refl);
+      some = omega arith;
+    }))
+    (λ other apart.
+    let few = few-in h other row in
+    chain-kept next (set next row row) (last_in lasts other) (chain_in chains other) row row
+    (h.each other) same (omega arith) (omega arith))
+    (λ r. omega arith)
+    (omega arith)
+
+-- a loose ring before the first of a chain that has rows: the two links exchanged
+pub holds-embraced : {next : List ℕ} {lasts : List (Option ℕ)} {loose : List ℕ}
+    {chains : List (List ℕ)} (two : ℕ) (rows : List ℕ)
+    → Holds next lasts (rows ++ loose) chains → IsRing next two rows → (chain one : ℕ)
+    → last_in lasts chain ≡ Some one
+    → Holds (set (set next one (after next two)) two (after next one))
+    (set lasts chain (Some one)) loose
+    (set chains chain (rows ++ chain_in chains chain))
+holds-embraced {next} {lasts} {loose} {chains} two rows h moved chain one there =
+    let first = first-of (ring-at h chain one there) in
+    let other = first-of moved in
+    by_rests first.0 first.1 other.0 other.1
+  where
+    new : List ℕ
+    new = set (set next one (after next two)) two (after next one)
+
+    by_rests : (rest : List ℕ) → IsFirst next one (chain_in chains chain) rest → (more : List ℕ)
+        → IsFirst next two rows more
+        → Holds (set (set next one (after next two)) two (after next one))
+        (set lasts chain (Some one)) loose
+        (set chains chain (rows ++ chain_in chains chain))
+    by_rests rest first more other =
+        let ring = ring-at h chain one there in
+        let some = last-counts next one (chain_in chains chain) ring in
+        let any = last-counts next two rows moved in
+        let few_one = few-in h chain one in
+        let few_two = few-in h chain two in
+        let split_one = times-append one rows loose in
+        let split_two = times-append two rows loose in
+        let small : one < length next = last-is-row h chain one there in
+        let little : two < length next = is-row h chain two (omega arith) in
+        let away : one ≢ two = λ e. absurd (let d = ap (λ r. times r rows) e in omega arith) in
+        let same = same-but-two next one (after next two) two (after next one) in
+        let one_here = ap (times one) first.is in
+        let two_here = ap (times two) first.is in
+        let one_moved = ap (times one) other.is in
+        let two_moved = ap (times two) other.is in
+        let kept : Leads new (after next one) rest one =
+        leads-kept next new (after next one) rest one one two first.leads same
+        (sources-end next (after next one) rest one first.leads (omega arith))
+        (sources-none next (after next one) rest one two first.leads (omega arith)) in
+        let went : Leads new (after next two) more two =
+        leads-kept next new (after next two) more two one two other.leads same
+        (sources-none next (after next two) more two one other.leads (omega arith))
+        (sources-end next (after next two) more two other.leads (omega arith)) in
+        let P : List ℕ → Type 0 = λ rs. Leads new one rs two in
+        let front : Leads new one rows two = subst P (sym other.is) (
+          get_or-set_other (set next one (after next two)) two one (after next one) 0 away
+              ∙ get_or-set_same next one (after next two) 0 small,
+          went,
+        ) in
+        let Q : List ℕ → Type 0 = λ rs. Leads new two rs one in
+        let back : Leads new two (chain_in chains chain) one = subst Q (sym first.is) (
+          get_or-set_same (set next one (after next two)) two (after next one) 0
+              (omega (arith, length-set next one (after next two))),
+          kept,
+        ) in
+        holds-put h new loose chain (Some one) (rows ++ chain_in chains chain)
+        (last-there lasts chain one there)
+        (length-set (set next one (after next two)) two (after next one)
+        ∙ length-set next one (after next two))
+        (record {
+          leads = leads-append new one rows two (chain_in chains chain) one front back;
+          some =
+              let d = ap length first.is in
+              omega (arith, length-append rows (chain_in chains chain));
+        })
+        (λ c apart.
+        let pair = few-in-two h chain c one (λ b. apart (sym b)) in
+        let lone = few-in h c two in
+        chain-kept next new (last_in lasts c) (chain_in chains c) one two (h.each c) same
+        (omega arith) (omega arith))
+        (λ r. omega (arith, times-append r rows loose, times-append r rows (chain_in chains chain)))
+        (omega (arith, length-append rows loose, length-append rows (chain_in chains chain)))
+
+-- loose rows that are a ring as the rows of a chain that has none
+pub holds-named : {next : List ℕ} {lasts : List (Option ℕ)} {loose : List ℕ}
+    {chains : List (List ℕ)} (two : ℕ) (rows : List ℕ)
+    → Holds next lasts (rows ++ loose) chains → IsRing next two rows → (chain : ℕ)
+    → chain < length lasts → last_in lasts chain ≡ None
+    → Holds next (set lasts chain (Some two)) loose
+    (set chains chain (rows ++ chain_in chains chain))
+holds-named {next} {lasts} {loose} {chains} two rows h moved chain less there =
+    let empty = none-at h chain there in
+    let P : List ℕ → Type 0 = λ rs. IsRing next two rs in
+    let e : rows ≡ rows ++ chain_in chains chain =
+    sym (ap (λ rs. rows ++ rs) empty ∙ append-nil rows) in
+    holds-put h next loose chain (Some two) (rows ++ chain_in chains chain) less refl
+    (subst P e moved)
+    (λ other apart. h.each other)
+    (λ r. omega (arith, times-append r rows loose, times-append r rows (chain_in chains chain)))
+    (omega (arith, length-append rows loose, length-append rows (chain_in chains chain)))
+
+-- the same chains, noted in an equal way
+pub holds-at : {next : List ℕ} {loose : List ℕ} (lasts other : List (Option ℕ))
+    (chains same : List (List ℕ)) → lasts ≡ other → chains ≡ same
+    → Holds next lasts loose chains → Holds next other loose same
+holds-at {next} {loose} lasts other chains same e d h =
+    let P : List (Option ℕ) → Type 0 = λ ls. Holds next ls loose chains in
+    let Q : List (List ℕ) → Type 0 = λ cs. Holds next other loose cs in
+    subst Q d (subst P e h)
+
+-- the last row of a chain, written as it is, changes nothing
+pub last-again : (lasts : List (Option ℕ)) (chain : ℕ) (last : Option ℕ)
+    → last_in lasts chain ≡ last → set lasts chain last ≡ lasts
+last-again lasts chain last is = ap (λ l. set lasts chain l) (sym is) ∙ set-get_or lasts chain None
+
+-- one chain put before another that has rows
+pub holds-fronted : {next : List ℕ} {lasts : List (Option ℕ)} {loose : List ℕ}
+    {chains : List (List ℕ)} → Holds next lasts loose chains
+    → (from onto : ℕ) → from ≢ onto → from < length lasts → (new : List ℕ) (noted : List (Option ℕ))
+    → (Holds next (set lasts from None) (chain_in chains from ++ loose) (set chains from [])
+    → Holds new noted loose (set (set chains from []) onto
+    (chain_in chains from ++ chain_in (set chains from []) onto)))
+    → Holds new noted loose (fronted chains from onto)
+holds-fronted {next} {lasts} {loose} {chains} h from onto apart less new noted step =
+    let e = in-other chains from onto [] (λ d. apart (sym d)) in
+    holds-at noted noted (set (set chains from []) onto
+    (chain_in chains from ++ chain_in (set chains from []) onto))
+    (fronted chains from onto) refl
+    (ap (λ rows. set (set chains from []) onto (chain_in chains from ++ rows)) e)
+    (step (holds-loosened h from less))
+
+-- one chain put before another, seen from its last row: it comes after the other
+pub holds-joined : {next : List ℕ} {lasts : List (Option ℕ)} {loose : List ℕ}
+    {chains : List (List ℕ)} → Holds next lasts loose chains
+    → (from onto last : ℕ) → last_in lasts from ≡ Some last → onto < length lasts
+    → (new : List ℕ) (noted : List (Option ℕ)) → Holds new noted loose (fronted chains from onto)
+    → Holds new (set noted onto (Some last)) loose (joined chains from onto)
+holds-joined {next} {lasts} {loose} {chains} h from onto last there less new noted then =
+    let first = first-of (ring-at h from last there) in
+    by_front first.0 first.1
+    (leads-end next last (after next last) first.0 last (refl, (first.1).leads))
+  where
+    within : onto < length (set chains from [])
+    within = let e = h.size in omega (arith, length-set chains from [])
+
+    by_front : (rest : List ℕ) → IsFirst next last (chain_in chains from) rest
+        → (front : List ℕ) × (after next last ∷ rest ≡ front ++ last ∷ [])
+        → Holds new (set noted onto (Some last)) loose (joined chains from onto)
+    by_front rest first end =
+        let rows : chain_in chains from ≡ end.0 ++ last ∷ [] = first.is ∙ end.1 in
+        let here : chain_in (fronted chains from onto) onto ≡ end.0 ++ last ∷ chain_in chains onto =
+        in-put (set chains from []) onto (chain_in chains from ++ chain_in chains onto) within
+        ∙ ap (λ rs. rs ++ chain_in chains onto) rows ∙ append_assoc end.0 (last ∷ [])
+        (chain_in chains onto) in
+        holds-at (set noted onto (Some last)) (set noted onto (Some last))
+        (set (fronted chains from onto) onto (chain_in chains onto ++ (end.0 ++ last ∷ [])))
+        (joined chains from onto) refl
+        (set-set (set chains from []) onto (chain_in chains from ++ chain_in chains onto)
+        (chain_in chains onto ++ (end.0 ++ last ∷ []))
+        ∙ ap (λ rs. set (set chains from []) onto (chain_in chains onto ++ rs)) (sym rows))
+        (holds-turned then onto end.0 last (chain_in chains onto) here)
+
+-- a row put before a chain, which is then seen from it: it comes after the others
+pub holds-lengthened : (new : List ℕ) (noted : List (Option ℕ)) (loose : List ℕ)
+    (chains : List (List ℕ)) (chain row : ℕ) → chain < length chains
+    → Holds new noted loose (preceded chains chain row)
+    → Holds new (set noted chain (Some row)) loose (lengthened chains chain row)
+holds-lengthened new noted loose chains chain row less h =
+    holds-at (set noted chain (Some row)) (set noted chain (Some row))
+    (set (preceded chains chain row) chain (chain_in chains chain ++ row ∷ []))
+    (lengthened chains chain row) refl
+    (set-set chains chain (row ∷ chain_in chains chain) (chain_in chains chain ++ row ∷ []))
+    (holds-turned h chain [] row (chain_in chains chain)
+    (in-put chains chain (row ∷ chain_in chains chain) less))
+
+-- links that lead to the same rows hold the same chains
+pub holds-same : {lasts : List (Option ℕ)} {loose : List ℕ} {chains : List (List ℕ)}
+    (next new : List ℕ) (noted : List (Option ℕ)) → new ≡ next → noted ≡ lasts
+    → Holds next lasts loose chains → Holds new noted loose chains
+holds-same {lasts} {loose} {chains} next new noted e d h =
+    let P : List ℕ → Type 0 = λ n. Holds n noted loose chains in
+    let Q : List (Option ℕ) → Type 0 = λ l. Holds next l loose chains in
+    subst P (sym e) (subst Q (sym d) h)
+
+-- a ring in equal links
+pub ring-same : (next new : List ℕ) (last : ℕ) (rows : List ℕ) → new ≡ next → IsRing next last rows
+    → IsRing new last rows
+ring-same next new last rows e ring =
+    let P : List ℕ → Type 0 = λ n. IsRing n last rows in subst P (sym e) ring
+
+-- one more row, in no chain
+pub holds-grown : {next : List ℕ} {lasts : List (Option ℕ)} {chains : List (List ℕ)}
+    → Holds next lasts [] chains
+    → Holds (next ++ 0 ∷ []) lasts (length next ∷ []) chains
+holds-grown {next} {lasts} {chains} h =
+    let same : SameBut next (next ++ 0 ∷ []) (length next) (length next) =
+    record { at = λ row _ _. after-grown next row } in
+    record {
+      size = h.size;
+      each = λ chain.
+          let none : times (length next) (chain_in chains chain) ≡ 0 =
+          let part = one-of (times (length next)) chains chain [] refl in
+          let past = h.within (length next) (omega arith) in
+          omega arith in
+          chain-kept next (next ++ 0 ∷ []) (last_in lasts chain) (chain_in chains chain)
+          (length next) (length next) (h.each chain) same none none;
+      once = λ row less. elim (cases_eq (length next) row) [
+        | inl is ↦
+            let one = times-same row (length next) [] is in
+            let past = h.within row (omega arith) in
+            omega arith
+        | inr apart ↦
+            let none = times-other row (length next) [] apart in
+            let here = h.once row (omega (arith, length-append next (0 ∷ []))) in
+            omega arith
+      ];
+      within = λ row past.
+          let long = length-append next (0 ∷ []) in
+          let none = times-other row (length next) [] (λ e. absurd (omega arith)) in
+          let beyond = h.within row (omega arith) in
+          omega arith;
+      all = let e = h.all in omega (arith, length-append next (0 ∷ []));
+    }
+
+-- one more chain, with no rows
+pub holds-more : {next : List ℕ} {lasts : List (Option ℕ)} {loose : List ℕ} {chains : List (List ℕ)}
+    → Holds next lasts loose chains
+    → Holds next (lasts ++ None ∷ []) loose (chains ++ [] ∷ [])
+holds-more {next} {lasts} {loose} {chains} h = record {
+  size =
+      let e = h.size in
+      omega (arith, length-append lasts (None ∷ []), length-append chains ([] ∷ []));
+  each =
+      λ chain. chain-at next (last_in lasts chain) (last_in (lasts ++ None ∷ []) chain)
+      (chain_in chains chain) (chain_in (chains ++ [] ∷ []) chain)
+      (sym (default-grown lasts chain None)) (sym (default-grown chains chain [])) (h.each chain);
+  once = λ row less. let e = h.once row less in omega (arith, sum_by_push (times row) chains []);
+  within =
+      λ row past. let e = h.within row past in omega (arith, sum_by_push (times row) chains []);
+  all = let e = h.all in omega (arith, sum_by_push length chains []);
+}

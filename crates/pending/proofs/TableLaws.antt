@@ -1,0 +1,137 @@
+-- How the calls change the table.
+use Rattle.std.proofs.Common.{◌≡◌, ℕ, ◌<◌, List, [], length, set, Option, Some, None, refl, ap, sym}
+use Rattle.std.proofs.Common.{◌∙◌, subst, arith, length-append, ◌++◌, ◌∷◌}
+use Rattle.std.proofs.lemmas.List.{set-append_left}
+use Rattle.pending.specs.declared.chains.links.Links.{Links}
+use Rattle.pending.specs.declared.chains.walk.Walk.{Walk}
+use Rattle.pending.specs.Edits.{chain_in}
+use Rattle.pending.specs.ChainsView.{KeepsRoom}
+use Rattle.pending.specs.inside.Rings.{times, Holds}
+use Rattle.pending.specs.inside.ChainSteps.{Changes}
+use Rattle.pending.specs.inside.Tables.{seen_chains, seen_lasts, shown_of, walked_in, IsSound}
+use Rattle.pending.specs.inside.Tables.{IsTable, IsWalk}
+use Rattle.pending.proofs.ListLaws.{in-other}
+use Rattle.pending.proofs.FoundLaws.{chains-found}
+
+-- between walks the last rows are seen as they are noted
+pub seen-rest : (lasts : List (Option ℕ)) (walk : Option Walk) → walked_in walk ≡ None
+    → seen_lasts lasts walk ≡ lasts
+seen-rest lasts None rest = refl
+seen-rest lasts (Some walk) rest = cc
+
+-- between walks nothing is asked of the walk
+pub walk-rest : (lasts : List (Option ℕ)) (walk : Option Walk) → walked_in walk ≡ None
+    → IsWalk lasts walk
+walk-rest lasts None rest = tt
+walk-rest lasts (Some walk) rest = absurd (cc)
+
+-- a chain that is neither of two that were written
+pub in-neither : (chains : List (List ℕ)) (from onto : ℕ) (left all : List ℕ) → 0 < from → 0 < onto
+    → chain_in (set (set chains from left) onto all) 0 ≡ chain_in chains 0
+in-neither chains from onto left all some more =
+    in-other (set chains from left) onto 0 all (λ e. absurd (omega arith))
+    ∙ in-other chains from 0 left (λ e. absurd (omega arith))
+
+-- one more chain is seen as it is noted
+pub seen-grown : (lasts : List (Option ℕ)) (walk : Option Walk) → IsWalk lasts walk
+    → seen_lasts (lasts ++ None ∷ []) walk ≡ seen_lasts lasts walk ++ None ∷ []
+seen-grown lasts None walks = refl
+seen-grown lasts (Some walk) walks = set-append_left lasts (None ∷ []) walk.chain walk.at walks.1
+
+-- the walk goes on among more chains
+pub walk-grown : (lasts : List (Option ℕ)) (walk : Option Walk) → IsWalk lasts walk
+    → IsWalk (lasts ++ None ∷ []) walk
+walk-grown lasts None walks = tt
+walk-grown lasts (Some walk) walks =
+    (walks.0, (let less = walks.1 in omega (arith, length-append lasts (None ∷ []))))
+
+module _ {T : Type 0} where
+  -- the same table, with its chains and last rows noted in an equal way
+  pub table-at : {next : List ℕ} {rows : List (Option T)} (lasts other : List (Option ℕ))
+      (chains same : List (List ℕ)) → lasts ≡ other → chains ≡ same
+      → IsTable next lasts rows chains → IsTable next other rows same
+  table-at {next} {rows} lasts other chains same e d t =
+      let P : List (Option ℕ) → Type 0 = λ ls. IsTable next ls rows chains in
+      let Q : List (List ℕ) → Type 0 = λ cs. IsTable next other rows cs in
+      subst Q d (subst P e t)
+
+  -- between walks the table is as it is noted
+  pub table-rest : {links : Links} {rows : List (Option T)} {walk : Option Walk}
+      → IsSound links rows walk → walked_in walk ≡ None
+      → IsTable links.next.items links.lasts.items rows (seen_chains links walk)
+  table-rest {links} {rows} {walk} s rest =
+      table-at (seen_lasts links.lasts.items walk) links.lasts.items (seen_chains links walk)
+      (seen_chains links walk) (seen-rest links.lasts.items walk rest) refl s.table
+
+  -- the chains of a table are those that are seen
+  pub seen-of : (links : Links) (rows : List (Option T)) (walk : Option Walk)
+      (chains : List (List ℕ))
+      → IsTable links.next.items (seen_lasts links.lasts.items walk) rows chains
+      → seen_chains links walk ≡ chains
+  seen-of links rows walk chains t = sym (chains-found t.holds)
+
+  -- a table with some chains is sound
+  pub sound-of : (links : Links) (rows : List (Option T)) (walk : Option Walk)
+      (chains : List (List ℕ))
+      → IsTable links.next.items (seen_lasts links.lasts.items walk) rows chains
+      → IsWalk links.lasts.items walk → IsSound links rows walk
+  sound-of links rows walk chains t walks = record {
+    table =
+        table-at (seen_lasts links.lasts.items walk) (seen_lasts links.lasts.items walk) chains
+        (seen_chains links walk) refl (chains-found t.holds) t;
+    walks = walks;
+  }
+
+  -- a table that was written between walks is seen as it is noted
+  pub table-seen : (links : Links) (rows : List (Option T)) (walk : Option Walk)
+      (chains : List (List ℕ)) → walked_in walk ≡ None
+      → IsTable links.next.items links.lasts.items rows chains
+      → IsTable links.next.items (seen_lasts links.lasts.items walk) rows chains
+  table-seen links rows walk chains rest t =
+      table-at links.lasts.items (seen_lasts links.lasts.items walk) chains chains
+      (sym (seen-rest links.lasts.items walk rest)) refl t
+
+  -- a table whose free rows and values stay
+  pub table-kept : {next : List ℕ} {lasts : List (Option ℕ)} {rows : List (Option T)}
+      {chains : List (List ℕ)} → IsTable next lasts rows chains
+      → (new : List ℕ) (noted : List (Option ℕ)) (other : List (List ℕ)) → Holds new noted [] other
+      → length new ≡ length next
+      → length noted ≡ length lasts → chain_in other 0 ≡ chain_in chains 0
+      → IsTable new noted rows other
+  table-kept {next} {lasts} {rows} {chains} t new noted other h long as_many same = record {
+    holds = h;
+    sized = t.sized ∙ sym long;
+    free = let f = t.free in omega arith;
+    full = λ row less. let f = t.full row less in let e = ap (times row) same in omega arith;
+  }
+
+  -- as much room where the free rows stay
+  pub keeps-room : (links new : Links) (rows : List (Option T)) (capacity most : ℕ)
+      (walk later : Option Walk) → Changes links new most
+      → chain_in (seen_chains new later) 0 ≡ chain_in (seen_chains links walk) 0
+      → KeepsRoom (shown_of links rows capacity walk) (shown_of new rows capacity later)
+  keeps-room links new rows capacity most walk later changes same =
+      let capacities = changes.row_room in
+      let counts = changes.rows in
+      let room = changes.chain_room in
+      let chains = changes.chains in
+      let free = ap length same in
+      record {
+        rows = refl;
+        room = omega arith;
+        spare = omega arith;
+      }
+
+  -- the table after links were written between walks, where the free rows and the values stay
+  pub table-moved : {links : Links} {rows : List (Option T)} {walk : Option Walk}
+      → IsSound links rows walk → walked_in walk ≡ None
+      → (new : Links) (most : ℕ) → Changes links new most → (other : List (List ℕ))
+      → (Holds links.next.items links.lasts.items [] (seen_chains links walk)
+      → Holds new.next.items new.lasts.items [] other)
+      → chain_in other 0 ≡ chain_in (seen_chains links walk) 0
+      → IsTable new.next.items (seen_lasts new.lasts.items walk) rows other
+  table-moved {links} {rows} {walk} s rest new most changes other step same =
+      let t = table-rest s rest in
+      table-seen new rows walk other rest
+      (table-kept t new.next.items new.lasts.items other
+      (step t.holds) changes.rows changes.chains same)

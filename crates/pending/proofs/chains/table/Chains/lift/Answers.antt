@@ -1,0 +1,123 @@
+use Rattle.std.proofs.Common.{[], ◌++◌, map, drop, take, Some, refl, ap, sym, ◌∙◌, arith}
+use Rattle.std.proofs.Common.{vec_capacity}
+use Rattle.pending.specs.Edits.{chain_in, lifted}
+use Rattle.pending.specs.inside.Tables.{seen_chains, seen_lasts, values_of, walked_in, IsTable}
+use Rattle.pending.proofs.HoldsLaws.{last-is-row, none-at}
+use Rattle.pending.proofs.ValueLaws.{chain-map}
+use Rattle.pending.proofs.TableLaws.{in-neither, keeps-room, seen-of, sound-of}
+use Rattle.pending.proofs.WalkLaws.{both-changes, lift-within, nothing-lifted, shown-lifted}
+use Rattle.pending.proofs.WalkLaws.{sound-at, walk-last, walked-is, walked-last, lift-cut}
+use Rattle.pending.proofs.WalkLaws.{lift-loose, lift-made}
+use Rattle.pending.proofs.chains.table.Chains.lift.Given as given
+use Rattle.pending.proofs.chains.table.Chains.lift.Goals as goal
+
+pub returns-in_default-at-clause-chains : goal.returns-in_default-at-clause-chains
+returns-in_default-at-clause-chains g c = λ chain walked.
+    let seen = rw (← c.self.view_is) at walked in
+    let last = walked-last c.self.inside.walk c.in-Some.walk chain c.self.invariant
+    c.in-Some.is seen in
+    let rows = c.self.inside.rows.items in
+    let chains = seen_chains c.self.inside.links c.self.inside.walk in
+    rw (← c.self.view_is)
+    (sym (nothing-lifted (map (values_of rows) chains) chain c.args.onto
+    (chain-map (values_of rows) chains chain refl
+    ∙ ap (λ rs. values_of rows rs)
+    (none-at (c.self.invariant).table.holds chain (last.1 ∙ c.in_default-at.is)))))
+
+pub next-row-requires : goal.next-row-requires
+next-row-requires g c =
+    let s = sound-at c.self.inside.walk (Some c.in-Some.walk) c.in-Some.is c.self.invariant in
+    last-is-row s.table.holds c.in-Some.walk.chain c.in-Some-at.at
+    (walk-last c.in-Some.walk s ∙ c.in-Some-at.is)
+
+pub cut-left-requires : goal.cut-left-requires
+cut-left-requires g c =
+    let s = sound-at c.self.inside.walk (Some c.in-Some.walk) c.in-Some.is c.self.invariant in
+    record {
+      lasts = seen_lasts c.self.inside.links.lasts.items (Some c.in-Some.walk);
+      loose = [];
+      chains = seen_chains c.self.inside.links (Some c.in-Some.walk);
+      chain = c.in-Some.walk.chain;
+      holds = s.table.holds;
+      there = walk-last c.in-Some.walk s ∙ c.in-Some-at.is;
+    }
+
+pub put_first-requires : goal.put_first-requires
+put_first-requires g c =
+    let onto = rw (← c.self.view_is) at c.requires.onto in
+    let apart = rw (← c.self.view_is) at c.requires.apart in
+    lift-loose c.self.inside.links c.cut-left.new.links c.self.inside.rows.items c.in-Some.walk
+    c.next-row.result c.args.onto c.cut-left.result
+    (lift-cut c.self.inside.links c.cut-left.new.links c.self.inside.rows.items c.self.inside.walk
+    c.in-Some.walk c.in-Some-at.at c.next-row.result
+    c.cut-left.result c.self.invariant c.in-Some.is c.in-Some-at.is c.next-row.ensures
+    c.cut-left.ensures.holds)
+    c.cut-left.ensures.changes c.cut-left.ensures.lasts
+    (λ e. apart (ap walked_in c.in-Some.is ∙ ap (λ k. Some k) (sym e)))
+    (lift-within c.self.invariant c.args.onto onto.1)
+
+-- the table after the call
+table : (g : given.Over) (c : goal.After-self-1 g)
+    → IsTable c.put_first.new.links.next.items
+    (seen_lasts c.put_first.new.links.lasts.items
+    (Some (record { chain = c.in-Some.walk.chain; at = c.cut-left.result })))
+    c.self.inside.rows.items
+    (lifted (seen_chains c.self.inside.links c.self.inside.walk) c.in-Some.walk.chain
+    c.args.onto)
+table g c =
+    let onto = rw (← c.self.view_is) at c.requires.onto in
+    let apart = rw (← c.self.view_is) at c.requires.apart in
+    lift-made c.self.inside.links c.cut-left.new.links c.put_first.new.links
+    c.self.inside.rows.items c.self.inside.walk c.in-Some.walk c.in-Some-at.at
+    c.next-row.result c.args.onto c.cut-left.result c.self.invariant c.in-Some.is c.in-Some-at.is
+    c.next-row.ensures onto.0
+    (λ e. apart (ap walked_in c.in-Some.is ∙ ap (λ k. Some k) (sym e)))
+    (lift-within c.self.invariant c.args.onto onto.1)
+    c.cut-left.ensures.changes c.put_first.ensures.changes c.cut-left.ensures.lasts
+    c.put_first.ensures.lasts
+    (lift-cut c.self.inside.links c.cut-left.new.links c.self.inside.rows.items c.self.inside.walk
+    c.in-Some.walk c.in-Some-at.at c.next-row.result
+    c.cut-left.result c.self.invariant c.in-Some.is c.in-Some-at.is c.next-row.ensures
+    c.cut-left.ensures.holds)
+    c.put_first.ensures.holds
+
+pub invariant_of-self : goal.invariant_of-self
+invariant_of-self g c =
+    let s = sound-at c.self.inside.walk (Some c.in-Some.walk) c.in-Some.is c.self.invariant in
+    let long = c.put_first.ensures.changes.chains ∙ c.cut-left.ensures.changes.chains in
+    let less = s.walks.1 in
+    sound-of c.put_first.new.links c.self.inside.rows.items
+    (Some (record { chain = c.in-Some.walk.chain; at = c.cut-left.result })) _ (table g c)
+    (s.walks.0, omega arith)
+
+pub returns-clause-chains : goal.returns-clause-chains
+returns-clause-chains g c = λ chain walked.
+    let seen = rw (← c.self.view_is) at walked in
+    let same = walked-is c.self.inside.walk c.in-Some.walk chain c.in-Some.is seen in
+    let last = walked-last c.self.inside.walk c.in-Some.walk chain c.self.invariant
+    c.in-Some.is seen in
+    let rows = c.self.inside.rows.items in
+    let chains = seen_chains c.self.inside.links c.self.inside.walk in
+    rw (← c.self.view_is)
+    (ap (λ cs. map (values_of rows) cs)
+    (seen-of c.put_first.new.links rows
+    (Some (record { chain = c.in-Some.walk.chain; at = c.cut-left.result })) _ (table g c))
+    ∙ ap (λ k. map (values_of rows) (lifted chains k c.args.onto)) same
+    ∙ shown-lifted (c.self.invariant).table chain c.args.onto last.0)
+
+pub returns-clause-room : goal.returns-clause-room
+returns-clause-room g c =
+    let onto = rw (← c.self.view_is) at c.requires.onto in
+    let s = sound-at c.self.inside.walk (Some c.in-Some.walk) c.in-Some.is c.self.invariant in
+    let walk = c.in-Some.walk in
+    let chains = seen_chains c.self.inside.links c.self.inside.walk in
+    let both = both-changes c.cut-left.ensures.changes c.put_first.ensures.changes in
+    rw (← c.self.view_is)
+    (keeps-room c.self.inside.links c.put_first.new.links c.self.inside.rows.items
+    (vec_capacity c.self.inside.rows) 3 c.self.inside.walk
+    (Some (record { chain = walk.chain; at = c.cut-left.result })) both
+    (ap (λ cs. chain_in cs 0)
+    (seen-of c.put_first.new.links c.self.inside.rows.items
+    (Some (record { chain = walk.chain; at = c.cut-left.result })) _ (table g c))
+    ∙ in-neither chains walk.chain c.args.onto (drop 1 (chain_in chains walk.chain))
+    (take 1 (chain_in chains walk.chain) ++ chain_in chains c.args.onto) s.walks.0 onto.0))

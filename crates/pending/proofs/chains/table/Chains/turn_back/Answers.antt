@@ -1,0 +1,69 @@
+use Rattle.std.proofs.Common.{length, map, Some, refl, ap, sym, ◌∙◌, arith, length-set, ◌<◌}
+use Rattle.pending.specs.Edits.{turned}
+use Rattle.pending.specs.inside.Tables.{seen_chains, values_of}
+use Rattle.pending.proofs.HoldsLaws.{none-at}
+use Rattle.pending.proofs.ValueLaws.{chain-map}
+use Rattle.pending.proofs.TableLaws.{seen-of, sound-of}
+use Rattle.pending.proofs.WalkLaws.{nothing-turned, shown-turned, sound-at, walk-last, walked-is}
+use Rattle.pending.proofs.WalkLaws.{walked-last}
+use Rattle.pending.proofs.BackLaws.{back-made, back-turned, before-there}
+use Rattle.pending.proofs.chains.table.Chains.turn_back.Goals as goal
+
+pub returns-in_default-at-clause-chains : goal.returns-in_default-at-clause-chains
+returns-in_default-at-clause-chains g c = λ chain walked.
+    let seen = rw (← c.self.view_is) at walked in
+    let last = walked-last c.self.inside.walk c.in-Some.walk chain c.self.invariant
+    c.in-Some.is seen in
+    let rows = c.self.inside.rows.items in
+    let chains = seen_chains c.self.inside.links c.self.inside.walk in
+    rw (← c.self.view_is)
+    (sym (nothing-turned (map (values_of rows) chains) chain
+    (chain-map (values_of rows) chains chain refl
+    ∙ ap (λ rs. values_of rows rs)
+    (none-at (c.self.invariant).table.holds chain (last.1 ∙ c.in_default-at.is)))))
+
+pub before-before-requires : goal.before-before-requires
+before-before-requires g c =
+    let s = sound-at c.self.inside.walk (Some c.in-Some.walk) c.in-Some.is c.self.invariant in
+    before-there s.table.holds c.in-Some.walk.chain c.in-Some-at.at
+    (walk-last c.in-Some.walk s ∙ c.in-Some-at.is)
+
+pub invariant_of-self : goal.invariant_of-self
+invariant_of-self g c =
+    let s = sound-at c.self.inside.walk (Some c.in-Some.walk) c.in-Some.is c.self.invariant in
+    let back =
+    back-made c.self.inside.links c.self.inside.rows.items c.self.inside.walk c.in-Some.walk
+    c.in-Some-at.at c.before-before.result c.self.invariant c.in-Some.is c.in-Some-at.is
+    c.before-before.ensures.within c.before-before.ensures.leads in
+    sound-of c.self.inside.links c.self.inside.rows.items _ _ back.2 s.walks
+
+pub returns-clause-chains : goal.returns-clause-chains
+returns-clause-chains g c = λ chain walked.
+    let seen = rw (← c.self.view_is) at walked in
+    let same = walked-is c.self.inside.walk c.in-Some.walk chain c.in-Some.is seen in
+    let s = sound-at c.self.inside.walk (Some c.in-Some.walk) c.in-Some.is c.self.invariant in
+    let links = c.self.inside.links in
+    let rows = c.self.inside.rows.items in
+    let chains = seen_chains links c.self.inside.walk in
+    let at = c.in-Some.walk.chain in
+    let back =
+    back-made links rows c.self.inside.walk c.in-Some.walk
+    c.in-Some-at.at c.before-before.result c.self.invariant c.in-Some.is c.in-Some-at.is
+    c.before-before.ensures.within c.before-before.ensures.leads in
+    let within : at < length chains =
+    omega (
+      arith,
+      s.table.holds.size,
+      ap (λ k. length (seen_chains links k)) c.in-Some.is,
+      length-set links.lasts.items at c.in-Some.walk.at,
+      s.walks.1,
+    ) in
+    rw (← c.self.view_is)
+    (ap (λ cs. map (values_of rows) cs)
+    (sym (back-turned chains at back.0 within back.1))
+    ∙ shown-turned back.2 at s.walks.0
+    ∙ ap (λ cs. turned (map (values_of rows) cs) at)
+    (sym (seen-of links rows (Some (record { chain = at; at = Some c.before-before.result })) _
+    back.2))
+    ∙ ap (λ k. turned (map (values_of rows) (seen_chains links
+    (Some (record { chain = at; at = Some c.before-before.result })))) k) same)

@@ -1,0 +1,153 @@
+//! Operations on chains as rings of links. A row is taken out or put in, and two chains are joined,
+//! by a few changes each.
+ghost use Rattle.std.specs.Prelude.{◌≡◌, ◌≢◌, ℕ, ◌+◌, ◌<◌, None, Some, Option, List, ◌∷◌};
+ghost use Rattle.std.specs.Prelude.{◌++◌, length, slice_set, IfSome};
+ghost use Rattle.pending.specs.Edits.{chain_in, fronted, joined, lengthened, preceded, shortened};
+ghost use Rattle.pending.specs.inside.Rings.{after, last_in, Holds, IsRing};
+ghost use Rattle.pending.specs.inside.ChainSteps.{Changes, IsKept, IsLast, IsLoose, IsLooseRing};
+
+use crate::chains::links::{Change, Links};
+
+/// Takes the first row out of the chain whose last row is `last`, so that it's loose. Returns the
+/// row that is then the last, or None if no row is left. Makes at most 1 change, and doesn't change
+/// the noted last rows of chains.
+pub fn cut(links: &mut Links, last: usize) -> Option<usize>
+    requires { IsLast links.old.next.items last }
+    ensures holds { (lasts : List (Option ℕ)) (loose : List ℕ) (chains : List (List ℕ))
+        (chain : ℕ) →
+        Holds links.old.next.items lasts loose chains → last_in lasts chain ≡ Some last →
+        Holds links.new.next.items (slice_set lasts chain result)
+        (after links.old.next.items last ∷ loose) (shortened chains chain) }
+    ensures lasts { links.new.lasts.items ≡ links.old.lasts.items }
+    ensures left { IfSome result (λ row. row ≡ last) }
+    ensures emptied { result ≡ None → links.new ≡ links.old }
+    ensures changes { Changes links.old links.new 1 }
+{
+    let first = links.next(last);
+    if first == last {
+        return None;
+    }
+    let second = links.next(first);
+    links.write(Change::Next(last, second));
+    Some(last)
+}
+
+/// Puts a loose row before the first of a chain. Makes 2 changes, and doesn't change the noted last
+/// row of another chain.
+pub fn put_first(links: &mut Links, chain: usize, row: usize)
+    requires { IsLoose links.old.next.items links.old.lasts.items chain row }
+    ensures holds { (lasts : List (Option ℕ)) (loose : List ℕ) (chains : List (List ℕ)) →
+        Holds links.old.next.items lasts (row ∷ loose) chains → chain < length lasts →
+        last_in lasts chain ≡ last_in links.old.lasts.items chain →
+        Holds links.new.next.items
+        (slice_set lasts chain (last_in links.new.lasts.items chain)) loose
+        (preceded chains chain row) }
+    ensures lasts { links.new.lasts.items
+        ≡ slice_set links.old.lasts.items chain (last_in links.new.lasts.items chain) }
+    ensures changes { Changes links.old links.new 2 }
+{
+    match links.last(chain) {
+        Some(last) => {
+            let first = links.next(last);
+            links.write(Change::Next(row, first));
+            links.write(Change::Next(last, row));
+        }
+        None => {
+            links.write(Change::Next(row, row));
+            links.write(Change::Last(chain, Some(row)));
+        }
+    }
+}
+
+/// Appends a loose row to a chain. Makes at most 3 changes.
+pub fn put_last(links: &mut Links, chain: usize, row: usize)
+    requires { IsLoose links.old.next.items links.old.lasts.items chain row }
+    ensures holds { (loose : List ℕ) (chains : List (List ℕ))
+        → Holds links.old.next.items links.old.lasts.items (row ∷ loose) chains →
+        Holds links.new.next.items links.new.lasts.items loose (lengthened chains chain row) }
+    ensures changes { Changes links.old links.new 3 }
+{
+    put_first(links, chain, row);
+    links.write(Change::Last(chain, Some(row)));
+}
+
+/// Takes the first row out of a chain, so that it's loose. Makes at most 1 change. Returns None if
+/// the chain has no rows.
+pub fn take_first(links: &mut Links, chain: usize) -> Option<usize>
+    requires kept { IsKept links.old.next.items links.old.lasts.items }
+    requires within { chain < length links.old.lasts.items }
+    ensures holds { IfSome result (λ row. (loose : List ℕ) (chains : List (List ℕ)) →
+        Holds links.old.next.items links.old.lasts.items loose chains →
+        Holds links.new.next.items links.new.lasts.items (row ∷ loose) (shortened chains chain)) }
+    ensures first { IfSome result
+        (λ row. (last : ℕ) × (last_in links.old.lasts.items chain ≡ Some last)
+        × (row ≡ after links.old.next.items last)) }
+    ensures none { result ≡ None
+        → (last_in links.old.lasts.items chain ≡ None) × (links.new ≡ links.old) }
+    ensures changes { Changes links.old links.new 1 }
+{
+    let last = links.last(chain)?;
+    let first = links.next(last);
+    if cut(links, last).is_none() {
+        links.write(Change::Last(chain, None));
+    }
+    Some(first)
+}
+
+// Puts loose rows, which are a ring with the last row `moved`, before the first of a chain. Makes
+// at most 2 changes.
+fn put_ring(links: &mut Links, chain: usize, moved: usize)
+    requires { IsLooseRing links.old.next.items links.old.lasts.items chain moved }
+    ensures holds { (rows loose : List ℕ) (chains : List (List ℕ)) →
+        Holds links.old.next.items links.old.lasts.items (rows ++ loose) chains
+        → IsRing links.old.next.items moved rows →
+        Holds links.new.next.items links.new.lasts.items loose
+        (slice_set chains chain (rows ++ chain_in chains chain)) }
+    ensures changes { Changes links.old links.new 2 }
+{
+    match links.last(chain) {
+        Some(kept) => {
+            let first = links.next(kept);
+            let second = links.next(moved);
+            links.write(Change::Next(kept, second));
+            links.write(Change::Next(moved, first));
+        }
+        None => links.write(Change::Last(chain, Some(moved))),
+    }
+}
+
+/// Puts all rows of chain `from` before the first of chain `onto`. Makes at most 3 changes.
+pub fn put_before(links: &mut Links, from: usize, onto: usize)
+    requires kept { IsKept links.old.next.items links.old.lasts.items }
+    requires from { from < length links.old.lasts.items }
+    requires onto { onto < length links.old.lasts.items }
+    requires apart { from ≢ onto }
+    ensures holds { (loose : List ℕ) (chains : List (List ℕ))
+        → Holds links.old.next.items links.old.lasts.items loose chains →
+        Holds links.new.next.items links.new.lasts.items loose (fronted chains from onto) }
+    ensures changes { Changes links.old links.new 3 }
+{
+    let Some(moved) = links.last(from) else {
+        return;
+    };
+    links.write(Change::Last(from, None));
+    put_ring(links, onto, moved);
+}
+
+/// Appends all rows of chain `from` to chain `onto`. Makes at most 4 changes.
+pub fn join(links: &mut Links, from: usize, onto: usize)
+    requires kept { IsKept links.old.next.items links.old.lasts.items }
+    requires from { from < length links.old.lasts.items }
+    requires onto { onto < length links.old.lasts.items }
+    requires apart { from ≢ onto }
+    ensures holds { (loose : List ℕ) (chains : List (List ℕ))
+        → Holds links.old.next.items links.old.lasts.items loose chains →
+        Holds links.new.next.items links.new.lasts.items loose (joined chains from onto) }
+    ensures changes { Changes links.old links.new 4 }
+{
+    let Some(last) = links.last(from) else {
+        return;
+    };
+    put_before(links, from, onto);
+    links.write(Change::Last(onto, Some(last)));
+}

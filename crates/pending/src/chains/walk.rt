@@ -1,0 +1,39 @@
+//! A walk over one chain.
+ghost use Rattle.std.specs.Prelude.{◌≡◌, ℕ, ◌<◌, IsSome, Some, length};
+ghost use Rattle.pending.specs.inside.Rings.{after, last_in};
+ghost use Rattle.pending.specs.inside.ChainSteps.{IsKept};
+ghost use Rattle.pending.specs.inside.Tables.{seen_lasts};
+
+use crate::chains::links::Links;
+
+/// How far a walk over a chain has come: the row `at` counts as the chain's last one.
+#[derive(Clone, Copy, Debug)]
+pub struct Walk {
+    pub chain: usize,
+    pub at: Option<usize>,
+}
+
+/// Returns the row that counts as a chain's last one, if the chain has rows.
+pub fn seen_last(links: &Links, walk: Option<Walk>, chain: usize) -> Option<usize>
+    requires { chain < length links.now.lasts.items }
+    ensures { result ≡ last_in (seen_lasts links.now.lasts.items walk) chain }
+{
+    match walk {
+        Some(walk) if walk.chain == chain => walk.at,
+        Some(_) | None => links.last(chain),
+    }
+}
+
+/// Returns the first row of a chain that has rows.
+pub fn first_row(links: &Links, walk: Option<Walk>, chain: usize) -> usize
+    requires there { IsKept links.now.next.items (seen_lasts links.now.lasts.items walk) }
+    requires chain { chain < length links.now.lasts.items }
+    requires some { IsSome (last_in (seen_lasts links.now.lasts.items walk) chain) }
+    ensures { (last : ℕ) × (last_in (seen_lasts links.now.lasts.items walk) chain ≡ Some last)
+        × (result ≡ after links.now.next.items last) }
+{
+    match seen_last(links, walk, chain) {
+        Some(last) => links.next(last),
+        None => unreachable!(),
+    }
+}

@@ -1,0 +1,356 @@
+-- The results of a run's seats, its recorder and its disks, put together.
+use Rattle.std.proofs.Common.{◌≡◌, ◌∙◌, ◌⊎◌, ⊎_elim, ℕ, zero, suc, ◌+◌, ◌*◌, ◌/◌, ◌<◌, ◌≤◌, List}
+use Rattle.std.proofs.Common.{[], ◌∷◌, ◌++◌, length, map, take, slice_get, Option, Some, ap}
+use Rattle.std.proofs.Common.{append-nil, append_assoc, arith, inl, inr, refl, subst, sym}
+use Rattle.refusals.specs.declared.end.End.{End}
+use Rattle.bio.specs.declared.outcome.Status.{Status}
+use Rattle.bio.specs.declared.sector_size.SectorSize.{SectorSize}
+use Rattle.bio.specs.declared.sector_size.SectorSize.TheVariants as sizes
+use Rattle.bio.specs.Sizes.{bytes_of}
+use Rattle.blockdev.specs.View.{Place}
+use Rattle.dmlw_script.specs.Plans.{top_of, Disk}
+use Rattle.dmlw_script.specs.RunPlans.{RunPlan}
+use Rattle.layer_table.specs.declared.stack.Stack.{Stack}
+use Rattle.layer_table.specs.Layers.{disk_of, stack_shown}
+use Rattle.layer_table.specs.StackLaws.{part_of_disk}
+use Rattle.lock_state.specs.Comparison.{Receipt}
+use Rattle.lock_state.specs.History.{Part}
+use Rattle.lock_state.specs.PlacedItems.{Ground, KeepsGround, ground_of}
+use Rattle.log_format.specs.declared.entry.Entry.{Entry}
+use Rattle.log_format.specs.LogLaws.{log_within}
+use Rattle.log_format.specs.LogOf.{IsLogOf, log_sectors}
+use Rattle.pending.specs.CoreState.{CoreState}
+use Rattle.refusals.specs.declared.refusal.Refusal.{Refusal}
+use Rattle.refusals.specs.declared.refusal.Refusal.TheVariants as refusals
+use Rattle.refusals.specs.declared.run_error.RunError.{RunError}
+use Rattle.refusals.specs.Errors.{memory_error, refused_by}
+use Rattle.script_runner.specs.declared.recording.Lies.{Lies}
+use Rattle.script_runner.specs.DiskRun.{IsStackOf, seen_on}
+use Rattle.sector_disk.specs.declared.disk.SectorDisk.{SectorDisk}
+use Rattle.sector_disk.specs.DiskView.{shown_of}
+use Rattle.sector_disk.specs.DiskViewLaws.{content_whole, disk_lawful}
+use Rattle.bio.specs.Content.{AgreeBelow, Content, gather, sector_of}
+use Rattle.bio.specs.SectorLaws.{length-gather, sector_of-gather}
+use Rattle.script_runner.specs.declared.tally.Tally.{Tally}
+use Rattle.script_runner.specs.inside.SeatWork.{AreNewPlayers, FitsRecorder, HavePlayed, Player}
+use Rattle.script_runner.specs.inside.SeatWork.{new_player}
+use Rattle.script_runner.specs.SeatRuns.{FailsRun, HasRun, IsClosed, IsForeignClose, IsRun, IsSeatRun}
+use Rattle.script_runner.specs.SeatRuns.{IsUnclosed, IsUnplayed, busy, foreign, memory, thread}
+use Rattle.script_runner.specs.Tallies.{joined}
+use Rattle.script_runner.proofs.Seats.{take_next}
+use Rattle.shared.specs.Close.{LeavesLog}
+use Rattle.shared.specs.declared.closing.Closed.{Closed}
+use Rattle.layer_table.specs.LayerOrder.{top_origin, top_sectors}
+
+module _ {A : Type 0} where
+  -- what stands in a list that is one longer
+  get_push : (xs : List A) (y x : A) (k : ℕ) → slice_get (xs ++ y ∷ []) k ≡ Some x
+      → (slice_get xs k ≡ Some x) ⊎ ((k ≡ length xs) × (y ≡ x))
+  get_push [] y x zero e = inr (refl, cc)
+  get_push [] y x (suc k) e = absurd (cc)
+  get_push (z ∷ zs) y x zero e = inl e
+  get_push (z ∷ zs) y x (suc k) e =
+      ⊎_elim (λ was. inl was) (λ t. inr (ap suc t.0, t.1)) (get_push zs y x k e)
+
+  length_push : (xs : List A) (x : A) → length (xs ++ x ∷ []) ≡ length xs + 1
+  length_push [] x = refl
+  length_push (y ∷ xs) x = let rest = length_push xs x in omega (arith, rest)
+
+  pub long_push : (xs : List A) (x : A) → length (xs ++ x ∷ []) ≡ suc (length xs)
+  long_push [] x = refl
+  long_push (y ∷ xs) x = ap suc (long_push xs x)
+
+  -- what is made of what stands there
+  map_there : {B : Type 0} (f : A → B) (xs : List A) (k : ℕ) (x : A) → slice_get xs k ≡ Some x
+      → slice_get (map f xs) k ≡ Some (f x)
+  map_there f [] k x e = absurd (cc)
+  map_there f (y ∷ xs) zero x e = ap (λ z. Some (f z)) (let same : y ≡ x = cc in same)
+  map_there f (y ∷ xs) (suc k) x e = map_there f xs k x e
+
+  map_from : {B : Type 0} (f : A → B) (xs : List A) (k : ℕ) (y : B)
+      → slice_get (map f xs) k ≡ Some y → (x : A) × (slice_get xs k ≡ Some x) × (f x ≡ y)
+  map_from f [] k y e = absurd (cc)
+  map_from f (x ∷ xs) zero y e = (x, refl, cc)
+  map_from f (x ∷ xs) (suc k) y e = map_from f xs k y e
+
+  pub map_push : {B : Type 0} (f : A → B) (xs : List A) (x : A)
+      → map f (xs ++ x ∷ []) ≡ map f xs ++ f x ∷ []
+  map_push f [] x = refl
+  map_push f (y ∷ ys) x = ap (λ zs. f y ∷ zs) (map_push f ys x)
+
+  map_long : {B : Type 0} (f : A → B) (xs : List A) → length (map f xs) ≡ length xs
+  map_long f [] = refl
+  map_long f (x ∷ xs) = ap suc (map_long f xs)
+
+  -- a turn more of a loop that makes a list of another
+  pub map_next : {B : Type 0} (f : A → B) (xs : List A) (k next : ℕ) (x : A) (made : List B)
+      → next ≡ suc k → slice_get xs k ≡ Some x
+      → made ≡ map f (take k xs) → made ++ f x ∷ [] ≡ map f (take next xs)
+  map_next f xs k next x made is there so =
+      ap (λ ys. ys ++ f x ∷ []) so ∙ sym (map_push f (take k xs) x)
+      ∙ sym (ap (map f) (ap (λ n. take n xs) is ∙ take_next xs k x there))
+
+-- seats that have made no call, and one more
+pub players_push : (many next : ℕ) (players : List Player) (player : Player) → next ≡ suc many
+    → AreNewPlayers many players → player ≡ new_player many
+    → AreNewPlayers next (players ++ player ∷ [])
+players_push many next players player is new here = record {
+  count =
+      let count = new.count in
+      let long = length_push players player in omega (arith, is, count, long);
+  each = λ number one there.
+      ⊎_elim (λ (was : slice_get players number ≡ Some one). new.each number one was)
+      (λ (last : (number ≡ length players) × (player ≡ one)). sym last.1 ∙ here
+      ∙ ap new_player (sym (last.0 ∙ new.count)))
+      (get_push players player one number there);
+}
+
+-- one list of receipts more
+pub joined_push : (lists : List (List Receipt)) (receipts : List Receipt)
+    → joined (lists ++ receipts ∷ []) ≡ joined lists ++ receipts
+joined_push [] receipts = append-nil receipts
+joined_push (first ∷ lists) receipts =
+    ap (λ (rest : List Receipt). first ++ rest) (joined_push lists receipts)
+    ∙ sym (append_assoc first (joined lists) receipts)
+
+-- and one player's more
+pub joined_next : (players : List Player) (player : Player) (made : List Receipt)
+    → made ≡ joined (map (λ (p : Player). p.receipts) players)
+    → made ++ player.receipts ≡ joined (map (λ (p : Player). p.receipts) (players ++ player ∷ []))
+joined_next players player made so =
+    ap (λ (rs : List Receipt). rs ++ player.receipts) so
+    ∙ sym (joined_push (map (λ (p : Player). p.receipts) players) player.receipts)
+    ∙ sym (ap joined (map_push (λ (p : Player). p.receipts) players player))
+
+-- and one more of what each player has
+pub mapped_next : {B : Type 0} (of : Player → B) (players : List Player) (player : Player)
+    (made next : List B) (value : B) → next ≡ made ++ value ∷ []
+    → made ≡ map of players → value ≡ of player → next ≡ map of (players ++ player ∷ [])
+mapped_next {B} of players player made next value pushed so has =
+    pushed
+    ∙ ap (λ (xs : List B). xs ++ value ∷ []) so
+    ∙ ap (λ (v : B). map of players ++ v ∷ []) has
+    ∙ sym (map_push of players player)
+
+-- as many seats of a list as players
+pub seats_long : (players : List Player) (seats : List Part) (many : ℕ) → length players ≡ many
+    → seats ≡ map (λ (p : Player). p.part) players → length seats ≡ many
+seats_long players seats many count is =
+    ap (λ (parts : List Part). length parts) is ∙ map_long (λ (p : Player). p.part) players ∙ count
+
+-- the top of a stack has the sectors that its disk says
+pub top_size : (disk : Disk) (stack : Stack) → IsStackOf disk stack
+    → (stack_shown stack).size ≡ top_of disk
+top_size disk stack is = is.over.size ∙ ap (λ (n : ℕ). top_sectors n disk.layers) is.blank.size
+
+-- where the top of a stack lies on its disk
+stack_place : (disk : Disk) (stack : Stack) → IsStackOf disk stack
+    → (stack_shown stack).place ≡ record { origin = top_origin 0 disk.layers; disk = disk.sectors }
+stack_place disk stack is =
+    is.over.place ∙ ap (λ (n : ℕ). record {
+      origin = top_origin 0 disk.layers;
+      disk = n;
+    }) is.blank.size
+
+-- a device on which one of the log's sectors fits has one
+one_fits : (size : SectorSize) (sectors : ℕ) → bytes_of size / 512 ≤ sectors
+    → 0 < log_sectors (bytes_of size) sectors
+one_fits sizes.B512 sectors room = omega (arith, room)
+one_fits sizes.B4096 sectors room = omega (arith, room)
+
+-- a log that a part of a disk has, the disk's image has too
+image_log : (size : SectorSize) (disk : Disk) (device : Stack) (seen : Content) (image : List ℕ)
+    → bytes_of size / 512 ≤ top_of disk
+    → (stack_shown device).size ≡ top_of disk
+    → (stack_shown device).place ≡ record { origin = top_origin 0 disk.layers; disk = disk.sectors }
+    → AgreeBelow disk.sectors (shown_of (disk_of device)).content (sector_of image)
+    → ((sector : ℕ) → seen sector
+    ≡ (shown_of (disk_of device)).content ((stack_shown device).place.origin + sector))
+    → (es : List Entry) → IsLogOf (stack_shown device).size seen (bytes_of size) es
+    → IsLogOf (top_of disk) (seen_on disk image) (bytes_of size) es
+image_log size disk device seen image room top place agree looks es log =
+    let part = part_of_disk device in
+    let within = part.within in
+    let content = (shown_of (disk_of device)).content in
+    let origin : (stack_shown device).place.origin ≡ top_origin 0 disk.layers =
+    ap (λ (p : Place). p.origin) place in
+    let sectors : (shown_of (disk_of device)).size ≡ disk.sectors =
+    sym part.disk ∙ ap (λ (p : Place). p.disk) place in
+    let some : 0 < log_sectors (bytes_of size) (stack_shown device).size =
+    one_fits size (stack_shown device).size (omega (arith, room, top)) in
+    subst (λ (n : ℕ). IsLogOf n (seen_on disk image) (bytes_of size) es) top
+    (log_within (stack_shown device).size seen (seen_on disk image) (bytes_of size) es some
+    (λ sector h. agree (top_origin 0 disk.layers + sector) (omega arith)
+    ∙ ap (λ (n : ℕ). content (n + sector)) (sym origin) ∙ sym (looks sector)) log)
+
+-- the image of a disk has the bytes of so many sectors, and agrees with it
+image_long : (disk : SectorDisk) (image : List ℕ) (sectors : ℕ)
+    → image ≡ gather (shown_of disk).content 0 (shown_of disk).size → (shown_of disk).size ≡ sectors
+    → length image ≡ 512 * sectors
+image_long disk image sectors is size =
+    ap (λ (bytes : List ℕ). length bytes) is
+    ∙ length-gather (shown_of disk).size (shown_of disk).content 0 (shown_of disk).size
+    (content_whole disk) (omega arith) ∙ ap (λ (n : ℕ). 512 * n) size
+
+image_agrees : (disk : SectorDisk) (image : List ℕ) (sectors : ℕ)
+    → image ≡ gather (shown_of disk).content 0 (shown_of disk).size → (shown_of disk).size ≡ sectors
+    → AgreeBelow sectors (shown_of disk).content (sector_of image)
+image_agrees disk image sectors is size sector below =
+    ap (λ (bytes : List ℕ). sector_of bytes sector) is
+    ∙ sector_of-gather (shown_of disk).size (shown_of disk).content (content_whole disk) sector
+    (omega (arith, size, below))
+
+-- What the log's stack of a script is, from before its log was made to when it was closed.
+pub record IsLogStack (plan : RunPlan) (log device : Stack) (image : List ℕ) : Type 0 where
+  pub room : bytes_of plan.log_size / 512 ≤ top_of plan.log_disk
+  pub blank : IsStackOf plan.log_disk log
+  pub stands : KeepsGround (ground_of (stack_shown log)) (stack_shown device)
+  pub bytes : image ≡ gather (shown_of (disk_of device)).content 0 (shown_of (disk_of device)).size
+
+-- its disk has the sectors that the script says
+disk_size : (plan : RunPlan) (log device : Stack) (image : List ℕ)
+    → IsLogStack plan log device image → (shown_of (disk_of device)).size ≡ plan.log_disk.sectors
+disk_size plan log device image is =
+    sym (part_of_disk device).disk
+    ∙ ap (λ (p : Place). p.disk) (is.stands.place ∙ stack_place plan.log_disk log is.blank)
+
+-- and its image has the log that a crash would leave
+leaves_image : (plan : RunPlan) (log device : Stack) (image : List ℕ) (few : ℕ) (core : CoreState)
+    (end : Option End) → IsLogStack plan log device image
+    → ((left : Content) → (stack_shown device).crash left
+    → LeavesLog (bytes_of plan.log_size) (stack_shown device).size few core end left)
+    → LeavesLog (bytes_of plan.log_size) (top_of plan.log_disk) few core end
+    (seen_on plan.log_disk image)
+leaves_image plan log device image few core end is leaves =
+    let disk = disk_of device in
+    let seen = (part_of_disk device).crash (shown_of disk).content (disk_lawful disk).current in
+    let left = leaves seen.0 seen.1 in record {
+      count = left.count;
+      least = left.least;
+      log =
+          image_log plan.log_size plan.log_disk device seen.0 image is.room
+          (is.stands.size ∙ top_size plan.log_disk log is.blank)
+          (is.stands.place ∙ stack_place plan.log_disk log is.blank)
+          (image_agrees disk image plan.log_disk.sectors is.bytes
+          (disk_size plan log device image is)) seen.2 _ left.log;
+      whole = left.whole;
+    }
+
+-- each seat of a script made the calls of its lines
+each_ran : (plan : RunPlan) (players : List Player) (seats : List Part) (tallies : List Tally)
+    → HavePlayed plan.calls plan.seats players
+    → seats ≡ map (λ (p : Player). p.part) players → tallies ≡ map (λ (p : Player). p.tally) players
+    → (number : ℕ) (seat : Part) → slice_get seats number ≡ Some seat
+    → HasRun plan.calls tallies (map (λ (p : Player). p.receipts) players) number seat
+each_ran plan players seats tallies played parts told number seat there =
+    let found =
+    map_from (λ (p : Player). p.part) players number seat
+    (sym (ap (λ (ps : List Part). slice_get ps number) parts) ∙ there) in
+    let player = found.0 in record {
+      tally = player.tally;
+      counted =
+          ap (λ (ts : List Tally). slice_get ts number) told
+          ∙ map_there (λ (p : Player). p.tally) players number player found.1;
+      receipts = player.receipts;
+      kept = map_there (λ (p : Player). p.receipts) players number player found.1;
+      ran =
+          subst (λ (part : Part). IsSeatRun plan.calls number part player.tally player.receipts)
+          found.2 (played.each number player found.1);
+    }
+
+-- a script's run
+pub is_run : (ground : Ground) (bytes sectors : ℕ) (plan : RunPlan) (log : Stack)
+    (players : List Player) (seats : List Part) (tallies : List Tally) (receipts : List Receipt)
+    (closed : Closed Stack Stack) (status : Status) (lies : Lies) (image : List ℕ)
+    → FitsRecorder bytes sectors plan → ground ≡ ground_of (stack_shown log)
+    → bytes_of plan.log_size / 512 ≤ top_of plan.log_disk → IsStackOf plan.log_disk log
+    → HavePlayed plan.calls plan.seats players
+    → seats ≡ map (λ (p : Player). p.part) players → tallies ≡ map (λ (p : Player). p.tally) players
+    → receipts ≡ joined (map (λ (p : Player). p.receipts) players)
+    → IsClosed ground bytes sectors seats receipts closed
+    → status ≡ closed.status
+    → lies ≡ record {
+      data_disk = (stack_shown closed.device).lies;
+      log_disk = (stack_shown closed.log).lies;
+    }
+    → image ≡ gather (shown_of (disk_of closed.log)).content 0 (shown_of (disk_of closed.log)).size
+    → IsRun plan tallies status lies image
+is_run ground bytes sectors plan log players seats tallies receipts closed status lies image fits on
+    room blank played parts told kept close so lied left =
+    let here : IsClosed (ground_of (stack_shown log)) (bytes_of plan.log_size)
+    (top_of plan.data_disk) seats (joined (map (λ (p : Player). p.receipts) players)) closed =
+    subst (λ (rs : List Receipt). IsClosed (ground_of (stack_shown log)) (bytes_of plan.log_size)
+    (top_of plan.data_disk) seats rs closed) kept
+    (subst (λ (g : Ground). IsClosed g (bytes_of plan.log_size)
+    (top_of plan.data_disk) seats receipts closed) on
+    (subst (λ (n : ℕ). IsClosed ground n (top_of plan.data_disk) seats receipts closed)
+    (sym fits.log_size)
+    (subst (λ (n : ℕ). IsClosed ground bytes n seats receipts closed)
+    (sym fits.data_size) close))) in
+    let is : IsLogStack plan log closed.log image =
+    record { room = room; blank = blank; stands = here.stands; bytes = left } in
+    let none : lies.log_disk ≡ (stack_shown closed.log).lies = ap (λ (l : Lies). l.log_disk) lied in
+    record {
+      seats = seats;
+      count = seats_long players seats plan.seats played.count parts;
+      tallied =
+          ap (λ (ts : List Tally). length ts) told ∙ map_long (λ (p : Player). p.tally) players
+          ∙ played.count;
+      given = map (λ (p : Player). p.receipts) players;
+      ran = each_ran plan players seats tallies played parts told;
+      log = log;
+      blank = blank;
+      closed = closed;
+      close = here;
+      told = so;
+      lied = lied;
+      honest = λ never.
+          let can = blank.over.can_lie never in
+          none ∙ here.stands.honest can ∙ blank.over.lies;
+      bytes = left;
+      size =
+          image_long (disk_of closed.log) image plan.log_disk.sectors left
+          (disk_size plan log closed.log image is);
+      logged =
+          λ zero. leaves_image plan log closed.log image closed.settled closed.core.state closed.end
+          is (here.crash (sym none ∙ zero));
+    }
+
+-- a run whose calls aren't made, or whose writer isn't told to end
+pub fails_unplayed : (plan : RunPlan) (refusal : Refusal) (fault : RunError) → IsUnplayed refusal
+    → fault ≡ refused_by refusal → FailsRun plan fault
+fails_unplayed plan refusal fault why same =
+    subst (FailsRun plan) (sym same) (⊎_elim
+    (λ (is : refusal ≡ refusals.Memory). subst (λ (r : Refusal). FailsRun plan (refused_by r))
+    (sym is) memory)
+    (⊎_elim
+    (λ (is : refusal ≡ refusals.Busy). subst (λ (r : Refusal). FailsRun plan (refused_by r))
+    (sym is) busy)
+    (λ (is : refusal ≡ refusals.NoThread). subst (λ (r : Refusal). FailsRun plan (refused_by r))
+    (sym is) thread))
+    why)
+
+-- a run whose recorder isn't closed
+pub fails_unclosed : (plan : RunPlan) (players : List Player) (seats : List Part)
+    (tallies : List Tally) (receipts : List Receipt) (refusal : Refusal) (fault : RunError)
+    → HavePlayed plan.calls plan.seats players → seats ≡ map (λ (p : Player). p.part) players
+    → tallies ≡ map (λ (p : Player). p.tally) players
+    → receipts ≡ joined (map (λ (p : Player). p.receipts) players)
+    → IsUnclosed seats receipts refusal → fault ≡ refused_by refusal → FailsRun plan fault
+fails_unclosed plan players seats tallies receipts refusal fault played parts told kept why same =
+    subst (FailsRun plan) (sym same) (⊎_elim
+    (λ (is : refusal ≡ refusals.Busy). subst (λ (r : Refusal). FailsRun plan (refused_by r))
+    (sym is) busy)
+    (λ (is : (refusal ≡ refusals.Foreign) × IsForeignClose seats receipts). subst
+    (λ (r : Refusal). FailsRun plan (refused_by r)) (sym is.0) (foreign (record {
+      seats = seats;
+      count = seats_long players seats plan.seats played.count parts;
+      tallies = tallies;
+      given = map (λ (p : Player). p.receipts) players;
+      ran = each_ran plan players seats tallies played parts told;
+      close = subst (IsForeignClose seats) kept is.1;
+    })))
+    why)
+
+pub fails_memory : (plan : RunPlan) (fault : RunError) → fault ≡ memory_error → FailsRun plan fault
+fails_memory plan fault same = subst (FailsRun plan) (sym same) memory

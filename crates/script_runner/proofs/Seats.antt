@@ -1,0 +1,396 @@
+-- What a line adds to the calls that a seat made.
+use Rattle.std.proofs.Common.{◌≡◌, ◌∙◌, ℕ, zero, suc, ◌+◌, ◌-◌, ◌^◌, ◌<◌, ◌≤◌, Bool, true, false}
+use Rattle.std.proofs.Common.{List, [], ◌∷◌, ◌++◌, ◌==◌, if◌then◌else◌, length, take, slice_get}
+use Rattle.std.proofs.Common.{Option, None, Some, not, ap, append_assoc, arith, inl, inr, refl}
+use Rattle.std.proofs.Common.{subst, sym}
+use Rattle.std.specs.List.{AllByRecursion}
+use Rattle.std.proofs.lemmas.Bool.{and_from, and_parts}
+use Rattle.std.proofs.lemmas.Bool.Decides.{nat_tests}
+use Rattle.bio.specs.declared.outcome.DevError.TheVariants as devices
+use Rattle.bio.specs.Lawful.{is_text}
+use Rattle.dmlw_script.specs.declared.command.Submission.{Submission}
+use Rattle.dmlw_script.specs.declared.seat_call.Call.{Call}
+use Rattle.dmlw_script.specs.declared.seat_call.Call.TheVariants.{Mark, Submit}
+use Rattle.dmlw_script.specs.declared.seat_call.SeatCall.{SeatCall}
+use Rattle.dmlw_script.specs.Lines.{is_line_byte, is_line_text}
+use Rattle.lock_state.specs.Comparison.{Receipt}
+use Rattle.lock_state.specs.History.{Part, new_part, one_if}
+use Rattle.script_runner.specs.declared.tally.Outcome.{Outcome}
+use Rattle.script_runner.specs.declared.tally.Outcome.TheVariants.{Done, Failed, Logged, NotLogged}
+use Rattle.script_runner.specs.declared.tally.Outcome.TheVariants.{Refused}
+use Rattle.script_runner.specs.declared.tally.Tally.{Tally}
+use Rattle.script_runner.specs.inside.SeatWork.{DoesLine, DoesLines, Makes}
+use Rattle.script_runner.specs.inside.SeatWork.{Player}
+use Rattle.script_runner.specs.SeatRuns.{AreMade, IsMade, IsSeatRun, calls_of}
+use Rattle.script_runner.specs.Submissions.{bio_of}
+use Rattle.script_runner.specs.Tallies.{CallResult, HasRoom, and_kept, counted, how_many, is_done}
+use Rattle.script_runner.specs.Tallies.{is_failed, is_logged, is_not_logged, is_refused, mark_outcome}
+use Rattle.script_runner.specs.Tallies.{mark_receipt_in, outcome_of, receipt_in, receipts_of}
+use Rattle.script_runner.specs.Tallies.{tally_of}
+use Rattle.shared.specs.Answers.{Answered, Marked}
+use Rattle.shared.specs.declared.answer.Answer.{Answer}
+use Rattle.shared.specs.declared.answer.Answer.TheVariants as answers
+use Rattle.shared.specs.declared.answer.MarkAnswer.{MarkAnswer}
+use Rattle.shared.specs.declared.answer.MarkAnswer.TheVariants as marks
+use Rattle.shared.specs.declared.answer.MarkRefusal.TheVariants as refusals
+
+-- the calls of a seat's lines, with a line more
+pub own_more : (number : ℕ) (before : List SeatCall) (line : SeatCall)
+    → (line.seat == number) ≡ true
+    → calls_of number (before ++ line ∷ []) ≡ calls_of number before ++ line.call ∷ []
+own_more number [] line own = rw own refl
+own_more number (first ∷ before) line own =
+    also (first.seat == number) (own_more number before line own)
+  where
+    also : (here : Bool) → calls_of number (before ++ line ∷ [])
+        ≡ calls_of number before ++ line.call ∷ []
+        → (if here then first.call ∷ calls_of number (before ++ line ∷ []) else calls_of number
+        (before ++ line ∷ []))
+        ≡ (if here then first.call ∷ calls_of number before else calls_of number before)
+        ++ line.call ∷ []
+    also true rest = ap (λ (calls : List Call). first.call ∷ calls) rest
+    also false rest = rest
+
+pub other_more : (number : ℕ) (before : List SeatCall) (line : SeatCall)
+    → (line.seat == number) ≡ false
+    → calls_of number (before ++ line ∷ []) ≡ calls_of number before
+other_more number [] line other = rw other refl
+other_more number (first ∷ before) line other =
+    also (first.seat == number) (other_more number before line other)
+  where
+    also : (here : Bool) → calls_of number (before ++ line ∷ []) ≡ calls_of number before
+        → (if here then first.call ∷ calls_of number (before ++ line ∷ []) else calls_of number
+        (before ++ line ∷ []))
+        ≡ (if here then first.call ∷ calls_of number before else calls_of number before)
+    also true rest = ap (λ (calls : List Call). first.call ∷ calls) rest
+    also false rest = rest
+
+-- no more calls than lines
+own_few : (number : ℕ) (lines : List SeatCall) → length (calls_of number lines) ≤ length lines
+own_few number [] = omega arith
+own_few number (line ∷ lines) = also (line.seat == number) (own_few number lines)
+  where
+    also : (here : Bool) → length (calls_of number lines) ≤ length lines
+        → length (if here then line.call ∷ calls_of number lines else calls_of number lines) ≤ suc
+        (length lines)
+    also true few = omega (arith, few)
+    also false few = omega (arith, few)
+
+-- calls, and then one call more
+made_more : (old between new : Part) (calls : List Call) (comes : List CallResult) (call : Call)
+    (came : CallResult)
+    → AreMade old calls comes between → IsMade between call came new
+    → AreMade old (calls ++ call ∷ []) (comes ++ came ∷ []) new
+made_more old between new [] [] call came made one =
+    (new, subst (λ (part : Part). IsMade part call came new) made one, refl)
+made_more old between new [] (first ∷ comes) call came made one = absurd made
+made_more old between new (first ∷ calls) [] call came made one = absurd made
+made_more old between new (first ∷ calls) (one_came ∷ comes) call came made one =
+    (made.0, made.1, made_more made.0 between new calls comes call came made.2 one)
+
+-- as many came of as many calls
+made_length : (old new : Part) (calls : List Call) (comes : List CallResult)
+    → AreMade old calls comes new
+    → length comes ≡ length calls
+made_length old new [] [] made = refl
+made_length old new [] (came ∷ comes) made = absurd made
+made_length old new (call ∷ calls) [] made = absurd made
+made_length old new (call ∷ calls) (came ∷ comes) made =
+    ap suc (made_length made.0 new calls comes made.2)
+
+-- one call more is counted where it comes to this, and isn't where it doesn't
+many_yes : (test : Outcome → Bool) (comes : List CallResult) (came : CallResult)
+    → test came.outcome ≡ true
+    → how_many test (comes ++ came ∷ []) ≡ how_many test comes + 1
+many_yes test [] came is = let one = ap one_if is in omega (arith, one)
+many_yes test (first ∷ comes) came is =
+    let rest = many_yes test comes came is in omega (arith, rest)
+
+many_no : (test : Outcome → Bool) (comes : List CallResult) (came : CallResult)
+    → test came.outcome ≡ false
+    → how_many test (comes ++ came ∷ []) ≡ how_many test comes
+many_no test [] came is = let none = ap one_if is in omega (arith, none)
+many_no test (first ∷ comes) came is =
+    ap (λ (n : ℕ). one_if (test first.outcome) + n) (many_no test comes came is)
+
+at_most_one : (b : Bool) → one_if b ≤ 1
+at_most_one true = omega arith
+at_most_one false = omega arith
+
+many_few : (test : Outcome → Bool) (comes : List CallResult) → how_many test comes ≤ length comes
+many_few test [] = omega arith
+many_few test (first ∷ comes) =
+    let rest = many_few test comes in
+    let one = at_most_one (test first.outcome) in omega (arith, rest, one)
+
+-- a call that came to this, with this receipt
+abbrev came_to : Outcome → Option Receipt → CallResult
+came_to outcome receipt = record { outcome = outcome; receipt = receipt }
+
+tally_more : (comes : List CallResult) (outcome : Outcome) (receipt : Option Receipt)
+    → tally_of (comes ++ came_to outcome receipt ∷ []) ≡ counted (tally_of comes) outcome
+tally_more comes Done receipt =
+    rw (
+      many_yes is_done comes (came_to Done receipt) refl,
+      many_no is_logged comes (came_to Done receipt) refl,
+      many_no is_failed comes (came_to Done receipt) refl,
+      many_no is_not_logged comes (came_to Done receipt) refl,
+      many_no is_refused comes (came_to Done receipt) refl,
+    ) refl
+tally_more comes Logged receipt =
+    rw (
+      many_no is_done comes (came_to Logged receipt) refl,
+      many_yes is_logged comes (came_to Logged receipt) refl,
+      many_no is_failed comes (came_to Logged receipt) refl,
+      many_no is_not_logged comes (came_to Logged receipt) refl,
+      many_no is_refused comes (came_to Logged receipt) refl,
+    ) refl
+tally_more comes Failed receipt =
+    rw (
+      many_no is_done comes (came_to Failed receipt) refl,
+      many_no is_logged comes (came_to Failed receipt) refl,
+      many_yes is_failed comes (came_to Failed receipt) refl,
+      many_no is_not_logged comes (came_to Failed receipt) refl,
+      many_no is_refused comes (came_to Failed receipt) refl,
+    ) refl
+tally_more comes NotLogged receipt =
+    rw (
+      many_no is_done comes (came_to NotLogged receipt) refl,
+      many_no is_logged comes (came_to NotLogged receipt) refl,
+      many_no is_failed comes (came_to NotLogged receipt) refl,
+      many_yes is_not_logged comes (came_to NotLogged receipt) refl,
+      many_no is_refused comes (came_to NotLogged receipt) refl,
+    ) refl
+tally_more comes Refused receipt =
+    rw (
+      many_no is_done comes (came_to Refused receipt) refl,
+      many_no is_logged comes (came_to Refused receipt) refl,
+      many_no is_failed comes (came_to Refused receipt) refl,
+      many_no is_not_logged comes (came_to Refused receipt) refl,
+      many_yes is_refused comes (came_to Refused receipt) refl,
+    ) refl
+
+-- few calls leave room for one more
+has_room : (comes : List CallResult) → length comes < 2 ^ 64 - 1 → HasRoom (tally_of comes)
+has_room comes few = record {
+  done = let most = many_few is_done comes in omega (arith, most, few);
+  logged = let most = many_few is_logged comes in omega (arith, most, few);
+  failed = let most = many_few is_failed comes in omega (arith, most, few);
+  not_logged = let most = many_few is_not_logged comes in omega (arith, most, few);
+  refused = let most = many_few is_refused comes in omega (arith, most, few);
+}
+
+-- one receipt more, if there is one, behind others
+kept_behind : (some receipts : List Receipt) (receipt : Option Receipt)
+    → some ++ and_kept receipts receipt ≡ and_kept (some ++ receipts) receipt
+kept_behind some receipts None = refl
+kept_behind some receipts (Some receipt) = sym (append_assoc some receipts (receipt ∷ []))
+
+kept_alone : (receipt : Option Receipt) → and_kept [] receipt ++ [] ≡ and_kept [] receipt
+kept_alone None = refl
+kept_alone (Some receipt) = refl
+
+kept_more : (comes : List CallResult) (came : CallResult)
+    → receipts_of (comes ++ came ∷ []) ≡ and_kept (receipts_of comes) came.receipt
+kept_more [] came = kept_alone came.receipt
+kept_more (first ∷ comes) came =
+    ap (λ (rest : List Receipt). and_kept [] first.receipt ++ rest) (kept_more comes came)
+    ∙ kept_behind (and_kept [] first.receipt) (receipts_of comes) came.receipt
+
+-- a seat's request was answered
+pub makes_request : (submission : Submission) (inside old : Player) (part : Part)
+    (answer : Answer Receipt)
+    (outcome : Outcome) (given : Option Receipt) (receipts : List Receipt)
+    → inside ≡ old → Answered inside.part (bio_of submission) answer part
+    → outcome ≡ outcome_of answer → given ≡ receipt_in answer
+    → receipts ≡ and_kept inside.receipts given
+    → Makes (Submit submission) old outcome
+    (record { number = inside.number; part = part; tally = inside.tally; receipts = receipts })
+makes_request submission inside old part answer outcome given receipts same answered so has kept =
+    record {
+      came = came_to (outcome_of answer) (receipt_in answer);
+      made = (
+        answer,
+        subst (λ (p : Player). Answered p.part
+            (bio_of submission) answer part) same answered,
+        refl,
+      );
+      told = sym so;
+      kept =
+          kept ∙ ap (λ (p : Player). and_kept p.receipts given) same
+          ∙ ap (λ (r : Option Receipt). and_kept old.receipts r) has;
+      number = ap (λ (p : Player). p.number) same;
+      tally = ap (λ (p : Player). p.tally) same;
+    }
+
+-- and so was its mark
+pub makes_mark : (text : List ℕ) (inside old : Player) (part : Part)
+    (answer : MarkAnswer Receipt)
+    (outcome : Outcome) (given : Option Receipt) (receipts : List Receipt)
+    → inside ≡ old → Marked inside.part text answer part → outcome ≡ mark_outcome answer
+    → given ≡ mark_receipt_in answer → receipts ≡ and_kept inside.receipts given
+    → Makes (Mark text) old outcome
+    (record { number = inside.number; part = part; tally = inside.tally; receipts = receipts })
+makes_mark text inside old part answer outcome given receipts same marked so has kept = record {
+  came = came_to (mark_outcome answer) (mark_receipt_in answer);
+  made = (answer, subst (λ (p : Player). Marked p.part text answer part) same marked, refl);
+  told = sym so;
+  kept =
+      kept ∙ ap (λ (p : Player). and_kept p.receipts given) same
+      ∙ ap (λ (r : Option Receipt). and_kept old.receipts r) has;
+  number = ap (λ (p : Player). p.number) same;
+  tally = ap (λ (p : Player). p.tally) same;
+}
+
+-- a request for which there is no memory fails, and a mark is refused
+pub fails : (submission : Submission) (old new : Player) → new ≡ old
+    → Makes (Submit submission) old Failed new
+fails submission old new same = record {
+  came = came_to Failed None;
+  made = (answers.Failed devices.Memory, inl (ap (λ (p : Player). p.part) same, inr refl), refl);
+  told = refl;
+  kept = ap (λ (p : Player). p.receipts) same;
+  number = ap (λ (p : Player). p.number) same;
+  tally = ap (λ (p : Player). p.tally) same;
+}
+
+pub refused : (text : List ℕ) (old new : Player) → new ≡ old → Makes (Mark text) old Refused new
+refused text old new same = record {
+  came = came_to Refused None;
+  made = (
+    marks.Refused refusals.Memory,
+    (
+      ap (λ (p : Player). p.part) same,
+      λ bad. let no : refusals.Memory ≡ refusals.BadText = bad in
+          cc,
+    ),
+    refl,
+  );
+  told = refl;
+  kept = ap (λ (p : Player). p.receipts) same;
+  number = ap (λ (p : Player). p.number) same;
+  tally = ap (λ (p : Player). p.tally) same;
+}
+
+-- a seat did some lines, and then one of its own
+pub did_own : (old new : Player) (tally : Tally) (line : SeatCall) (outcome : Outcome)
+    → (line.seat == old.number) ≡ true
+    → Makes line.call old outcome new → (HasRoom old.tally → tally ≡ counted old.tally outcome)
+    → (before : List SeatCall) → length before < 2 ^ 64 - 1
+    → IsSeatRun before old.number old.part old.tally old.receipts
+    → IsSeatRun (before ++ line ∷ []) old.number new.part tally new.receipts
+did_own old new tally line outcome own makes counts before few ran =
+    let short : length ran.calls < 2 ^ 64 - 1 =
+    omega (arith, made_length _ _ _ _ ran.made, own_few old.number before, few) in
+    let room : HasRoom old.tally = subst HasRoom (sym ran.told) (has_room ran.calls short) in
+    record {
+      calls = ran.calls ++ makes.came ∷ [];
+      made =
+          subst (λ (calls : List Call). AreMade (new_part old.number) calls
+          (ran.calls ++ makes.came ∷ []) new.part) (sym (own_more old.number before line own))
+          (made_more (new_part old.number) old.part new.part _ ran.calls line.call makes.came
+          ran.made makes.made);
+      told =
+          counts room ∙ ap (λ (t : Tally). counted t outcome) ran.told
+          ∙ ap (λ (o : Outcome). counted (tally_of ran.calls) o) (sym makes.told)
+          ∙ sym (tally_more ran.calls makes.came.outcome makes.came.receipt);
+      kept =
+          makes.kept ∙ ap (λ (receipts : List Receipt). and_kept receipts makes.came.receipt)
+          ran.kept ∙ sym (kept_more ran.calls makes.came);
+    }
+
+-- or one of another seat
+pub did_other : (old : Player) (line : SeatCall) → (line.seat == old.number) ≡ false
+    → (before : List SeatCall) → length before < 2 ^ 64 - 1
+    → IsSeatRun before old.number old.part old.tally old.receipts
+    → IsSeatRun (before ++ line ∷ []) old.number old.part old.tally old.receipts
+did_other old line other before few ran = record {
+  calls = ran.calls;
+  made =
+      subst (λ (calls : List Call). AreMade (new_part old.number) calls ran.calls old.part)
+      (sym (other_more old.number before line other)) ran.made;
+  told = ran.told;
+  kept = ran.kept;
+}
+
+-- a line of another seat is passed over
+pub skips : (line : SeatCall) (inside old : Player) → inside ≡ old
+    → (line.seat == inside.number) ≡ false → DoesLine line old old
+skips line inside old same other =
+    subst (λ (p : Player). DoesLine line p p) same
+    (record { number = refl; ran = did_other inside line other })
+
+-- a line of the seat's own is done
+pub does : (line : SeatCall) (inside old second made : Player) (tally : Tally) (outcome : Outcome)
+    → inside ≡ old → second ≡ made
+    → (line.seat == inside.number) ≡ true → Makes line.call old outcome made
+    → (HasRoom second.tally → tally ≡ counted second.tally outcome)
+    → DoesLine line old (record {
+      number = second.number;
+      part = second.part;
+      tally = tally;
+      receipts = second.receipts;
+    })
+does line inside old second made tally outcome same later own makes counts = record {
+  number = ap (λ (p : Player). p.number) later ∙ makes.number;
+  ran =
+      did_own old second tally line outcome
+      (subst (λ (p : Player). (line.seat == p.number) ≡ true) same own)
+      (subst (λ (p : Player). Makes line.call old outcome p) (sym later) makes)
+      (subst (λ (t : Tally). HasRoom t → tally ≡ counted t outcome)
+      (ap (λ (p : Player). p.tally) later ∙ makes.tally) counts);
+}
+
+-- a line more is done
+pub did_more : (lines : List SeatCall) (line : SeatCall) (old between new : Player)
+    → length lines < 2 ^ 64 - 1
+    → DoesLines lines old between → DoesLine line between new
+    → DoesLines (lines ++ line ∷ []) old new
+did_more lines line old between new few does one = record {
+  number = one.number ∙ does.number;
+  ran = λ number is.
+      let here : between.number ≡ number = does.number ∙ ap (λ (p : Player). p.number) is in
+      subst (λ (n : ℕ). IsSeatRun (lines ++ line ∷ []) n new.part new.tally new.receipts) here
+      (one.ran lines few (subst
+      (λ (n : ℕ). IsSeatRun lines n between.part between.tally between.receipts) (sym here)
+      (does.ran number is)));
+}
+
+take_few : {A : Type 0} (n : ℕ) (xs : List A) → length (take n xs) ≤ n
+take_few zero xs = omega arith
+take_few (suc n) [] = omega arith
+take_few (suc n) (x ∷ xs) = let rest = take_few n xs in omega (arith, rest)
+
+pub take_next : {A : Type 0} (xs : List A) (n : ℕ) (x : A) → slice_get xs n ≡ Some x
+    → take (suc n) xs ≡ take n xs ++ x ∷ []
+take_next [] n x there = absurd (cc)
+take_next (y ∷ ys) zero x there = ap (λ z. z ∷ []) (cc)
+take_next (y ∷ ys) (suc n) x there = ap (λ zs. y ∷ zs) (take_next ys n x there)
+
+-- the line at the next place is done
+pub does_next : (lines : List SeatCall) (place next : ℕ) (line : SeatCall)
+    (old between new : Player) → next ≡ suc place → place < 2 ^ 64 - 1
+    → slice_get lines place ≡ Some line → DoesLines (take place lines) old between
+    → DoesLine line between new → DoesLines (take next lines) old new
+does_next lines place next line old between new is few there before one =
+    subst (λ (ls : List SeatCall). DoesLines ls old new)
+    (sym (ap (λ (n : ℕ). take n lines) is ∙ take_next lines place line there))
+    (did_more (take place lines) line old between new
+    (let short = take_few place lines in omega (arith, short, few)) before one)
+
+-- what holds of each holds of the one that stands there
+stands : {A : Type 0} (P : A → Type 0) (xs : List A) (k : ℕ) (x : A) → AllByRecursion P xs
+    → slice_get xs k ≡ Some x → P x
+stands P [] k x all there = absurd (cc)
+stands P (y ∷ xs) zero x all there = subst P (cc) all.0
+stands P (y ∷ xs) (suc k) x all there = stands P xs k x all.1 there
+
+-- a text of a line has no zero byte
+byte_is_text : (byte : ℕ) → is_line_byte byte ≡ true → not (byte == 0) ≡ true
+byte_is_text byte plain = grind (arith, nat_tests)
+
+pub line_is_text : (text : List ℕ) → is_line_text text ≡ true → is_text text ≡ true
+line_is_text [] plain = refl
+line_is_text (byte ∷ text) plain =
+    let parts = and_parts (is_line_byte byte) (is_line_text text) plain in
+    and_from _ _ (byte_is_text byte parts.0) (line_is_text text parts.1)

@@ -1,0 +1,22 @@
+use Rattle.std.proofs.Common.{◌≡◌, inr, refl, subst}
+use Rattle.shared.specs.Close.{IfForeign}
+use Rattle.shared.specs.declared.closing.Unclosed.{Unclosed}
+use Rattle.shared.specs.declared.closing.Unclosed.TheVariants.{Foreign}
+use Rattle.script_runner.proofs.seat_run.close.Goals as goal
+
+-- what holds of what a foreign close hands back
+of_foreign : {A B : Type 0} (unclosed : Unclosed A B) (back : B) (P : B → Type 0)
+    → unclosed ≡ Foreign back → IfForeign unclosed P → P back
+of_foreign unclosed back P is told = subst (λ u. IfForeign u P) is told
+
+pub returns-clause-refused : goal.returns-clause-refused
+returns-clause-refused g c =
+    let foreign = c.in-Err-Foreign in
+    inr (
+      refl,
+      record {
+        closed = foreign.field-0-0.closed;
+        differs = of_foreign foreign.field-0 foreign.field-0-0 _ foreign.field-0-is
+            foreign.ensures.foreign;
+      },
+    )

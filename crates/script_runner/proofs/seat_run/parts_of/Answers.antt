@@ -1,0 +1,25 @@
+use Rattle.std.proofs.Common.{List, ◌++◌, ap, ◌∙◌}
+use Rattle.lock_state.specs.Comparison.{Receipt}
+use Rattle.script_runner.specs.inside.SeatWork.{Player}
+use Rattle.script_runner.proofs.SeatRunSteps.{joined_next, mapped_next}
+use Rattle.script_runner.proofs.seat_run.parts_of.Goals as goal
+
+pub loop-work-preserved : goal.loop-work-preserved
+loop-work-preserved g c =
+    let before = c.loop-work.invariant in
+    let players = c.loop-work.yielded in
+    let player = c.in-Some.work in
+    let view = c.work.view_is in (
+      tt,
+      tt,
+      mapped_next (λ (p : Player). p.part) players player c.loop-work.seats.items
+          c.push-in-loop-work.new.self.items _ c.in_ok-push-2.ensures.items before.2
+          (ap (λ (p : Player). p.part) view),
+      mapped_next (λ (p : Player). p.tally) players player c.loop-work.tallies.items
+          c.push.new.self.items _ c.in_ok-push.ensures.items before.3
+          (ap (λ (p : Player). p.tally) view),
+      c.in_ok-append.ensures.items
+          ∙ ap (λ (receipts : List Receipt). c.loop-work.receipts.items ++ receipts)
+          (ap (λ (p : Player). p.receipts) view)
+          ∙ joined_next players player c.loop-work.receipts.items before.4,
+    )

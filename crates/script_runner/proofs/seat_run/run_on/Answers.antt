@@ -1,0 +1,42 @@
+use Rattle.std.proofs.Common.{◌∙◌, ap}
+use Rattle.script_runner.specs.CallLaws.{on_error}
+use Rattle.sector_disk.specs.declared.disk.SectorDisk.{SectorDisk}
+use Rattle.sector_disk.specs.DiskView.{shown_of}
+use Rattle.bio.specs.Content.{gather}
+use Rattle.script_runner.proofs.SeatRunSteps.{fails_memory, fails_unclosed, fails_unplayed, is_run}
+use Rattle.script_runner.proofs.seat_run.run_on.Goals as goal
+
+pub returns-in_err-works-clause-faults : goal.returns-in_err-works-clause-faults
+returns-in_err-works-clause-faults g c =
+    on_error c.from_residual-in_err-works.result c.from_residual-in_err-works.ensures.1
+    (λ fault is. fails_memory c.args.script.now fault is)
+
+pub returns-in_err-works-2-clause-faults : goal.returns-in_err-works-2-clause-faults
+returns-in_err-works-2-clause-faults g c =
+    on_error c.from_residual-in_err-works-2.result c.from_residual-in_err-works-2.ensures.1
+    (λ fault is. fails_unplayed c.args.script.now c.in_err-works-2.field-0.0 fault
+    c.in_err-works-2.ensures.refused is)
+
+pub returns-in_err-seats-clause-faults : goal.returns-in_err-seats-clause-faults
+returns-in_err-seats-clause-faults g c =
+    on_error c.from_residual-in_err-seats.result c.from_residual-in_err-seats.ensures.1
+    (λ fault is. fails_memory c.args.script.now fault is)
+
+pub returns-in_err-closed-clause-faults : goal.returns-in_err-closed-clause-faults
+returns-in_err-closed-clause-faults g c =
+    let parts = c.in_ok-seats.ensures in
+    on_error c.from_residual-in_err-closed.result c.from_residual-in_err-closed.ensures.1
+    (λ fault is. fails_unclosed c.args.script.now c.in_ok-works-2.works.items _ _ _
+    c.in_err-closed.field-0.0 fault c.in_ok-works-2.ensures.played parts.seats
+    parts.tallies parts.receipts c.in_err-closed.ensures.refused is)
+
+pub returns-clause-ran : goal.returns-clause-ran
+returns-clause-ran g c =
+    let parts = c.in_ok-seats.field-0 in
+    let left = c.ran_of.ensures in
+    is_run _ _ _ c.args.script.now c.args.log c.in_ok-works-2.works.items parts.seats.items _
+    parts.receipts.items c.in_ok-closed.closed _ _ _ c.requires.fits
+    c.requires.ground c.requires.script.room c.requires.log c.in_ok-works-2.ensures.played
+    c.in_ok-seats.ensures.seats (left.tallies ∙ c.in_ok-seats.ensures.tallies)
+    c.in_ok-seats.ensures.receipts c.in_ok-closed.ensures.closed left.status left.lies
+    (ap (λ (disk : SectorDisk). gather (shown_of disk).content 0 (shown_of disk).size) left.disk)

@@ -1,0 +1,19 @@
+use Rattle.std.proofs.Common.{List, ap, ◌∙◌}
+use Rattle.lock_state.specs.Comparison.{Receipt}
+use Rattle.script_runner.specs.Tallies.{and_kept}
+use Rattle.script_runner.proofs.Seats.{line_is_text, makes_mark}
+use Rattle.script_runner.proofs.seat_work.Work.mark.Goals as goal
+
+pub returns : goal.returns
+returns g c =
+    let kept =
+    c.keep.ensures ∙ ap (λ (receipts : List Receipt). and_kept receipts
+    c.mark_receipt.result) c.reserve.ensures.items in
+    record {
+      made =
+          makes_mark c.args.text.now _ c.args.self.now c.mark-answer.new.seat c.mark-answer.result
+          c.of_mark-outcome.result c.mark_receipt.result
+          c.keep.new.receipts.items c.self.view_is
+          (c.mark-answer.ensures.marked (line_is_text c.args.text.now c.requires))
+          c.of_mark-outcome.ensures c.mark_receipt.ensures kept;
+    }

@@ -1,0 +1,198 @@
+//! The calls that one thread makes at its seat.
+ghost use Rattle.std.specs.Prelude.{◌≡◌, ◌==◌, ◌<◌, Ok, true, vec_capacity, vec_len};
+ghost use Rattle.dmlw_script.specs.declared.seat_call.Call.TheVariants.{Mark, Submit};
+ghost use Rattle.dmlw_script.specs.Plans.{submission_answer};
+ghost use Rattle.dmlw_script.specs.Lines.{is_line_text};
+ghost use Rattle.lock_state.specs.History.{new_part};
+ghost use Rattle.script_runner.specs.inside.SeatWork.{CanMake, DoesLine, DoesLines, FitsRecorder};
+ghost use Rattle.script_runner.specs.inside.SeatWork.{Makes, new_player};
+ghost use Rattle.script_runner.specs.Tallies.{and_kept, mark_receipt_in, receipt_in};
+
+use crate::request::bio_of;
+use crate::tally::{Outcome, Tally};
+use crate::write_data::WriteData;
+use bio::Ms;
+use blockdev::BlockDev;
+use board::Names;
+use dmlw_script::{Call, RunScript, SeatCall, Submission};
+use lock_state::{Receipt, Run, Seat};
+use shared::{Answer, MarkAnswer, Shared};
+use std::alloc::Global;
+use std::marker::Model;
+use std::sync::Wait;
+
+/// A seat, with the counts of its outcomes and its receipts so far. Contracts see it as a `Player`.
+#[derive(Drop)]
+pub struct Work<R: Run + Names> {
+    pub(crate) number: u64,
+    pub(crate) seat: Seat<R>,
+    pub(crate) tally: Tally,
+    // The receipts in the answers to its calls, in their order.
+    pub(crate) receipts: Vec<Receipt<R>>,
+    write_data: WriteData,
+}
+
+impl<R: Run + Names> Model for Work<R> {
+    ghost use Rattle.script_runner.specs.inside.SeatWork.{Player};
+
+    ghost Value = { Player };
+
+    ghost view = { λ w. record {
+      number = w.number;
+      part = w.seat;
+      tally = w.tally;
+      receipts = w.receipts.items;
+    } };
+}
+
+impl<R: Run + Names> Work<R> {
+    /// Makes the work of seat `number`, before its first call.
+    pub fn new(alloc: Global, number: u64, seat: Seat<R>) -> Work<R>
+        requires { seat ≡ new_part number }
+        ensures { result ≡ new_player number }
+    {
+        Work {
+            number,
+            seat,
+            tally: Tally::none(),
+            receipts: Vec::new(alloc),
+            write_data: WriteData::none(alloc),
+        }
+    }
+
+    /// Makes the calls of the seat's own lines in their order, at time 0.
+    pub fn run<D: BlockDev + Drop, L: BlockDev + Drop, H: Wait>(
+        &mut self,
+        rt: &H,
+        script: &RunScript,
+        recorder: &Shared<D, L, R>,
+    )
+        requires { FitsRecorder R.sector_bytes R.sectors script.now }
+        ensures { DoesLines script.now.calls self.old self.new }
+    {
+        let lines = script.calls();
+        for place in 0..lines.len() {
+            self.run_line(rt, &lines[place], recorder);
+        }
+    }
+
+    // Makes the call of a line, if it is the seat's own.
+    fn run_line<D: BlockDev + Drop, L: BlockDev + Drop, H: Wait>(
+        &mut self,
+        rt: &H,
+        line: &SeatCall,
+        recorder: &Shared<D, L, R>,
+    )
+        requires { CanMake R.sector_bytes R.sectors line.now.call }
+        ensures { DoesLine line.now self.old self.new }
+    {
+        if !is_own(line, self.number) {
+            return;
+        }
+        let outcome = self.make(rt, &line.call, recorder);
+        self.tally.count(outcome);
+    }
+
+    // Makes a call. It reserves memory for the receipt first. If there is none, a request fails and
+    // a mark is refused, and the recorder isn't called.
+    fn make<D: BlockDev + Drop, L: BlockDev + Drop, H: Wait>(
+        &mut self,
+        rt: &H,
+        call: &Call,
+        recorder: &Shared<D, L, R>,
+    ) -> Outcome
+        requires { CanMake R.sector_bytes R.sectors call.now }
+        ensures made { Makes call.now self.old result self.new }
+    {
+        match call {
+            Call::Submit(submission) => self.submit(rt, *submission, recorder),
+            Call::Mark { text } => self.mark(rt, text.as_slice(), recorder),
+        }
+    }
+
+    // Submits a request. If there is no memory for its receipt or its data, it fails, and the
+    // recorder isn't called.
+    #[tactic(auto, using(crate::proofs::Seats::makes_request, crate::proofs::Seats::fails))]
+    fn submit<D: BlockDev + Drop, L: BlockDev + Drop, H: Wait>(
+        &mut self,
+        rt: &H,
+        submission: Submission,
+        recorder: &Shared<D, L, R>,
+    ) -> Outcome
+        requires { submission_answer R.sector_bytes R.sectors submission ≡ Ok tt }
+        ensures made { Makes (Submit submission) self.old result self.new }
+    {
+        if self.receipts.reserve(1).is_err() {
+            return Outcome::Failed;
+        }
+        let Ok(bio) = bio_of(&mut self.write_data, submission) else {
+            return Outcome::Failed;
+        };
+        let answer = recorder.submit(rt, &mut self.seat, bio, Ms::new(0));
+        let outcome = Outcome::of_request(&answer);
+        keep(&mut self.receipts, receipt_of(answer));
+        outcome
+    }
+
+    // Passes a mark to the recorder.
+    #[tactic(auto, using(crate::proofs::Seats::line_is_text, crate::proofs::Seats::makes_mark, crate::proofs::Seats::refused))]
+    fn mark<D: BlockDev + Drop, L: BlockDev + Drop, H: Wait>(
+        &mut self,
+        rt: &H,
+        text: &[u8],
+        recorder: &Shared<D, L, R>,
+    ) -> Outcome
+        requires { is_line_text text.now ≡ true }
+        ensures made { Makes (Mark text.now) self.old result self.new }
+    {
+        if self.receipts.reserve(1).is_err() {
+            return Outcome::Refused;
+        }
+        let answer = recorder.mark(rt, &mut self.seat, text);
+        let outcome = Outcome::of_mark(&answer);
+        keep(&mut self.receipts, mark_receipt(answer));
+        outcome
+    }
+}
+
+// Whether the line belongs to seat `number`.
+fn is_own(line: &SeatCall, number: u64) -> bool
+    ensures { result ≡ (line.now.seat == number) }
+{
+    line.seat == number
+}
+
+// Keeps a receipt, if there is one, for the close. There is room for it.
+fn keep<R: Run>(receipts: &mut Vec<Receipt<R>>, receipt: Option<Receipt<R>>)
+    requires { vec_len receipts.old < vec_capacity receipts.old }
+    ensures { receipts.new.items ≡ and_kept receipts.old.items receipt }
+{
+    if let Some(receipt) = receipt {
+        receipts.push_reserved(receipt);
+    }
+}
+
+// Returns the receipt of a request, if it was logged.
+fn receipt_of<C: Drop>(answer: Answer<C>) -> Option<C>
+    ensures { result ≡ receipt_in answer }
+{
+    match answer {
+        Answer::Logged(receipt) => Some(receipt),
+        Answer::Done => None,
+        Answer::Read(bytes) => {
+            drop(bytes);
+            None
+        }
+        Answer::Failed(_) | Answer::NotLogged(_) | Answer::Refused(_) => None,
+    }
+}
+
+// Returns the receipt of a mark, if it was logged.
+fn mark_receipt<C: Drop>(answer: MarkAnswer<C>) -> Option<C>
+    ensures { result ≡ mark_receipt_in answer }
+{
+    match answer {
+        MarkAnswer::Logged(receipt) => Some(receipt),
+        _ => None,
+    }
+}

@@ -1,9 +1,0 @@
-use Rattle.std.proofs.Common.{length}
-use Rattle.seat_runner.specs.inside.SeatWork.{AreNewPlayers}
-use Rattle.seat_runner.proofs.seat_run.works_of.Given as goal
-
-abbrev pub invariant-loop-seat : goal.invariant-loop-seat
-invariant-loop-seat g l =
-    (goal.iterator-loop-seat g).can_next l.seat-iterator
-    × (goal.iterator-loop-seat g).is_finite l.seat-iterator
-    × AreNewPlayers (length l.yielded) l.works.items

@@ -1,2 +1,0 @@
--- The definitions that only the proofs of `seat_runner` use.
-pub mod SeatWork

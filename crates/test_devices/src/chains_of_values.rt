@@ -1,0 +1,148 @@
+//! Tests of chains: values are added, joined, taken, replaced, walked and lifted, and rows are used
+//! again.
+ghost use Rattle.std.specs.Prelude.{◌<◌, ◌≡◌, ◌==◌, IsTrue, None, length};
+ghost use Rattle.std.specs.List.{list_any};
+ghost use Rattle.pending.specs.Edits.{chain_in};
+
+use pending::chains::Chains;
+use std::alloc::{AllocError, Global};
+use std::test::Fail;
+
+fn number_of(word: Option<&str>) -> u64 {
+    word.unwrap_or_default().parse::<u64>().unwrap_or(0)
+}
+
+// Returns whether chain number `chain` can be used.
+fn is_there(chains: &Chains<u64>, chain: usize) -> bool
+    ensures { IsTrue result → 0 < chain × chain < length chains.now.chains }
+{
+    0 < chain && chain < chains.chains()
+}
+
+// Returns whether no chain is walked, and both chains exist and differ.
+fn are_two(chains: &Chains<u64>, one: usize, two: usize) -> bool
+    ensures rests { IsTrue result → chains.now.walked ≡ None }
+    ensures one { IsTrue result → 0 < one × one < length chains.now.chains }
+    ensures two { IsTrue result → 0 < two × two < length chains.now.chains }
+    ensures apart { IsTrue result → one ≡ two → ⊥ }
+{
+    chains.walked().is_none() && is_there(chains, one) && is_there(chains, two) && one != two
+}
+
+// Adds a value, or takes one.
+fn change(
+    chains: &mut Chains<u64>,
+    word: &str,
+    chain: usize,
+    value: u64,
+) -> Result<(), AllocError> {
+    if chains.walked().is_some() || !is_there(chains, chain) {
+        return Ok(());
+    }
+    match word {
+        "add" => chains.add(chain, value),
+        "take" => {
+            chains.take_first(chain);
+            Ok(())
+        }
+        "set" => {
+            chains.replace_first(chain, value);
+            Ok(())
+        }
+        _ => Ok(()),
+    }
+}
+
+// Moves a chain, or a step of the walk.
+fn go(chains: &mut Chains<u64>, word: &str, one: usize, two: usize) {
+    match word {
+        "join" if are_two(chains, one, two) => chains.join(one, two),
+        "put_before" if are_two(chains, one, two) => chains.put_before(one, two),
+        "walk" if chains.walked().is_none() && is_there(chains, one) => chains.walk(one),
+        "turn" => chains.turn(),
+        "lift" if chains.walked() != Some(one) && is_there(chains, one) => chains.lift(one),
+        "rest" => chains.rest(),
+        _ => {}
+    }
+}
+
+// Returns the values of each chain, with a bar after each chain, and the number of changed links.
+fn shown(alloc: Global, chains: &Chains<u64>) -> Result<String, AllocError> {
+    let mut text = String::new(alloc);
+    for chain in 1..chains.chains() {
+        for value in chains.iter(chain) {
+            write!(text, "{value} ")?;
+        }
+        text.push_str("| ")?;
+    }
+    let changed = chains.links_changed();
+    write!(text, "{changed}")?;
+    Ok(text)
+}
+
+// Returns the text of three chains after these steps, which are separated by commas. A step is a
+// word and one or two numbers.
+fn played(alloc: Global, steps: &str) -> Result<String, AllocError> {
+    let mut chains = Chains::new(alloc, 3)?;
+    for step in steps.split(",") {
+        let mut words = step.split(" ");
+        let word = words.next().unwrap_or_default();
+        let (one, two) = (number_of(words.next()), number_of(words.next()));
+        if word == "begin" && chains.walked().is_none() {
+            chains.begin_with(one)?;
+        }
+        change(&mut chains, word, one as usize, two)?;
+        go(&mut chains, word, one as usize, two as usize);
+    }
+    shown(alloc, &chains)
+}
+
+// Steps, and after `=` the chains: the values of each, and the number of changed links.
+const ROWS: &str = "add 1 10,add 1 11,add 2 20=10 11 | 20 | | 9
+add 1 10,add 1 11,add 2 20,join 1 2=| 20 10 11 | | 13
+add 1 10,add 1 11,add 2 20,join 2 1,join 3 1=10 11 20 | | | 13
+add 1 10,add 1 11,add 2 20,put_before 1 2=| 10 11 20 | | 12
+add 1 10,add 1 11,put_before 1 3=| | 10 11 | 8
+add 1 10,add 1 11,take 1,add 2 20=11 | 20 | | 13
+begin 40,add 4 41,take 4,take 4,take 4=| | | | 12
+add 1 10,add 1 11,set 1 12,set 2 20=12 11 | | | 6
+add 1 10,add 1 11,add 1 12,walk 1,turn=11 12 10 | | | 9
+add 1 10,add 1 11,add 1 12,walk 1,turn,lift 3,turn,rest=10 12 | | 11 | 13
+add 1 10,add 1 11,add 1 12,walk 1,lift 3,turn,lift 3,rest,join 3 2=11 | 12 10 | | 19
+add 1 10,add 2 20,walk 1,lift 2,lift 2,turn,rest=| 10 20 | | 9";
+
+#[test]
+fn chains_are_changed(rt: HostRuntime) -> Result<(), Fail> {
+    for row in ROWS.split("\n") {
+        let mut parts = row.split("=");
+        let shown = played(rt.alloc(), parts.next().unwrap_or_default())?;
+        assert_eq!(rt; Some(shown.as_str()), parts.next(), "{row}");
+    }
+    Ok(())
+}
+
+// Returns whether a value is in a chain.
+fn has(chains: &Chains<u64>, chain: usize, value: u64) -> bool
+    requires { 0 < chain × chain < length chains.now.chains }
+    ensures { result ≡ list_any (λ x. x == value) (chain_in chains.now.chains chain) }
+{
+    chains.iter(chain).any(|x| *x == value)
+}
+
+// A value is found while another chain is walked, and the first value is changed in place.
+#[test]
+fn chains_are_read(rt: HostRuntime) -> Result<(), Fail> {
+    let mut chains = Chains::new(rt.alloc(), 2)?;
+    chains.add(1, 10)?;
+    chains.add(2, 20)?;
+    *chains.first_mut(2) += 1;
+    chains.walk(1);
+    assert!(rt; has(&chains, 2, 21));
+    assert!(rt; !has(&chains, 2, 20));
+    assert_eq!(rt; chains.first(1), Some(&10));
+    assert!(rt; !chains.is_empty(2));
+    chains.rest();
+    assert_eq!(rt; chains.take_first(2), Some(21));
+    assert!(rt; chains.is_empty(2));
+    Ok(())
+}

@@ -1,0 +1,171 @@
+//! Tests of the disk in memory.
+use crate::calls::{ask, byte_of, look, play, read_of, step};
+use crate::{Failing, Lying, holds, is_same};
+use bio::{DevError, Ms};
+use blockdev::BlockDev;
+use sector_disk::SectorDisk;
+use std::alloc::Global;
+use std::io::Print;
+use std::process::Abort;
+use std::test::Fail;
+
+// Makes the calls of a line's words. `w31` writes 1s to sector 3, and `F31` the same with FUA.
+// `d32` discards 2 sectors from sector 3 on, and `c12` crashes with the picks 1 and 2.
+fn go(rt: &(impl Abort + Print), disk: &mut SectorDisk, line: &str) {
+    for word in line.split(' ') {
+        step(rt, disk, Ms::new(5), word, line);
+        look(rt, disk, word, line);
+    }
+    assert_eq!(rt; (disk.faults(), disk.lies()), (0, 0));
+}
+
+// Returns the bytes of a disk of four sectors of 7s after the words of a line.
+fn image_after(rt: &(impl Abort + Print), alloc: Global, line: &str) -> Result<Vec<u8>, Fail> {
+    let mut disk = SectorDisk::from_bytes(alloc, vec![in alloc; 7; 2048]?)?;
+    go(rt, &mut disk, line);
+    Ok(disk.into_bytes()?)
+}
+
+// A disk returns its image with the sectors that were written since, also after a crash.
+#[test]
+fn images_are_given_back(rt: HostRuntime) -> Result<(), Fail> {
+    for (line, wanted) in [
+        ("F39 w18 d11", [7, 0, 7, 9]),
+        ("F39 w18 d11 c1", [7, 8, 7, 9]),
+    ] {
+        let image = image_after(&rt, rt.alloc(), line)?;
+        assert!(rt; holds(&rt, image.len() == 2048, line));
+        for (sector, byte) in image.chunks(512).zip(wanted) {
+            assert!(rt; is_same(&rt, &byte_of(sector), &byte, line));
+        }
+    }
+    Ok(())
+}
+
+// Checks that the disk has these bytes, and that it turns into them.
+fn check_bytes(rt: &impl Abort, disk: SectorDisk, wanted: &[u8]) -> Result<(), Fail> {
+    assert!(rt; disk.bytes()?.as_slice() == wanted);
+    assert!(rt; disk.into_bytes()?.as_slice() == wanted);
+    Ok(())
+}
+
+// Returns a disk of these bytes after all of it was discarded.
+fn discarded(rt: &impl Abort, alloc: Global, image: &Vec<u8>) -> Result<SectorDisk, Fail> {
+    let length = image.len();
+    assert!(rt; 0 < length && length <= 3_072_000 && length % 512 == 0);
+    let mut disk = SectorDisk::from_bytes(alloc, image.clone()?)?;
+    let sectors = disk.sectors();
+    disk.discard(Ms::new(0), 0, sectors)?;
+    Ok(disk)
+}
+
+// Returns a new disk after all of it was written with FUA, and its power failed.
+fn written(rt: &impl Abort, alloc: Global, image: &Vec<u8>) -> Result<SectorDisk, Fail> {
+    let length = image.len();
+    assert!(rt; 0 < length && length <= 3_072_000 && length % 512 == 0);
+    let mut disk = SectorDisk::new(alloc, length as u64 / 512)?;
+    disk.write(Ms::new(0), 0, image, true)?;
+    disk.crash(&[]);
+    Ok(disk)
+}
+
+// Checks that images of `sectors` sectors, filled with 65 and with 0, are made, written, discarded
+// and returned.
+fn check_size(
+    rt: &impl Abort,
+    alloc: Global,
+    sectors: u64,
+    image: &Vec<u8>,
+    zeroes: &[u8],
+) -> Result<(), Fail> {
+    assert!(rt; 0 < sectors && sectors <= 6000 && image.len() == sectors as usize * 512);
+    check_bytes(rt, SectorDisk::from_bytes(alloc, image.clone()?)?, image)?;
+    check_bytes(rt, discarded(rt, alloc, image)?, zeroes)?;
+    check_bytes(rt, SectorDisk::new(alloc, sectors)?, zeroes)?;
+    check_bytes(rt, written(rt, alloc, image)?, image)
+}
+
+#[test]
+fn disks_of_each_size_are_kept(rt: HostRuntime) -> Result<(), Fail> {
+    let alloc = rt.alloc();
+    for sectors in [1, 8, 2048, 6000] {
+        let length = sectors as usize * 512;
+        let image = vec![in alloc; 65; length]?;
+        let zeroes = vec![in alloc; 0; length]?;
+        check_size(&rt, alloc, sectors, &image, &zeroes)?;
+    }
+    let mut large = SectorDisk::new(alloc, 1_048_576)?;
+    assert_eq!(rt; large.sectors(), 1_048_576);
+    assert_eq!(rt; large.discard(Ms::new(0), 0, 1_048_576), Ok(Ms::new(0)));
+    Ok(())
+}
+
+// Returns the byte that round number `round` puts in a sector of 64: 0 by a discard, or the number
+// of the round by a write.
+fn put_in_round(round: u64, sector: u64) -> u8 {
+    if (round % 16 + sector % 16) % 16 == 0 {
+        (round % 200) as u8
+    } else {
+        0
+    }
+}
+
+// Makes the first `rounds` rounds of calls.
+fn put_rounds(rt: &impl Abort, disk: &mut SectorDisk, rounds: u64) -> Result<(), DevError> {
+    for round in 0..rounds {
+        for sector in 0..64 {
+            assert_eq!(rt; disk.sectors(), 64);
+            match put_in_round(round, sector) {
+                0 => disk.discard(Ms::new(0), sector, 1)?,
+                value => disk.write(Ms::new(0), sector, &[value; 512], false)?,
+            };
+        }
+    }
+    Ok(())
+}
+
+// Checks that the disk holds what round number `round` put.
+fn check_round(rt: &impl Abort, disk: &mut SectorDisk, round: u64) {
+    for sector in 0..64 {
+        let answer = ask(rt, disk, Ms::new(7), read_of(sector));
+        assert!(rt; answer.end == Ok(Ms::new(7)) && answer.byte() == put_in_round(round, sector));
+    }
+}
+
+// 256,000 calls are kept, and each is as fast as the first. A disk that walked over all earlier
+// calls in each call would take far longer than a test may.
+#[test]
+fn thousands_of_calls_are_kept(rt: HostRuntime) -> Result<(), Fail> {
+    let mut disk = SectorDisk::new(rt.alloc(), 64)?;
+    put_rounds(&rt, &mut disk, 4000)?;
+    check_round(&rt, &mut disk, 3999);
+    // Candidate 0 is the durable value.
+    disk.crash(&[2346; 64]);
+    check_round(&rt, &mut disk, 2345);
+    Ok(())
+}
+
+// The laws of all devices are laws of the disk.
+#[test]
+fn the_device_laws_hold() {
+    blockdev::laws::flushed_writes_outlive_crashes::<SectorDisk>();
+    blockdev::laws::fua_writes_outlive_crashes::<SectorDisk>();
+    blockdev::laws::durable_sectors_stay::<SectorDisk>();
+    blockdev::laws::calls_tear_their_own_sectors::<SectorDisk>();
+    blockdev::laws::calls_tear_their_own_sectors_at_any_moment::<SectorDisk>();
+    blockdev::laws::crashes_leave_whole_sectors::<SectorDisk>();
+    blockdev::laws::devices_keep_their_size::<SectorDisk>();
+}
+
+// Other devices keep the law too: one that lies, and one that fails.
+#[test]
+fn devices_lie_and_fail(rt: HostRuntime) -> Result<(), Fail> {
+    let lying = Lying::new(SectorDisk::new(rt.alloc(), 1)?);
+    let mut disk = play(&rt, lying, "@3 F01 f #02").lower;
+    look(&rt, &mut disk, "=0", "a write that was lost");
+    let failing = Failing::in_changes(SectorDisk::new(rt.alloc(), 1)?, 1);
+    let mut disk = play(&rt, failing, "@3 w01 w02- f- #20").lower;
+    look(&rt, &mut disk, "=1", "a write that failed");
+    look(&rt, &mut disk, "!0", "a flush that failed");
+    Ok(())
+}

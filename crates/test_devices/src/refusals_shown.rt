@@ -1,0 +1,24 @@
+//! Tests of how a fault is printed.
+
+use crate::is_told;
+use refusals::{Fault, Refusal};
+use std::test::Fail;
+
+// Returns a fault with or without a line.
+fn fault(line: Option<u64>, refusal: Refusal) -> Fault {
+    Fault { line, refusal }
+}
+
+#[test]
+fn faults_are_shown(rt: HostRuntime) -> Result<(), Fail> {
+    let shown = format!(in rt.alloc();
+        "{}, {}, {}, {}",
+        fault(None, Refusal::Io),
+        fault(None, Refusal::EndMemory),
+        fault(None, Refusal::NoThread),
+        fault(Some(4), Refusal::Busy)
+    )?;
+    let wanted = "1 Io, 20 Memory, 38 NoThread, line 4: 24 Busy";
+    assert!(rt; is_told(&rt, shown.as_str(), wanted, "faults"));
+    Ok(())
+}

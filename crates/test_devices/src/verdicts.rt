@@ -1,0 +1,310 @@
+//! Tests of which images are judged possible, and which lists of events are lawful.
+
+use crate::{holds, rows_are_told};
+use bio::{Bio, Bytes, CoreEvent, End, Id};
+use judge::{First, Verdict, could_hold, is_lawful};
+use std::alloc::{AllocError, Global};
+use std::process::Abort;
+use std::test::Fail;
+
+// Returns a write of `length` bytes `byte`, without flush.
+fn write(
+    alloc: Global,
+    first: u64,
+    length: usize,
+    byte: u8,
+    fua: bool,
+) -> Result<CoreEvent, AllocError> {
+    Ok(CoreEvent::Submit(Bio::Write {
+        first,
+        bytes: Bytes::from_vec(vec![in alloc; byte; length]?),
+        flush: false,
+        fua,
+        meta: false,
+    }))
+}
+
+// Returns a mark whose text is the byte `byte`.
+fn mark(alloc: Global, byte: u8) -> Result<CoreEvent, AllocError> {
+    Ok(CoreEvent::Mark(Bytes::from_vec(vec![in alloc; byte; 1]?)))
+}
+
+// Returns the event that a word and its numbers mean.
+fn event_of(alloc: Global, word: &str, number: u64, byte: u8) -> Result<CoreEvent, AllocError> {
+    match word {
+        "w" => write(alloc, number, 512, byte, false),
+        "w3" => write(alloc, number, 1536, byte, false),
+        "cut" => write(alloc, number, 511, byte, false),
+        "fua" => write(alloc, number, 512, byte, true),
+        "m" => mark(alloc, byte),
+        "d" => Ok(CoreEvent::Submit(Bio::Discard {
+            first: number,
+            count: 1,
+        })),
+        "r" => Ok(CoreEvent::Submit(Bio::Read {
+            first: number,
+            count: 1,
+        })),
+        "f" => Ok(CoreEvent::Submit(Bio::Flush)),
+        "stop" => Ok(CoreEvent::Stop(End::Full)),
+        "close" => Ok(CoreEvent::Close),
+        word => Ok(CoreEvent::Complete {
+            id: Id::new(number),
+            ok: word == "c",
+        }),
+    }
+}
+
+// Returns the events that the steps mean.
+pub fn events_of(alloc: Global, steps: &str) -> Result<Vec<CoreEvent>, AllocError> {
+    let mut events = Vec::new(alloc);
+    for step in steps.split(",") {
+        let mut words = step.split(" ");
+        let word = words.next().unwrap_or_default();
+        let number = words.next().unwrap_or_default().parse::<u64>().unwrap_or(0);
+        let byte = words.next().unwrap_or_default().parse::<u8>().unwrap_or(0);
+        if !word.is_empty() {
+            events.push(event_of(alloc, word, number, byte)?)?;
+        }
+    }
+    Ok(events)
+}
+
+// Returns an image of zeroes, except for the sectors and the bytes that the words name.
+pub fn image_of(alloc: Global, sectors: u8, words: &str) -> Result<Vec<u8>, AllocError> {
+    let mut image = vec![in alloc; 0; sectors as usize * 512]?;
+    for word in words.split(" ") {
+        let mut parts = word.split(":");
+        let sector = parts
+            .next()
+            .unwrap_or_default()
+            .parse::<usize>()
+            .unwrap_or(255);
+        let byte = parts.next().unwrap_or_default().parse::<u8>().unwrap_or(0);
+        for at in 0..image.len() {
+            if at / 512 == sector {
+                image[at] = byte;
+            }
+        }
+    }
+    Ok(image)
+}
+
+// Returns whether all these bytes are zeroes.
+fn has_zeroes(bytes: &[u8]) -> bool {
+    bytes.iter().all(|byte| *byte == 0)
+}
+
+// Returns the verdict on `image`, after the first image `first` of the same length, if the events
+// are lawful. A no names a sector, and the index of the request that rules it out, if one does.
+fn verdict_of(
+    alloc: Global,
+    events: &[CoreEvent],
+    moment: u64,
+    first: &[u8],
+    image: &[u8],
+) -> Result<String, AllocError> {
+    if image.len() % 512 != 0
+        || first.len() != image.len()
+        || !is_lawful(events, (image.len() / 512) as u64)
+    {
+        return String::from_str(alloc, "unlawful");
+    }
+    let verdict = could_hold(alloc, events, moment, First::Image(first), image)?;
+    if has_zeroes(first) && could_hold(alloc, events, moment, First::Zeroes, image)? != verdict {
+        return String::from_str(alloc, "another one over zeroes");
+    }
+    match verdict {
+        Verdict::Yes => String::from_str(alloc, "yes"),
+        Verdict::No { sector, by: None } => format!(in alloc; "no {sector}"),
+        Verdict::No {
+            sector,
+            by: Some(id),
+        } => format!(in alloc; "no {sector} by {}", id.place()),
+    }
+}
+
+// Returns the verdict of a row. It has the number of sectors, the events, the moment, and for both
+// images the sectors that aren't zeroes.
+fn judged(alloc: Global, row: &str) -> Result<String, AllocError> {
+    let mut parts = row.split("|");
+    let sectors = parts.next().unwrap_or_default().parse::<u8>().unwrap_or(0);
+    let events = events_of(alloc, parts.next().unwrap_or_default())?;
+    let moment = parts.next().unwrap_or_default().parse::<u64>().unwrap_or(0);
+    let first = image_of(alloc, sectors, parts.next().unwrap_or_default())?;
+    let image = image_of(alloc, sectors, parts.next().unwrap_or_default())?;
+    verdict_of(alloc, &events, moment, &first, &image)
+}
+
+// Two writes of one sector, at moments before and after a flush. Then three writes, two of them
+// flushed; a FUA write over a plain one; two flushes of which the later one ends first. A discard
+// after a write; a flush and a FUA write that failed; a value that isn't submitted yet. A write of
+// three sectors, in part; a first content that isn't zero; no event, and no sector.
+pub const ROWS: &str = "16|w 3 1,w 3 2,c 0,c 1,f,c 4|4||=yes
+16|w 3 1,w 3 2,c 0,c 1,f,c 4|4||3:1=yes
+16|w 3 1,w 3 2,c 0,c 1,f,c 4|4||3:2=yes
+16|w 3 1,w 3 2,c 0,c 1,f,c 4|4||3:3=no 3
+16|w 3 1,w 3 2,c 0,c 1,f,c 4|6||3:1=yes
+16|w 3 1,w 3 2,c 0,c 1,f,c 4|6||3:2=yes
+16|w 3 1,w 3 2,c 0,c 1,f,c 4|6||=no 3 by 1
+16|w 3 1,w 3 2,c 0,c 1,f,c 4|7||=no 3 by 1
+64|w 10 17,w 20 34,w 30 51,c 2,c 1,f,c 0,c 5,close|7||30:51=yes
+64|w 10 17,w 20 34,w 30 51,c 2,c 1,f,c 0,c 5,close|8||30:51=no 20 by 1
+64|w 10 17,w 20 34,w 30 51,c 2,c 1,f,c 0,c 5,close|8||20:34 30:51=yes
+64|w 10 17,w 20 34,w 30 51,c 2,c 1,f,c 0,c 5,close|9||10:17 20:34 30:51=yes
+16|w 5 97,c 0,fua 5 98,c 2,f,c 4,close|7||5:97=no 5 by 2
+16|w 5 97,c 0,fua 5 98,c 2,f,c 4,close|3||5:97=yes
+16|w 5 97,c 0,fua 5 98,c 2,f,c 4,close|7||5:98=yes
+16|w 5 97,c 0,f,f,c 3,fua 9 99,c 5,c 2,close|4||=yes
+16|w 5 97,c 0,f,f,c 3,fua 9 99,c 5,c 2,close|5||=no 5 by 0
+16|w 5 97,c 0,f,f,c 3,fua 9 99,c 5,c 2,close|9||5:97 9:99=yes
+16|w 1 127,c 0,d 1,c 2,f,c 4,close|7||=yes
+16|w 1 127,c 0,d 1,c 2,f,c 4,close|7||1:127=no 1 by 2
+16|w 1 127,c 0,d 1,c 2,f,c 4,close|4||1:127=yes
+16|w 5 1,c 0,f,x 2|4||=yes
+16|w 5 1,c 0,f,c 2|4||=no 5 by 0
+16|fua 5 1,x 0|2||=yes
+16|fua 5 1,c 0|2||=no 5 by 0
+16|fua 5 1,c 0,fua 6 2,c 2|4||=no 5 by 0
+16|fua 6 1,c 0,fua 5 2,c 2|4||=no 5 by 2
+16|fua 5 1,c 0,fua 5 2,c 2,fua 5 3,c 4|6||5:1=no 5 by 4
+16|fua 5 1,fua 5 2,fua 5 3,c 2,c 1,c 0|6||5:1=yes
+16|w 5 1,w 5 2|0||5:1=no 5
+16|w 5 1,w 5 2|1||5:1=yes
+16|w 5 1,w 5 2|1||5:2=no 5
+16|w 5 1,w 5 2|2||5:2=yes
+8|w3 4 7,c 0,f,c 2|2||4:7 6:7=yes
+8|w3 4 7,c 0,f,c 2|4||4:7 6:7=no 5 by 0
+8|w3 4 7,c 0,f,c 2|4||4:7 5:7 6:7 7:7=no 7
+8|d 1|1|1:9 2:9|1:9 2:9=yes
+8|d 1|1|1:9 2:9|2:9=yes
+8|d 1|1|1:9 2:9|1:9=no 2
+8|d 1,m 0 120,f|3|1:9|1:8=no 1
+4||0|3:1|3:1=yes
+4||5|3:1|=no 3
+0||0||=yes
+0|f,c 0,m 0 120,f,stop,c 3,close|9||=yes";
+
+#[test]
+fn images_are_judged(rt: HostRuntime) -> Result<(), Fail> {
+    let alloc = rt.alloc();
+    assert!(rt; rows_are_told(&rt, ROWS, |row| judged(alloc, row))?);
+    Ok(())
+}
+
+// Lists of events, with `=` if they are lawful for 8 sectors, and `!` if they break one rule. The
+// broken rules are: the end of what wasn't submitted, of what has ended, of itself, of an end or of
+// a read; events after a stop or a close; a close with an open request; a read; a mark with a zero
+// byte; a request that isn't whole, that is past the end, or before another.
+const LISTS: &str = "
+=w 7 1
+=w 7 1,c 0,d 0,f,m 0 120,x 2,c 3,close
+=f,f,c 1,c 0
+=w 1 1,stop,c 0,close
+=stop,close
+!c 0
+!w 1 1,c 1
+!w 1 1,c 2,c 0
+!w 1 1,c 0,c 0
+!w 1 1,c 0,c 1
+!w 1 1,stop,w 2 1
+!w 1 1,stop,f
+!stop,stop
+!stop,m 0 120
+!close,w 1 1
+!close,close
+!close,stop
+!close,m 0 120
+!w 1 1,close
+!w 1 1,close,c 0
+!f,close
+!r 1
+!r 1,c 0
+!m 0 0
+!cut 1 1
+!w 8 1
+!w3 6 1
+!d 8
+!w 1 1,c 0,d 9";
+
+#[test]
+fn lawful_lists_are_told_apart(rt: HostRuntime) -> Result<(), Fail> {
+    for line in LISTS.split("\n") {
+        let steps = line.trim_start_matches(|c| c == '=' || c == '!');
+        let events = events_of(rt.alloc(), steps)?;
+        assert!(rt; holds(&rt, is_lawful(&events, 8) != line.starts_with("!"), line));
+    }
+    Ok(())
+}
+
+// Returns `count` writes of their numbers to the sectors of 4,096, one after another, and a flush.
+fn many_writes(alloc: Global, count: u64) -> Result<Vec<CoreEvent>, AllocError> {
+    let mut events = Vec::new(alloc);
+    for number in 0..count {
+        events.push(write(alloc, number % 4096, 512, (number % 251) as u8, false)?)?;
+        let id = Id::new(events.len() as u64 - 1);
+        events.push(CoreEvent::Complete { id, ok: true })?;
+    }
+    let id = Id::new(events.len() as u64);
+    events.push(CoreEvent::Submit(Bio::Flush))?;
+    events.push(CoreEvent::Complete { id, ok: true })?;
+    Ok(events)
+}
+
+// Returns the image that `count` of these writes leave.
+fn many_sectors(alloc: Global, count: u64) -> Result<Vec<u8>, AllocError> {
+    let mut image = vec![in alloc; 0; 4096 * 512]?;
+    for number in 0..count {
+        let sector = (number % 4096) as usize;
+        for at in 0..512 {
+            let place = sector * 512 + at;
+            if place < image.len() {
+                image[place] = (number % 251) as u8;
+            }
+        }
+    }
+    Ok(image)
+}
+
+// Returns the verdict on the image that `count` writes leave, after the events.
+fn verdict_on_many(
+    rt: &impl Abort,
+    alloc: Global,
+    events: &[CoreEvent],
+    count: u64,
+) -> Result<Verdict, AllocError> {
+    let first = many_sectors(alloc, 0)?;
+    let image = many_sectors(alloc, count)?;
+    assert!(rt; image.len() % 512 == 0 && first.len() == image.len());
+    assert!(rt; is_lawful(events, (image.len() / 512) as u64));
+    could_hold(alloc, events, 20_000, First::Image(&first), &image)
+}
+
+// After 20,000 events over 4,096 sectors the last values are possible, and an earlier one in the
+// last sector isn't.
+#[test]
+fn long_lists_are_judged(rt: HostRuntime) -> Result<(), Fail> {
+    let alloc = rt.alloc();
+    let events = many_writes(alloc, 9999)?;
+    assert!(rt; events.len() == 20_000);
+    assert!(rt; verdict_on_many(&rt, alloc, &events, 9999)? == Verdict::Yes);
+    let by = Some(Id::new(19_996));
+    let ruled_out = Verdict::No { sector: 1806, by };
+    assert!(rt; verdict_on_many(&rt, alloc, &events, 9998)? == ruled_out);
+    Ok(())
+}
+
+#[test]
+fn verdicts_are_compared(rt: HostRuntime) -> Result<(), Fail> {
+    let unsure = Verdict::No {
+        sector: 1,
+        by: None,
+    };
+    let sure = Verdict::No {
+        sector: 1,
+        by: Some(Id::new(1)),
+    };
+    assert!(rt; Verdict::Yes != unsure);
+    assert!(rt; unsure != sure);
+    Ok(())
+}

@@ -1,0 +1,78 @@
+//! Tests of how a line is cut into words, and which words are numbers.
+
+use crate::rows_are_told;
+use refusals::{count_words, cut, number_of, push_number, word_at};
+use std::alloc::{AllocError, Global};
+use std::process::Abort;
+use std::test::Fail;
+
+// Parses a word as a number, and prints it again. Returns that text, or that it is no number.
+fn answer(alloc: Global, word: &str) -> Result<String, Fail> {
+    match number_of(word.as_bytes()) {
+        Some(number) => {
+            let mut text = Vec::new(alloc);
+            push_number(&mut text, number)?;
+            Ok(String::from_utf8(text).unwrap_or(String::new(alloc)))
+        }
+        None => Ok(String::from_str(alloc, "no number")?),
+    }
+}
+
+// Words, and after `=` the number that each is parsed as.
+const NUMBERS: &str = "0=0
+7=7
+00000000000000000042=42
+000000000000000000042=no number
+18446744073709551615=18446744073709551615
+18446744073709551616=no number
+28446744073709551615=no number
+99999999999999999999=no number
+=no number
++1=no number
+-1=no number
+1x=no number
+/=no number
+:=no number";
+
+#[test]
+fn numbers_are_read(rt: HostRuntime) -> Result<(), Fail> {
+    let alloc = rt.alloc();
+    assert!(rt; rows_are_told(&rt, NUMBERS, |word| answer(alloc, word))?);
+    Ok(())
+}
+
+#[test]
+fn texts_are_cut(rt: HostRuntime) -> Result<(), Fail> {
+    let line: &[u8] = b"w a  5";
+    let (first, rest) = cut(line, b' ');
+    assert!(rt; first == b"w".as_slice() && rest == Some(b"a  5".as_slice()));
+    let (all, none) = cut(line, b'x');
+    assert!(rt; all == line && none.is_none());
+    Ok(())
+}
+
+// Returns the words of a line, with a bar after each.
+fn barred(rt: &impl Abort, alloc: Global, line: &str) -> Result<String, AllocError> {
+    let (line, mut shown) = (line.as_bytes(), String::new(alloc));
+    for place in 0..count_words(line) {
+        let word = word_at(line, place).unwrap_or_default();
+        shown.push_str(str::from_utf8(word).unwrap_or_default())?;
+        shown.push('|')?;
+    }
+    assert!(rt; word_at(line, count_words(line)).is_none());
+    Ok(shown)
+}
+
+// Lines, and after `=` their words.
+const LINES: &str = "=
+   =
+one=one|
+  0 16   linear =0|16|linear|
+a\tb c=a\tb|c|";
+
+#[test]
+fn words_are_told_apart(rt: HostRuntime) -> Result<(), Fail> {
+    let alloc = rt.alloc();
+    assert!(rt; rows_are_told(&rt, LINES, |line| barred(&rt, alloc, line))?);
+    Ok(())
+}

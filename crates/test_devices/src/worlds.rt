@@ -1,0 +1,256 @@
+//! Tests of which machine runs a device with a cache has, and what they leave.
+
+use crate::verdicts::{ROWS, events_of, image_of};
+use crate::{holds, rows_are_told};
+use bio::{CoreEvent, Id};
+use judge::{First, is_lawful};
+use refusals::{Fault, Refusal};
+use std::alloc::{AllocError, Global};
+use std::test::Fail;
+use world::{Step, StepError, World, reach};
+
+// Returns a device that holds these bytes, except for those after the last whole sector.
+fn world_of(alloc: Global, first: &[u8]) -> Result<World, AllocError> {
+    let whole = first.len() / 512 * 512;
+    World::new(alloc, &first[..whole])
+}
+
+// Takes a step, if the events are lawful for the device.
+fn take(world: &mut World, events: &[CoreEvent], step: &Step) -> Result<(), StepError> {
+    if !is_lawful(events, (world.image().len() / 512) as u64) {
+        return Err(StepError::BadStep);
+    }
+    world.step(events, step)
+}
+
+// Returns whether a device that held the image `first` takes each step, and leaves the other image.
+fn leaves(
+    alloc: Global,
+    events: &[CoreEvent],
+    first: &[u8],
+    run: &[Step],
+    image: &[u8],
+) -> Result<bool, AllocError> {
+    let mut world = world_of(alloc, first)?;
+    for step in run {
+        if take(&mut world, events, step).is_err() {
+            return Ok(false);
+        }
+    }
+    Ok(world.image() == image)
+}
+
+// Returns the steps as text, one after another.
+fn run_text(alloc: Global, run: &[Step]) -> Result<String, AllocError> {
+    let mut text = String::new(alloc);
+    for step in run {
+        if !text.is_empty() {
+            text.push_str(",")?;
+        }
+        text.push_str(format!(in alloc; "{step}")?.as_str())?;
+    }
+    Ok(text)
+}
+
+// Returns the run that leaves the image, if there is one and a device takes it.
+fn path(
+    alloc: Global,
+    events: &[CoreEvent],
+    moment: u64,
+    first: &[u8],
+    image: &[u8],
+) -> Result<String, AllocError> {
+    if image.len() % 512 != 0
+        || first.len() != image.len()
+        || !is_lawful(events, (image.len() / 512) as u64)
+    {
+        return String::from_str(alloc, "unlawful");
+    }
+    match reach(alloc, events, moment, First::Image(first), image)? {
+        Some(run) => {
+            if leaves(alloc, events, first, &run, image)? {
+                run_text(alloc, &run)
+            } else {
+                String::from_str(alloc, "refused")
+            }
+        }
+        None => String::from_str(alloc, "none"),
+    }
+}
+
+// Returns the run of a row. It has the number of sectors, the events, the moment, and for both
+// images the sectors that aren't zeroes.
+fn path_of(alloc: Global, row: &str) -> Result<String, AllocError> {
+    let mut parts = row.split("|");
+    let sectors = parts.next().unwrap_or_default().parse::<u8>().unwrap_or(0);
+    let events = events_of(alloc, parts.next().unwrap_or_default())?;
+    let moment = parts.next().unwrap_or_default().parse::<u64>().unwrap_or(0);
+    let first = image_of(alloc, sectors, parts.next().unwrap_or_default())?;
+    let image = image_of(alloc, sectors, parts.next().unwrap_or_default())?;
+    path(alloc, &events, moment, &first, &image)
+}
+
+// Two writes of one sector, at moments before and after a flush. Then an open request, and one that
+// failed; a discard; a flush that failed; no sector, with a mark, a stop and a close; no event.
+const RUNS: &str =
+    "16|w 3 1,w 3 2,c 0,c 1,f,c 4|4||=submit 0,land 0 3,submit 1,land 1 3,end 0 ok,end 1 ok,power
+16|w 3 1,w 3 2,c 0,c 1,f,c 4|4||3:1=submit 0,submit 1,land 1 3,land 0 3,destage 3,end 0 ok,end 1 ok,power
+16|w 3 1,w 3 2,c 0,c 1,f,c 4|4||3:2=submit 0,land 0 3,submit 1,end 0 ok,land 1 3,destage 3,end 1 ok,power
+16|w 3 1,w 3 2,c 0,c 1,f,c 4|4||3:3=none
+16|w 3 1,w 3 2,c 0,c 1,f,c 4|6||3:1=submit 0,submit 1,land 1 3,destage 3,land 0 3,destage 3,end 0 ok,end 1 ok,submit 4,end 4 ok,power
+16|w 3 1,w 3 2,c 0,c 1,f,c 4|6||3:2=submit 0,land 0 3,destage 3,submit 1,end 0 ok,land 1 3,destage 3,end 1 ok,submit 4,end 4 ok,power
+16|w 3 1,w 3 2,c 0,c 1,f,c 4|6||=none
+16|w 5 1,w 5 2|2||5:2=submit 0,submit 1,land 1 5,destage 5,power
+16|w 5 1,x 0|2||=submit 0,end 0 failed,power
+16|w 5 1,x 0|2||5:1=submit 0,land 0 5,destage 5,end 0 failed,power
+8|d 1|1|1:9 2:9|2:9=submit 0,land 0 1,destage 1,power
+16|w 5 1,c 0,f,x 2|4||=submit 0,land 0 5,end 0 ok,submit 2,end 2 failed,power
+0|f,c 0,m 0 120,f,stop,c 3,close|9||=submit 0,end 0 ok,submit 3,end 3 ok,power
+4||0|3:1|3:1=power";
+
+#[test]
+fn runs_are_reached(rt: HostRuntime) -> Result<(), Fail> {
+    let alloc = rt.alloc();
+    assert!(rt; rows_are_told(&rt, RUNS, |row| path_of(alloc, row))?);
+    Ok(())
+}
+
+// For each of the judge's rows, a run leaves each possible image, and no other.
+#[test]
+fn possible_images_are_reached(rt: HostRuntime) -> Result<(), Fail> {
+    let alloc = rt.alloc();
+    for row in ROWS.split("\n") {
+        let (asked, verdict) = row.split_once("=").unwrap_or_default();
+        let told = path_of(alloc, asked)?;
+        let wanted = if verdict == "yes" {
+            told.as_str().ends_with("power")
+        } else {
+            told.as_str() == "none"
+        };
+        assert!(rt; holds(&rt, wanted, row));
+    }
+    Ok(())
+}
+
+// Returns the step that these words mean.
+fn step_of(text: &str) -> Step {
+    let mut words = text.split(" ");
+    let word = words.next().unwrap_or_default();
+    let number = words.next().unwrap_or_default().parse::<u64>().unwrap_or(0);
+    let last = words.next().unwrap_or_default();
+    match word {
+        "submit" => Step::Submit(Id::new(number)),
+        "land" => Step::Land(Id::new(number), last.parse::<u64>().unwrap_or(0)),
+        "destage" => Step::Destage(number),
+        "end" => Step::End(Id::new(number), last == "ok"),
+        _ => Step::Power,
+    }
+}
+
+// Takes the steps of a row. Returns the answer to the last one: `ok`, or its refusal.
+fn answer_of(alloc: Global, row: &str) -> Result<String, AllocError> {
+    let (list, steps) = row.split_once("|").unwrap_or_default();
+    let events = events_of(alloc, list)?;
+    let image = image_of(alloc, 8, "")?;
+    let mut world = world_of(alloc, &image)?;
+    let mut answer: Result<(), StepError> = Ok(());
+    for text in steps.split(",") {
+        answer = take(&mut world, &events, &step_of(text));
+    }
+    match answer {
+        Ok(()) => String::from_str(alloc, "ok"),
+        Err(error) => {
+            let fault = Fault {
+                line: None,
+                refusal: Refusal::from(error),
+            };
+            format!(in alloc; "{fault}")
+        }
+    }
+}
+
+// Steps, and after `=` the answer to the last one. A second submission, and the submission of an
+// end. Landings before a submission, after an end, in another sector, and twice. A destage of a
+// sector on which nothing landed, and past the device's end. Ends before a landing, or with half of
+// the sectors landed. The end of a FUA write that isn't destaged after it landed, and of a flush
+// while something is only in the cache. Steps after power.
+const STEPS: &str = "w 3 1|submit 0=ok
+w 3 1|submit 0,submit 0=35 BadStep
+w 3 1,c 0|submit 1=35 BadStep
+w 3 1|submit 7=35 BadStep
+w 3 1|land 0 3=35 BadStep
+w 3 1|submit 0,land 0 3=ok
+w 3 1|submit 0,end 0 failed,land 0 3=35 BadStep
+w 3 1|submit 0,land 0 4=35 BadStep
+w 3 1|submit 0,land 0 3,land 0 3=35 BadStep
+w 3 1|destage 3=35 BadStep
+w 3 1|submit 0,land 0 3,destage 3=ok
+w 3 1|submit 0,land 0 3,destage 3,destage 3=ok
+w 3 1|submit 0,destage 99=35 BadStep
+w 3 1|end 0 failed=35 BadStep
+w 3 1|submit 0,end 0 failed=ok
+w 3 1|submit 0,end 0 ok=35 BadStep
+w 3 1|submit 0,land 0 3,end 0 ok=ok
+w 3 1|submit 0,land 0 3,end 0 ok,end 0 ok=35 BadStep
+w3 3 1|submit 0,land 0 3,land 0 5,end 0 ok=35 BadStep
+w3 3 1|submit 0,land 0 3,land 0 5,land 0 4,end 0 ok=ok
+fua 3 1|submit 0,land 0 3,end 0 ok=35 BadStep
+fua 3 1|submit 0,land 0 3,destage 3,end 0 ok=ok
+fua 3 1,w 3 2|submit 0,submit 1,land 1 3,destage 3,land 0 3,end 0 ok=35 BadStep
+w 3 1,f|submit 0,land 0 3,end 0 ok,submit 1,end 1 ok=35 BadStep
+w 3 1,f|submit 0,land 0 3,end 0 ok,submit 1,end 1 failed=ok
+w 3 1,f|submit 0,land 0 3,end 0 ok,submit 1,destage 3,end 1 ok=ok
+w 3 1,f|submit 0,submit 1,land 0 3,end 0 ok,end 1 ok=ok
+w 3 1,f|submit 0,land 0 3,end 0 failed,submit 1,end 1 ok=ok
+|power=ok
+|power,power=35 BadStep
+w 3 1|power,submit 0=35 BadStep
+w 3 1|submit 0,land 0 3,power,destage 3=35 BadStep";
+
+#[test]
+fn steps_are_answered(rt: HostRuntime) -> Result<(), Fail> {
+    let alloc = rt.alloc();
+    assert!(rt; rows_are_told(&rt, STEPS, |row| answer_of(alloc, row))?);
+    Ok(())
+}
+
+// Steps, and after `=` the image that they leave. A write that lands later isn't durable until the
+// next destage. A discard leaves zeroes.
+const IMAGES: &str = "w 3 1,w 3 2|submit 0,submit 1,land 0 3,destage 3,land 1 3=3:1
+w 3 1,w 3 2|submit 0,submit 1,land 0 3,destage 3,land 1 3,destage 3=3:2
+w 3 1,w 3 2|submit 0,submit 1,land 1 3,land 0 3,destage 3,power=3:1
+w 3 1,d 3|submit 0,submit 1,land 0 3,destage 3,land 1 3,destage 3=
+w3 0 7|submit 0,land 0 2,land 0 0,destage 2,destage 0=0:7 2:7";
+
+// Returns whether the steps leave the image of a row.
+fn is_left(alloc: Global, row: &str) -> Result<bool, AllocError> {
+    let (asked, words) = row.split_once("=").unwrap_or_default();
+    let (list, steps) = asked.split_once("|").unwrap_or_default();
+    let events = events_of(alloc, list)?;
+    let first = image_of(alloc, 8, "")?;
+    let mut world = world_of(alloc, &first)?;
+    for text in steps.split(",") {
+        if take(&mut world, &events, &step_of(text)).is_err() {
+            return Ok(false);
+        }
+    }
+    let image = image_of(alloc, 8, words)?;
+    Ok(world.image() == image.as_slice())
+}
+
+#[test]
+fn images_are_left(rt: HostRuntime) -> Result<(), Fail> {
+    for row in IMAGES.split("\n") {
+        assert!(rt; holds(&rt, is_left(rt.alloc(), row)?, row));
+    }
+    Ok(())
+}
+
+#[test]
+fn errors_are_compared(rt: HostRuntime) -> Result<(), Fail> {
+    assert!(rt; StepError::BadStep != StepError::Memory);
+    assert!(rt; Refusal::from(StepError::Memory) == Refusal::Memory);
+    assert!(rt; Step::Power != Step::Destage(3));
+    assert!(rt; Step::End(Id::new(1), true) == step_of("end 1 ok"));
+    Ok(())
+}

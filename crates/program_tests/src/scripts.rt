@@ -1,11 +1,11 @@
 //! Tests of what a script and a table line are parsed as, field by field, and of texts of any
 //! length.
 use dmlw_script::{print_script, *};
+use layer_table::{TableError, parse_line};
 use std::alloc::{AllocError, Global};
 use std::io::Print;
 use std::process::Abort;
 use std::test::Fail;
-use layer_table::{TableError, parse_line};
 use test_devices::{is_told, rows_are_told};
 
 // Returns the result of parsing a text: the printed script, or the fault.

@@ -9,7 +9,7 @@ use crate::is_same;
 use bio::Ms;
 use blockdev::BlockDev;
 use fault_layers::Kind;
-use layer_table::Stack;
+use layer_table::{LayerSpec, Stack, Target, parse_line};
 use plain::{Plain, counts, plain_call};
 use refusals::Refusal;
 use sector_disk::SectorDisk;
@@ -17,7 +17,6 @@ use std::alloc::Global;
 use std::io::Print;
 use std::process::Abort;
 use std::test::Fail;
-use layer_table::{LayerSpec, Target, parse_line};
 
 mod plain;
 

@@ -72,10 +72,10 @@ abbrev pub IsAsked : List Text → Task → Type 0
 IsAsked words task =
     (fault_of program_app words ≡ []) × IsAskedBy (subcommand_of program_app words) task
 
---- Why `words` ask for no task, and the kind of clap's error.
---- - `memory`: memory ran out while `words` were parsed.
---- - `fault`: clap finds a fault of this kind.
---- - `missing`: clap finds no fault, but `words` enter no command with all its words.
+-- Why `words` ask for no task, and the kind of clap's error.
+-- - `memory`: memory ran out while `words` were parsed.
+-- - `fault`: clap finds a fault of this kind.
+-- - `missing`: clap finds no fault, but `words` enter no command with all its words.
 pub data IsUntasked (words : List Text) (kind : ErrorKind) : Type 0 where
   memory : kind ≡ OutOfMemory → IsUntasked words kind
   fault : IsAmong kind (fault_of program_app words) → IsUntasked words kind

@@ -1,4 +1,4 @@
--- The definitions that the contracts of `pending` are written in.
+-- The definitions that the contracts of `pending` use.
 pub use Rattle.bio.specs.Requests
 pub use Rattle.bio.specs.Events
 pub use Rattle.bio.specs.Lawful

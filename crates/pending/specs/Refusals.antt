@@ -1,5 +1,5 @@
--- Which refusal a caller gets for a mark or a close that fails. The conversions in `recording`
--- return these.
+-- Which refusal a caller gets if a mark or a close fails. The conversions in `recording` return
+-- these refusals.
 use Rattle.refusals.specs.declared.refusal.Refusal.{Refusal}
 use Rattle.refusals.specs.declared.refusal.Refusal.TheVariants as refusals
 use Rattle.pending.specs.declared.recording.CloseError.{CloseError}
@@ -7,12 +7,12 @@ use Rattle.pending.specs.declared.recording.CloseError.TheVariants as close_erro
 use Rattle.pending.specs.declared.recording.MarkError.{MarkError}
 use Rattle.pending.specs.declared.recording.MarkError.TheVariants as mark_errors
 
--- the refusal of a mark that failed
+-- The refusal of a mark that failed.
 abbrev pub mark_refusal : MarkError → Refusal
 mark_refusal mark_errors.BadText = refusals.BadText
 mark_refusal mark_errors.Memory = refusals.Memory
 
--- the refusal of a close that failed
+-- The refusal of a close that failed.
 abbrev pub close_refusal : CloseError → Refusal
 close_refusal close_errors.Busy = refusals.Busy
 close_refusal close_errors.Memory = refusals.Memory

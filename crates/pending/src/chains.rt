@@ -1,8 +1,8 @@
-//! Chains of rows in one table, generic over what a row holds.
+//! Chains of values in one table, generic over the type of the values.
 //!
-//! A chain is a ring of links: the link of its last row leads to its first. So joining two chains,
-//! or moving a row from one to another, changes a few links and moves no value. A row that was
-//! freed is used again.
+//! A chain is a ring of links: the link of its last row leads to its first row. So joining two
+//! chains, or moving a row from one chain to another, changes a few links and moves no value. A
+//! free row is used again.
 pub use iter::Iter;
 pub use table::Chains;
 

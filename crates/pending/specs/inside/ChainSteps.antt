@@ -14,13 +14,13 @@ pub record Changes (old new : Links) (most : ℕ) : Type 0 where
   pub rows : length new.next.items ≡ length old.next.items
   pub chains : length new.lasts.items ≡ length old.lasts.items
 
--- the links hold some chains
+-- The links hold some chains.
 pub record IsKept (next : List ℕ) (lasts : List (Option ℕ)) : Type 0 where
   pub loose : List ℕ
   pub chains : List (List ℕ)
   pub holds : Holds next lasts loose chains
 
--- the row is the last one of a chain that the links hold
+-- The row is the last row of a chain that the links hold.
 pub record IsLast (next : List ℕ) (last : ℕ) : Type 0 where
   pub lasts : List (Option ℕ)
   pub loose : List ℕ
@@ -29,8 +29,8 @@ pub record IsLast (next : List ℕ) (last : ℕ) : Type 0 where
   pub holds : Holds next lasts loose chains
   pub there : last_in lasts chain ≡ Some last
 
--- The row is loose, and the chain exists. Its last row is the noted one; for other chains, a walk
--- may see another last row than the noted one.
+-- The row is loose, and the chain `chain` exists. The chain's last row is the one in `noted`. For
+-- other chains, a walk may see another last row than the one in `noted`.
 pub record IsLoose (next : List ℕ) (noted : List (Option ℕ)) (chain row : ℕ) : Type 0 where
   pub lasts : List (Option ℕ)
   pub loose : List ℕ
@@ -40,7 +40,7 @@ pub record IsLoose (next : List ℕ) (noted : List (Option ℕ)) (chain row : �
   pub there : chain < length noted
   pub within : chain < length lasts
 
--- There are loose rows that are a ring with the last row `moved`, and the chain exists.
+-- Some loose rows are a ring with the last row `moved`, and the chain `chain` exists.
 pub record IsLooseRing (next : List ℕ) (lasts : List (Option ℕ)) (chain moved : ℕ) : Type 0 where
   pub rows : List ℕ
   pub loose : List ℕ

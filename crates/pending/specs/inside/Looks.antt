@@ -3,7 +3,7 @@ use Rattle.std.specs.Prelude.{◌≡◌, ℕ, ◌<◌, ◌≤◌, List, [], leng
 use Rattle.pending.specs.inside.Rings.{times, Leads}
 use Rattle.pending.specs.inside.Tables.{filled, rows_from, value_at, values_of}
 
--- the rows that are left: those after `row`, up to `last`
+-- The rows that are left: those after `row`, up to `last`.
 abbrev pub rows_left : List ℕ → ℕ → Option ℕ → List ℕ
 rows_left next last None = []
 rows_left next last (Some row) = rows_from next last (length next) row
@@ -13,7 +13,7 @@ module _ {T : Type 0} where
   abbrev pub values_left : List ℕ → List (Option T) → ℕ → Option ℕ → List T
   values_left next rows last at = values_of rows (rows_left next last at)
 
-  -- The links lead from `row` over the rows that are left, which have values, to `last`.
+  -- the links lead from `row` over the rows that are left, each of which has a value, to `last`
   pub record IsWay (next : List ℕ) (rows : List (Option T)) (last row : ℕ) : Type 0 where
     pub todo : List ℕ
     pub leads : Leads next row todo last

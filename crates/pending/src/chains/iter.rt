@@ -9,15 +9,16 @@ use crate::chains::walk::seen_last;
 use std::iter::FusedIterator;
 use std::marker::Model;
 
-/// The values that are left of a chain. Contracts see their list. A step takes the same time for
-/// any length of the chain.
+/// Iterates over the values of a chain. Its value in contracts is the list of the values that are
+/// left. A step takes the same time whatever the chain's length is.
 #[derive(Drop)]
 pub struct Iter<'a, T> {
     links: &'a Links,
     rows: &'a [Option<T>],
-    // The chain's last row, if it has rows.
+    // The chain's last row, if the chain has rows.
     last: usize,
-    // The row whose link leads to the next value's row; None if no value is left.
+    // The row before the next value's row; at first the last row, since its link leads to the
+    // first. None at the end.
     at: Option<usize>,
 }
 
@@ -50,7 +51,7 @@ impl<'a, T> Iterator for Iter<'a, T> {
 
 impl<'a, T> FusedIterator for Iter<'a, T> {}
 
-// Returns a row, if it isn't the last one.
+// Returns the row, unless it is the last one.
 fn unless_last(row: usize, last: usize) -> Option<usize>
     ensures { result ≡ (if row == last then None else Some row) }
 {
@@ -58,8 +59,8 @@ fn unless_last(row: usize, last: usize) -> Option<usize>
 }
 
 impl<T: Drop> Chains<T> {
-    /// Returns the values of a chain, in order. For the chain that is being walked, they begin with
-    /// the value at which the walk is.
+    /// Returns the values of a chain, in order. If the chain is being walked, the first value is
+    /// the one at which the walk is.
     pub fn iter(&self, chain: usize) -> Iter<'_, T>
         requires { 0 < chain × chain < length self.now.chains }
         ensures { result ≡ chain_in self.now.chains chain }

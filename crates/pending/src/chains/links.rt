@@ -1,4 +1,4 @@
-//! The links between rows, and the one call that changes them.
+//! The links between rows, and the one function that changes them.
 ghost use Rattle.std.specs.Prelude.{◌≡◌, ℕ, ◌+◌, ◌-◌, ◌^◌, ◌<◌, ◌≤◌, min, None, [], ◌∷◌, ◌++◌};
 ghost use Rattle.std.specs.Prelude.{length, replicate, slice_set, IfOk, IfSome, IsOk, OnErr, OnOk};
 ghost use Rattle.std.specs.Prelude.{vec_capacity, vec_len};
@@ -12,14 +12,14 @@ use std::marker::Model;
 /// A change of one link.
 #[derive(Clone, Copy, Debug)]
 pub enum Change {
-    /// The last row of this chain is set; None means that the chain has no rows.
+    /// Sets the last row of this chain; None means that the chain has no rows.
     Last(usize, Option<usize>),
-    /// The link of the first row now leads to the second one.
+    /// Makes the link of the first row lead to the second row.
     Next(usize, usize),
 }
 
-/// The row to which the link of a row leads. It also notes the row whose link was last set to lead
-/// here; contracts don't see this note.
+/// The link of a row: `to` is the row to which it leads. `from` is the row whose link was last made
+/// to lead to this row; contracts don't see it.
 #[derive(Drop)]
 struct Link {
     to: usize,
@@ -47,7 +47,7 @@ impl Link {
         self.to
     }
 
-    // Returns the row whose link leads to this row, if the note is right.
+    // Returns the row whose link leads to this row, unless that link was changed since.
     fn from(&self) -> usize {
         self.from
     }
@@ -65,10 +65,10 @@ impl Link {
     }
 }
 
-/// The last row of a chain, if it has rows: `Option<usize>` in one word.
+/// The last row of a chain, if the chain has rows: an `Option<usize>` in one word.
 #[derive(Clone, Drop)]
 struct LastRow {
-    // `usize::MAX` if the chain has no rows: no row of a table has this number.
+    // `usize::MAX` if the chain has no rows. No row of a table has this number.
     row: usize,
 }
 
@@ -114,12 +114,12 @@ impl LastRow {
 pub struct Links {
     next: Vec<Link>,
     lasts: Vec<LastRow>,
-    // The number of links that were changed; 2^64 - 1 if there were more.
+    // How many links were changed; 2^64 - 1 if there were more.
     changed: u64,
 }
 
 impl Links {
-    /// Returns links without rows, for chain 0 and `chains` others.
+    /// Returns links without rows, for chain 0 and `chains` other chains.
     pub fn new(alloc: Global, chains: usize) -> Result<Links, AllocError>
         ensures next { IfOk result (λ links. links.next.items ≡ []) }
         ensures lasts { IfOk result (λ links. links.lasts.items ≡ replicate (chains + 1) None) }
@@ -142,8 +142,8 @@ impl Links {
         self.next[row].to()
     }
 
-    /// Returns the row whose link leads to `row`. `write` notes it at `row`, so that no search is
-    /// needed. This tests whether the note is right, and searches if it isn't.
+    /// Returns the row whose link leads to `row`. Tries first the row that is noted at `row`, and
+    /// searches only if its link leads elsewhere.
     pub fn before(&self, row: usize) -> usize
         requires { (some : ℕ) × (some < length self.now.next.items)
             × (after self.now.next.items some ≡ row) }
@@ -164,7 +164,7 @@ impl Links {
         unreachable!()
     }
 
-    /// Returns the last row of a chain, if it has rows.
+    /// Returns the last row of a chain, if the chain has rows.
     pub fn last(&self, chain: usize) -> Option<usize>
         requires { chain < length self.now.lasts.items }
         ensures { result ≡ last_in self.now.lasts.items chain }
@@ -172,14 +172,14 @@ impl Links {
         self.lasts[chain].row()
     }
 
-    /// Returns the number of links that were changed; 2^64 - 1 if there were more.
+    /// Returns how many links were changed; 2^64 - 1 if there were more.
     pub fn changed(&self) -> u64
         ensures { result ≡ self.now.changed }
     {
         self.changed
     }
 
-    /// Changes one link, and counts it.
+    /// Makes one change, and counts it.
     pub fn write(&mut self, change: Change)
         requires { IsWithin self.old.next.items self.old.lasts.items change }
         ensures next { self.new.next.items ≡ next_after self.old.next.items change }
@@ -196,7 +196,7 @@ impl Links {
         self.changed = self.changed.saturating_add(1);
     }
 
-    // Makes the link of `row` lead to `to`, and notes `row` there.
+    // Makes the link of `row` lead to `to`, and notes `row` at `to`.
     fn lead(&mut self, row: usize, to: usize)
         requires { row < length self.old.next.items }
         ensures next { self.new.next.items ≡ slice_set self.old.next.items row to }
@@ -209,7 +209,7 @@ impl Links {
         }
     }
 
-    /// Makes room for `more` chains.
+    /// Makes room for `more` more chains.
     pub fn reserve_chains(&mut self, more: usize) -> Result<(), AllocError>
         ensures next { self.new.next ≡ self.old.next }
         ensures lasts { self.new.lasts.items ≡ self.old.lasts.items }
@@ -226,7 +226,7 @@ impl Links {
         self.lasts.reserve(more)
     }
 
-    /// Makes room for `more` rows.
+    /// Makes room for `more` more rows.
     pub fn reserve_rows(&mut self, more: usize) -> Result<(), AllocError>
         ensures next { self.new.next.items ≡ self.old.next.items }
         ensures lasts { self.new.lasts ≡ self.old.lasts }
@@ -253,7 +253,7 @@ impl Links {
         self.lasts.push_reserved(LastRow::new(None));
     }
 
-    /// Adds a row, which is in no chain.
+    /// Adds a row that is in no chain.
     pub fn add_row(&mut self)
         requires { vec_len self.old.next < vec_capacity self.old.next }
         ensures next { self.new.next.items ≡ self.old.next.items ++ 0 ∷ [] }

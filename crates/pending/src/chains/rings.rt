@@ -1,5 +1,5 @@
-//! Operations on chains as rings of links. A row is taken out or put in, and two chains are joined,
-//! by a few changes each.
+//! Operations on chains, each of which is a ring of links. A few changes put a row in, take a row
+//! out, or join two chains.
 ghost use Rattle.std.specs.Prelude.{◌≡◌, ◌≢◌, ℕ, ◌+◌, ◌<◌, None, Some, Option, List, ◌∷◌};
 ghost use Rattle.std.specs.Prelude.{◌++◌, length, slice_set, IfSome};
 ghost use Rattle.pending.specs.Edits.{chain_in, fronted, joined, lengthened, preceded, shortened};
@@ -8,9 +8,9 @@ ghost use Rattle.pending.specs.inside.ChainSteps.{Changes, IsKept, IsLast, IsLoo
 
 use crate::chains::links::{Change, Links};
 
-/// Takes the first row out of the chain whose last row is `last`, so that it's loose. Returns the
-/// row that is then the last, or None if no row is left. Makes at most 1 change, and doesn't change
-/// the noted last rows of chains.
+/// Takes the first row out of the chain whose last row is `last`; then the row is loose. Returns
+/// the chain's last row after that, or None if no row is left. Makes at most 1 change, and doesn't
+/// change `lasts`.
 pub fn cut(links: &mut Links, last: usize) -> Option<usize>
     requires { IsLast links.old.next.items last }
     ensures holds { (lasts : List (Option ℕ)) (loose : List ℕ) (chains : List (List ℕ))
@@ -32,7 +32,7 @@ pub fn cut(links: &mut Links, last: usize) -> Option<usize>
     Some(last)
 }
 
-/// Puts a loose row before the first of a chain. Makes 2 changes, and doesn't change the noted last
+/// Puts a loose row before the first row of a chain. Makes 2 changes, and doesn't change the last
 /// row of another chain.
 pub fn put_first(links: &mut Links, chain: usize, row: usize)
     requires { IsLoose links.old.next.items links.old.lasts.items chain row }
@@ -71,8 +71,8 @@ pub fn put_last(links: &mut Links, chain: usize, row: usize)
     links.write(Change::Last(chain, Some(row)));
 }
 
-/// Takes the first row out of a chain, so that it's loose. Makes at most 1 change. Returns None if
-/// the chain has no rows.
+/// Takes the first row out of a chain, so that the row is loose, and returns it. Returns None if
+/// the chain has no rows. Makes at most 1 change.
 pub fn take_first(links: &mut Links, chain: usize) -> Option<usize>
     requires kept { IsKept links.old.next.items links.old.lasts.items }
     requires within { chain < length links.old.lasts.items }
@@ -94,8 +94,8 @@ pub fn take_first(links: &mut Links, chain: usize) -> Option<usize>
     Some(first)
 }
 
-// Puts loose rows, which are a ring with the last row `moved`, before the first of a chain. Makes
-// at most 2 changes.
+// Puts loose rows before the first row of a chain. The rows are a ring with the last row `moved`.
+// Makes at most 2 changes.
 fn put_ring(links: &mut Links, chain: usize, moved: usize)
     requires { IsLooseRing links.old.next.items links.old.lasts.items chain moved }
     ensures holds { (rows loose : List ℕ) (chains : List (List ℕ)) →
@@ -116,7 +116,7 @@ fn put_ring(links: &mut Links, chain: usize, moved: usize)
     }
 }
 
-/// Puts all rows of chain `from` before the first of chain `onto`. Makes at most 3 changes.
+/// Puts all rows of chain `from` before the first row of chain `onto`. Makes at most 3 changes.
 pub fn put_before(links: &mut Links, from: usize, onto: usize)
     requires kept { IsKept links.old.next.items links.old.lasts.items }
     requires from { from < length links.old.lasts.items }

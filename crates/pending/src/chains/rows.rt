@@ -1,4 +1,4 @@
-//! The rows of a table: how a value gets a row, and how it is put in or taken out.
+//! The rows of a table: which row a value gets, and how the value is put in or taken out.
 ghost use Rattle.std.specs.Prelude.{◌≡◌, ℕ, IsSome, ◌+◌, ◌-◌, ◌<◌, ◌≤◌, None, Some, List, length};
 ghost use Rattle.std.specs.Prelude.{map, max, slice_set, vec_capacity};
 ghost use Rattle.std.specs.Borrow.{Lends, sem};
@@ -11,11 +11,11 @@ use crate::chains::links::Links;
 use crate::chains::rings;
 use std::mem;
 
-/// The chain of the free rows.
+/// The number of the chain of the free rows.
 pub const FREE: usize = 0;
 
-/// Gets a row for a value, and makes it loose. This is the first free row, or a new one if none is
-/// free. Makes at most 1 change.
+/// Returns a loose row for a value: the first free row, or a new row if none is free. Makes at most
+/// 1 change.
 pub fn open_row<T>(links: &mut Links, rows: &mut Vec<Option<T>>) -> usize
     requires { HasRow links.old rows.old.items (vec_capacity rows.old) }
     ensures opened { (chains : List (List ℕ))
@@ -60,7 +60,7 @@ pub fn take_value<T>(rows: &mut Vec<Option<T>>, row: usize) -> Option<T>
     mem::replace(&mut rows[row], None)
 }
 
-/// Puts a value into a row, and returns the one that the row had.
+/// Puts a value into a row, and returns the value that the row had, if any.
 pub fn put_value<T>(rows: &mut Vec<Option<T>>, row: usize, value: T) -> Option<T>
     requires { row < length rows.old.items }
     ensures taken { result ≡ value_at rows.old.items row }
@@ -70,7 +70,7 @@ pub fn put_value<T>(rows: &mut Vec<Option<T>>, row: usize, value: T) -> Option<T
     mem::replace(&mut rows[row], Some(value))
 }
 
-/// Returns the value in a row that has one, to be changed.
+/// Returns a reference to the value in a row that has one, so that the caller can change the value.
 pub fn value_mut<T>(slot: &mut Option<T>) -> &mut T
     requires { IsSome slot.old }
     ensures* lends { sem 𝓛 (Lends (the_row T.row) T.row slot.entry result Some) }

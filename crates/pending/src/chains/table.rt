@@ -1,4 +1,4 @@
-//! Chains of values, and the calls that change them.
+//! A table of chains of values, and the calls that change it.
 ghost use Rattle.std.specs.Prelude.{◌≡◌, ◌≢◌, ◌+◌, ◌<◌, ◌≤◌, ◌==◌, None, Some, Option, []};
 ghost use Rattle.std.specs.Prelude.{◌∷◌, ◌++◌, length, replicate, max, IfOk, IsOk, OnOk, OnErr};
 ghost use Rattle.std.specs.Prelude.{OnSome, slice_get};
@@ -14,11 +14,11 @@ use crate::chains::walk::{Walk, first_row, seen_last};
 use std::alloc::{AllocError, Global};
 use std::marker::Model;
 
-/// Chains of values. Each chain has a number, from 1 on.
+/// Chains of values. The chains have the numbers from 1 on.
 #[derive(Debug, Drop)]
 pub struct Chains<T> {
     pub(crate) links: Links,
-    // The value in each row; a free row has none.
+    // The value in each row; None in a free row.
     pub(crate) rows: Vec<Option<T>>,
     pub(crate) walk: Option<Walk>,
 }
@@ -42,7 +42,7 @@ impl<T: Drop> Chains<T> {
     ghost use Rattle.std.specs.Borrow.{sem};
     ghost use Rattle.pending.specs.Lends.{lends_first};
 
-    /// Returns a table of `chains` empty chains, numbered from 1 on.
+    /// Returns a table of `chains` empty chains, with the numbers from 1 on.
     ///
     /// # Errors
     ///
@@ -60,7 +60,7 @@ impl<T: Drop> Chains<T> {
         })
     }
 
-    /// Makes room for `more` chains, which can then be begun without allocating.
+    /// Makes room for `more` more chains, which can then be begun without allocating.
     ///
     /// # Errors
     ///
@@ -76,7 +76,7 @@ impl<T: Drop> Chains<T> {
         self.links.reserve_chains(more)
     }
 
-    /// Makes room for `more` values, which can then be put into new rows without allocating.
+    /// Makes room for `more` more values, which can then be put into new rows without allocating.
     ///
     /// # Errors
     ///
@@ -93,7 +93,7 @@ impl<T: Drop> Chains<T> {
         self.rows.reserve(more)
     }
 
-    /// Makes room for one more value, if no row is free.
+    /// Makes room for one more value, unless a row is free.
     ///
     /// # Errors
     ///
@@ -124,8 +124,8 @@ impl<T: Drop> Chains<T> {
         self.links.begin();
     }
 
-    /// Appends a value to a chain, in a free row if there is one. Changes at most 4 links.
-    /// Allocates nothing.
+    /// Appends a value to a chain, in a free row if there is one. Changes at most 4 links, and
+    /// allocates nothing.
     pub fn add_reserved(&mut self, chain: usize, value: T)
         requires rests { self.old.walked ≡ None }
         requires chain { 0 < chain × chain < length self.old.chains }
@@ -142,7 +142,8 @@ impl<T: Drop> Chains<T> {
         rings::put_last(&mut self.links, chain, row);
     }
 
-    /// Appends all of chain `from` to chain `onto`. Changes at most 4 links, and moves no value.
+    /// Appends all values of chain `from` to chain `onto`. Changes at most 4 links, and moves no
+    /// value.
     pub fn join(&mut self, from: usize, onto: usize)
         requires rests { self.old.walked ≡ None }
         requires from { 0 < from × from < length self.old.chains }
@@ -156,7 +157,7 @@ impl<T: Drop> Chains<T> {
         rings::join(&mut self.links, from, onto);
     }
 
-    /// Puts all of chain `from` before the first of chain `onto`. Changes at most 3 links, and
+    /// Puts all values of chain `from` before those of chain `onto`. Changes at most 3 links, and
     /// moves no value.
     pub fn put_before(&mut self, from: usize, onto: usize)
         requires rests { self.old.walked ≡ None }
@@ -235,8 +236,7 @@ impl<T: Drop> Chains<T> {
         Ok(())
     }
 
-    /// Returns the number of chains, including chain 0. The next chain that is begun gets this
-    /// number.
+    /// Returns the number of chains, with chain 0. The next chain that is begun gets this number.
     pub fn chains(&self) -> usize
         ensures count { result ≡ length self.now.chains }
         ensures some { 0 < result }
@@ -244,8 +244,8 @@ impl<T: Drop> Chains<T> {
         self.links.chains()
     }
 
-    /// Returns the first value of a chain. For the chain that is being walked, this is the value at
-    /// which the walk is.
+    /// Returns the first value of a chain. If the chain is being walked, this is the value at which
+    /// the walk is.
     pub fn first(&self, chain: usize) -> Option<&T>
         requires { 0 < chain × chain < length self.now.chains }
         ensures { option_copied result ≡ slice_get (chain_in self.now.chains chain) 0 }
@@ -262,8 +262,8 @@ impl<T: Drop> Chains<T> {
         seen_last(&self.links, self.walk, chain).is_none()
     }
 
-    /// Replaces the first value of a chain, and returns the old one. Changes no link. If the chain
-    /// is empty, the new value is dropped.
+    /// Replaces the first value of a chain, and returns the old value. Changes no link. If the
+    /// chain is empty, drops the new value.
     pub fn replace_first(&mut self, chain: usize, value: T) -> Option<T>
         requires { 0 < chain × chain < length self.old.chains }
         ensures replaced { result ≡ slice_get (chain_in self.old.chains chain) 0 }
@@ -276,7 +276,8 @@ impl<T: Drop> Chains<T> {
         put_value(&mut self.rows, row, value)
     }
 
-    /// Returns the first value of a chain that isn't empty, to be changed. Changes no link.
+    /// Returns a reference to the first value of a chain that isn't empty, so that the caller can
+    /// change the value. Changes no link.
     pub fn first_mut(&mut self, chain: usize) -> &mut T
         requires chain { 0 < chain × chain < length self.old.chains }
         requires some { 0 < length (chain_in self.old.chains chain) }
@@ -287,14 +288,14 @@ impl<T: Drop> Chains<T> {
         value_mut(&mut self.rows[row])
     }
 
-    /// Returns which chain is being walked, if one is.
+    /// Returns the chain that is being walked, if there is one.
     pub fn walked(&self) -> Option<usize>
         ensures { result ≡ self.now.walked }
     {
         Some(self.walk?.chain)
     }
 
-    /// Returns the number of links that were changed; 2^64 - 1 if there were more.
+    /// Returns how many links were changed; 2^64 - 1 if there were more.
     pub fn links_changed(&self) -> u64
         ensures { result ≡ self.now.changed }
     {

@@ -1,4 +1,4 @@
-//! A walk over one chain.
+//! How far a walk over a chain has come.
 ghost use Rattle.std.specs.Prelude.{◌≡◌, ℕ, ◌<◌, IsSome, Some, length};
 ghost use Rattle.pending.specs.inside.Rings.{after, last_in};
 ghost use Rattle.pending.specs.inside.ChainSteps.{IsKept};
@@ -6,14 +6,14 @@ ghost use Rattle.pending.specs.inside.Tables.{seen_lasts};
 
 use crate::chains::links::Links;
 
-/// How far a walk over a chain has come: the row `at` counts as the chain's last one.
+/// A walk over `chain`. The row `at` counts as the chain's last row.
 #[derive(Clone, Copy, Debug)]
 pub struct Walk {
     pub chain: usize,
     pub at: Option<usize>,
 }
 
-/// Returns the row that counts as a chain's last one, if the chain has rows.
+/// Returns the row that counts as the last row of a chain, if the chain has rows.
 pub fn seen_last(links: &Links, walk: Option<Walk>, chain: usize) -> Option<usize>
     requires { chain < length links.now.lasts.items }
     ensures { result ≡ last_in (seen_lasts links.now.lasts.items walk) chain }

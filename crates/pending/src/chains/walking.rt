@@ -1,8 +1,8 @@
-//! The walk over a chain, which can take values out of its middle.
+//! The walk over a chain, during which values can be taken out of the chain's middle.
 //!
-//! A ring is the same ring, whichever of its rows counts as the last. So going past a value changes
-//! no link: it only changes the row at which the walk is, which counts as the chain's last. When
-//! the walk ends, this row is stored as the last.
+//! A ring stays the same, whichever of its rows counts as the last. So the walk goes past a value
+//! without changing a link: it only changes `Walk::at`, which counts as the chain's last row. When
+//! the walk ends, this row is stored as the last row.
 ghost use Rattle.std.specs.Prelude.{◌≡◌, ◌≢◌, ℕ, ◌<◌, None, Some, length};
 ghost use Rattle.pending.specs.Edits.{lifted, turned};
 ghost use Rattle.pending.specs.ChainsView.{ChangesFew, KeepsRoom};
@@ -13,7 +13,7 @@ use crate::chains::table::Chains;
 use crate::chains::walk::Walk;
 
 impl<T: Drop> Chains<T> {
-    /// Begins a walk over a chain, at its first value. Changes no link.
+    /// Begins a walk over a chain, at the chain's first value. Changes no link.
     pub fn walk(&mut self, chain: usize)
         requires rests { self.old.walked ≡ None }
         requires chain { 0 < chain × chain < length self.old.chains }
@@ -63,8 +63,8 @@ impl<T: Drop> Chains<T> {
         });
     }
 
-    /// Puts the first value of the walked chain before the first of chain `onto`. Changes at most 3
-    /// links, and moves no value.
+    /// Moves the first value of the walked chain to the front of chain `onto`. Changes at most 3
+    /// links, and moves no value in memory.
     pub fn lift(&mut self, onto: usize)
         requires onto { 0 < onto × onto < length self.old.chains }
         requires apart { self.old.walked ≢ Some onto }
@@ -90,8 +90,8 @@ impl<T: Drop> Chains<T> {
         });
     }
 
-    /// Ends the walk. Changes 1 link, if there was a walk. The chain keeps the order that it has
-    /// then.
+    /// Ends the walk. The values of the chain stay in their present order. Changes 1 link if there
+    /// was a walk.
     pub fn rest(&mut self)
         ensures chains { self.new.chains ≡ self.old.chains }
         ensures changed { ChangesFew self.old self.new 1 }

@@ -18,7 +18,7 @@ use Rattle.pending.proofs.HoldsLaws.{few-in, few-in-two, holds-turned, is-row, n
 use Rattle.pending.proofs.TableLaws.{table-at, table-kept}
 use Rattle.pending.proofs.WalkLaws.{sound-at, walk-last}
 
--- a row that is in all chains together is in one of them
+-- If a row is in all chains together, it is in one of them.
 row-in : (row : ℕ) (chains : List (List ℕ)) → 0 < times_in row chains
     → (chain : ℕ) × (0 < times row (chain_in chains chain))
 row-in row [] some = absurd (omega arith)
@@ -28,7 +28,7 @@ row-in row (xs ∷ chains) some = elim (cases_lt 0 (times row xs)) [
       let rest = row-in row chains (omega (arith, sum_by-cons (times row) xs chains)) in (suc rest.0, rest.1)
 ]
 
--- a list that has a row: what comes before it, and what comes after it
+-- If a list has a row, it is what comes before the row, the row, and what comes after it.
 around : (row : ℕ) (rows : List ℕ) → 0 < times row rows
     → (front : List ℕ) × (back : List ℕ) × (rows ≡ front ++ row ∷ back)
 around row [] some = absurd (omega arith)
@@ -39,8 +39,8 @@ around row (x ∷ xs) some = elim (cases_eq x row) [
       (x ∷ rest.0, rest.1, ap (λ ys. x ∷ ys) rest.2)
 ]
 
--- The row whose link leads to a ring's last row is the one before that, or the only one. The ring
--- has its last row once.
+-- If a ring has its last row only once, the row before it is the one whose link leads to it. If
+-- the ring has no other row, the link of the last row leads to itself.
 ring-before : (next : List ℕ) (last : ℕ) (rows front : List ℕ) (row : ℕ) (back : List ℕ)
     → IsRing next last rows → rows ≡ front ++ row ∷ back → after next row ≡ last
     → times last rows ≤ 1
@@ -83,7 +83,7 @@ ring-before next last rows front row back ring is leads few =
         let end = times-same last row [] rest in
         omega arith)
 
--- a row of a ring leads to a row of that ring
+-- If a row is in a ring, its link leads to a row of this ring.
 ring-closed : (next : List ℕ) (last : ℕ) (front : List ℕ) (row : ℕ) (back : List ℕ)
     → Leads next last (front ++ row ∷ back) last
     → 0 < times (after next row) (front ++ row ∷ back)
@@ -104,7 +104,7 @@ ring-closed next last (f ∷ fs) row [] way =
     let same : f ≡ after next row = sym way.0 ∙ ap (after next) (sym rest) in
     omega (arith, times-same (after next row) f (fs ++ row ∷ []) same)
 
--- a row of a chain leads to a row of that chain
+-- If a row is in a chain, its link leads to a row of this chain.
 chain-closed : {next : List ℕ} {lasts : List (Option ℕ)} {chains : List (List ℕ)}
     → Holds next lasts [] chains
     → (chain row : ℕ) → 0 < times row (chain_in chains chain)
@@ -122,7 +122,7 @@ chain-closed {next} {lasts} {chains} h chain row some = by_last (last_in lasts c
         (ring-at h chain last noted).leads) in
         let e = ap (times (after next row)) parts.2 in omega arith
 
--- the row whose link leads to the last one of a chain is in that chain
+-- If the link of a row leads to the last row of a chain, the row is in this chain.
 row-of : {next : List ℕ} {lasts : List (Option ℕ)} {chains : List (List ℕ)}
     → Holds next lasts [] chains
     → (chain last row : ℕ) → last_in lasts chain ≡ Some last → row < length next
@@ -141,7 +141,7 @@ row-of {next} {lasts} {chains} h chain last row noted small leads =
           omega arith)
     ]
 
--- some row's link leads to the end of a way
+-- If links lead along some rows to a row, the link of one of them leads to this row.
 way-end : (next : List ℕ) (from row : ℕ) (rows : List ℕ) (to : ℕ) → Leads next from (row ∷ rows) to
     → (x : ℕ) × (after next x ≡ to) × (0 < times x (from ∷ row ∷ rows))
 way-end next from row [] to way =
@@ -154,7 +154,7 @@ way-end next from row (other ∷ rows) to way =
           omega (arith, times-append rest.0 (from ∷ []) (row ∷ other ∷ rows)),
     )
 
--- some row's link leads to the last one of a chain
+-- For each chain that has a last row, the link of some row leads to this last row.
 pub before-there : {next : List ℕ} {lasts : List (Option ℕ)} {chains : List (List ℕ)}
     → Holds next lasts [] chains
     → (chain last : ℕ) → last_in lasts chain ≡ Some last
@@ -182,7 +182,8 @@ before-there {next} {lasts} {chains} h chain last noted =
           end.1,
         )
 
--- the rows of a chain seen from the row before its last: turned they are as they were
+-- If a chain is seen from the row before its last row, turning its rows gives the rows as they
+-- were.
 back-rows : {next : List ℕ} {lasts : List (Option ℕ)} {chains : List (List ℕ)}
     → Holds next lasts [] chains
     → (chain last row : ℕ) → last_in lasts chain ≡ Some last → row < length next
@@ -210,7 +211,7 @@ back-rows {next} {lasts} {chains} h chain last row noted small leads =
     ]
 
 module _ {T : Type 0} where
-  -- the table then
+  -- the table after that
   back-table : {next : List ℕ} {lasts : List (Option ℕ)} {rows : List (Option T)}
       {chains : List (List ℕ)} → IsTable next lasts rows chains
       → (chain last row : ℕ) → 0 < chain → last_in lasts chain ≡ Some last → row < length next
@@ -226,7 +227,7 @@ module _ {T : Type 0} where
             (in-other chains chain 0 back.0 (λ e. absurd (omega arith))),
       )
 
-  -- what the walk sees then
+  -- what the walk sees after that
   pub back-made : (links : Links) (rows : List (Option T)) (walk : Option Walk) (w : Walk)
       (at row : ℕ) → IsSound links rows walk → walk ≡ Some w → w.at ≡ Some at
       → row < length links.next.items → after links.next.items row ≡ at
@@ -250,7 +251,7 @@ module _ {T : Type 0} where
             (ap (λ k. set (seen_chains links k) w.chain back.0) (sym is)) back.2,
       )
 
--- chains of which one is seen from the row before its last, turned, are as they were
+-- If one chain is seen from the row before its last row, turning it gives the chains as they were
 pub back-turned : (chains : List (List ℕ)) (chain : ℕ) (new : List ℕ) → chain < length chains
     → drop 1 new ++ take 1 new ≡ chain_in chains chain
     → turned (set chains chain new) chain ≡ chains

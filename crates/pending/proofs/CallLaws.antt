@@ -1,4 +1,4 @@
--- What the table is after a call that takes a value out or puts one in.
+-- The table after a call that takes a value out or puts a value in.
 use Rattle.std.proofs.Common.{◌≡◌, ℕ, zero, suc, ◌+◌, ◌-◌, ◌<◌, ◌≤◌, max, List, [], ◌∷◌, ◌++◌}
 use Rattle.std.proofs.Common.{length, map, get_or, set, drop, replicate, Option, Some, None, refl}
 use Rattle.std.proofs.Common.{ap, sym, ◌∙◌, subst, arith, length-append, min, vec_capacity}
@@ -24,24 +24,25 @@ use Rattle.pending.proofs.TableLaws.{table-rest}
 use Rattle.pending.proofs.OpenLaws.{chain-full, chain-length, closed-filled, closed-free, free-none}
 use Rattle.pending.proofs.OpenLaws.{nothing-cut, open-taken}
 
--- what holds anyway holds of what is there
+-- If P holds, it holds whether or not a value was found.
 pub on-some : {A : Type 0} (found : Option A) (P : Type 0) → P → OnSome found P
 on-some None P p = tt
 on-some (Some x) P p = p
 
--- a walk hides no free row
+-- A walk doesn't change what is seen of the free rows.
 seen-free : (lasts : List (Option ℕ)) (walk : Option Walk) → IsWalk lasts walk
     → last_in (seen_lasts lasts walk) 0 ≡ last_in lasts 0
 seen-free lasts None walks = refl
 seen-free lasts (Some walk) walks =
     let some = walks.0 in get_or-set_other lasts walk.chain 0 walk.at None (λ e. absurd (omega arith))
 
--- what is none, by a test
+-- If the test `is_some` fails, there is no value.
 not-some : (found : Option ℕ) → is_some found ≡ false → found ≡ None
 not-some None none = refl
 not-some (Some x) none = cc
 
--- a value put into the chain that was begun last
+-- Putting a value into the chain that was begun last gives the chains with one more chain, which
+-- has this value.
 pub begun-filled : {X : Type 0} (chains : List (List X)) (chain : ℕ) (x : X) → chain ≡ length chains
     → lengthened (chains ++ [] ∷ []) chain x ≡ chains ++ (x ∷ []) ∷ []
 begun-filled chains chain x is =
@@ -49,18 +50,18 @@ begun-filled chains chain x is =
     (get_or_at chains [] [] [] chain (sym is))
     ∙ set_at chains [] [] (x ∷ []) chain (sym is)
 
--- what is read of a list of defaults
+-- Each element of a list of defaults is the default.
 pub default-in : {X : Type 0} (n i : ℕ) (d : X) → get_or (replicate n d) i d ≡ d
 default-in zero i d = refl
 default-in (suc n) zero d = refl
 default-in (suc n) (suc i) d = default-in n i d
 
--- a sum of nothing
+-- If f is 0 for the element, its sum over copies of this element is 0.
 pub sum-none : {X : Type 0} (f : X → ℕ) (n : ℕ) (x : X) → f x ≡ 0 → sum_by f (replicate n x) ≡ 0
 sum-none f zero x none = refl
 sum-none f (suc n) x none = omega (arith, sum_by-cons f x (replicate n x), sum-none f n x none)
 
--- no rows, and n chains
+-- Without rows, the links hold n chains without rows.
 pub holds-none : (n : ℕ) → Holds [] (replicate n None) [] (replicate n [])
 holds-none n = record {
   size = length-replicate n [] ∙ sym (length-replicate n None);
@@ -73,7 +74,7 @@ holds-none n = record {
   all = let e = sum-none (λ (rows : List ℕ). length rows) n [] refl in omega arith;
 }
 
--- the first row of a chain that has a last one
+-- The link of a chain's last row leads to the chain's first row.
 pub first-row : {next : List ℕ} {lasts : List (Option ℕ)} {loose : List ℕ} {chains : List (List ℕ)}
     → Holds next lasts loose chains
     → (chain last row : ℕ) → last_in lasts chain ≡ Some last → row ≡ after next last
@@ -82,13 +83,13 @@ first-row {next} {lasts} {loose} {chains} h chain last row noted is =
     let first = first-of (ring-at h chain last noted) in
     (first.0, (first.1).is ∙ ap (λ r. r ∷ first.0) (sym is))
 
--- the chain of the free rows, whose first is put before it, is longer by it
+-- If a row is put before the first free row, there is one more free row.
 pub longer-free : (chains : List (List ℕ)) (row : ℕ) → 0 < length chains
     → length (chain_in (preceded chains 0 row) 0) ≡ 1 + length (chain_in chains 0)
 longer-free chains row within =
     let e = ap length (in-put chains 0 (row ∷ chain_in chains 0) within) in omega arith
 
--- the chain of the free rows without its first
+-- If the first free row is taken out, there is one free row less.
 pub shorter-free : (chains : List (List ℕ))
     → length (chain_in (shortened chains 0) 0) ≡ length (chain_in chains 0) - 1
 shorter-free chains = by_chain (chain_in chains 0) refl
@@ -106,13 +107,13 @@ shorter-free chains = by_chain (chain_in chains 0) refl
         let e = ap length is in
         omega arith
 
--- the free rows aren't those of a chain that was written
+-- If a chain other than that of the free rows is written, the free rows don't change.
 pub free-kept : (chains : List (List ℕ)) (chain : ℕ) (rows : List ℕ) → 0 < chain
     → chain_in (set chains chain rows) 0 ≡ chain_in chains 0
 free-kept chains chain rows shown = in-other chains chain 0 rows (λ e. absurd (omega arith))
 
 module _ {T : Type 0} where
-  -- the first value of a chain
+  -- the first value of a chain is the value in the chain's first row
   pub first-value : {next : List ℕ} {lasts : List (Option ℕ)} {rows : List (Option T)}
       {chains : List (List ℕ)} → IsTable next lasts rows chains
       → (chain row : ℕ) (rest : List ℕ) → 0 < chain → chain_in chains chain ≡ row ∷ rest
@@ -129,7 +130,7 @@ module _ {T : Type 0} where
             ∙ values-first rows row rest found.0 found.1),
       )
 
-  -- a row of a chain is one of the table
+  -- a row of a chain is a row of the table
   pub row-within : {next : List ℕ} {lasts : List (Option ℕ)} {rows : List (Option T)}
       {chains : List (List ℕ)} → IsTable next lasts rows chains
       → (chain row : ℕ) (rest : List ℕ) → chain_in chains chain ≡ row ∷ rest → row < length rows
@@ -140,14 +141,14 @@ module _ {T : Type 0} where
       let sized = t.sized in
       omega arith
 
-  -- a chain that is shown has a last row noted, or none
+  -- if contracts see a chain, the links have a last row for it, or none
   pub chain-noted : {next : List ℕ} {lasts : List (Option ℕ)} {rows : List (Option T)}
       {chains : List (List ℕ)} → IsTable next lasts rows chains
       → (chain : ℕ) → chain < length (map (values_of rows) chains) → chain < length lasts
   chain-noted {next} {lasts} {rows} {chains} t chain less =
       let size = (t.holds).size in omega (arith, length-map chains (values_of rows))
 
-  -- the loose row of a table may be put to the free ones, or to a chain
+  -- the loose row of a table may be put to the free rows, or to a chain
   pub loose-open : {next : List ℕ} {lasts : List (Option ℕ)} {rows : List (Option T)} {row : ℕ}
       {chains : List (List ℕ)} → IsOpen next lasts rows row chains
       → (chain : ℕ) → chain < length lasts → IsLoose next lasts chain row
@@ -161,7 +162,7 @@ module _ {T : Type 0} where
     within = less;
   }
 
-  -- the loose row is one of the table
+  -- the loose row is a row of the table
   pub open-within : {next : List ℕ} {lasts : List (Option ℕ)} {rows : List (Option T)} {row : ℕ}
       {chains : List (List ℕ)} → IsOpen next lasts rows row chains
       → row < length rows
@@ -171,7 +172,7 @@ module _ {T : Type 0} where
       let sized = o.sized in
       omega arith
 
-  -- all rows have a value or are free
+  -- each row has a value or is free
   pub table-count : {next : List ℕ} {lasts : List (Option ℕ)} {rows : List (Option T)}
       {chains : List (List ℕ)} → IsTable next lasts rows chains
       → count_in (map (values_of rows) chains) + length (chain_in chains 0) ≡ length rows
@@ -207,7 +208,7 @@ module _ {T : Type 0} where
             rest_count more (λ chain. chain-length u (suc chain) (omega arith)),
           ))
 
-  -- the rows after a value was put in: as many as before, or as there are values
+  -- after a value was put in, there are as many rows as before, or as there are values
   pub table-rows : {next : List ℕ} {lasts : List (Option ℕ)} {rows : List (Option T)}
       {chains : List (List ℕ)} → IsTable next lasts rows chains
       → (before free : ℕ) → length rows ≡ max before (before - free + 1) → free ≤ before
@@ -234,13 +235,13 @@ module _ {T : Type 0} where
       let free = ap length (none-at s.table.holds 0 last) in
       let count = table-count s.table in omega arith
 
-  -- no more rows are free than there are
+  -- there are at most as many free rows as rows
   pub free-few : {next : List ℕ} {lasts : List (Option ℕ)} {rows : List (Option T)}
       {chains : List (List ℕ)} → IsTable next lasts rows chains
       → length (chain_in chains 0) ≤ length rows
   free-few t = let count = table-count t in omega arith
 
-  -- The first row of a chain and its value are taken: what is left, with the row loose.
+  -- the table after the first row of a chain and its value were taken out; the row is loose
   pub taken-open : {links : Links} {rows : List (Option T)} {walk : Option Walk}
       → IsSound links rows walk → walked_in walk ≡ None
       → (chain last row : ℕ) → 0 < chain → last_in links.lasts.items chain ≡ Some last
@@ -256,7 +257,7 @@ module _ {T : Type 0} where
       open-taken t mid.next.items mid.lasts.items chain row first.0 shown first.1
       (step t.holds) changes.rows changes.chains
 
-  -- the row is put to the free ones
+  -- the table after the row was put to the free rows
   pub taken-table : {mid : Links} {rows : List (Option T)} {row : ℕ} {chains : List (List ℕ)}
       → IsOpen mid.next.items mid.lasts.items rows row chains
       → (new : Links) → Changes mid new 2
@@ -270,7 +271,7 @@ module _ {T : Type 0} where
       (holds-same new.next.items new.next.items new.lasts.items refl noted
       (step o.holds)) changes.rows changes.chains
 
-  -- the row gets a value and is put behind the last of a chain
+  -- the table after the row got a value and was appended to a chain
   pub filled-table : {mid : Links} {rows : List (Option T)} {row : ℕ} {chains : List (List ℕ)}
       → IsOpen mid.next.items mid.lasts.items rows row chains
       → (new : Links) (most chain : ℕ) (value : T) → 0 < chain → Changes mid new most
@@ -282,7 +283,7 @@ module _ {T : Type 0} where
       closed-filled o new.next.items new.lasts.items chain value shown
       (step o.holds) changes.rows changes.chains
 
-  -- links that lead to the same rows, and equal values, are as sound
+  -- if links lead to the same rows, and the values are equal, the table is as sound as before
   pub sound-same : (links new : Links) (rows other : List (Option T)) (walk : Option Walk)
       → new.next.items ≡ links.next.items
       → new.lasts.items ≡ links.lasts.items → other ≡ rows → IsSound links rows walk
@@ -303,7 +304,7 @@ module _ {T : Type 0} where
         walks = subst W (sym d) s.walks;
       }
 
-  -- one more chain, with nothing
+  -- the table with one more chain, which has no rows
   pub begun-table : {next : List ℕ} {lasts : List (Option ℕ)} {rows : List (Option T)}
       {chains : List (List ℕ)} → IsTable next lasts rows chains
       → IsTable next (lasts ++ None ∷ []) rows (chains ++ [] ∷ [])
@@ -315,7 +316,7 @@ module _ {T : Type 0} where
         let e = ap (times row) (default-grown chains 0 []) in omega arith;
   }
 
-  -- chains with nothing, one more than `more`, and no rows
+  -- the table with `more` + 1 chains and no rows
   pub new-table : (more : ℕ) (rows : List (Option T)) → rows ≡ []
       → IsTable [] (replicate (suc more) None) rows (replicate (suc more) [])
   new-table more rows empty = record {
@@ -325,13 +326,13 @@ module _ {T : Type 0} where
     full = λ row less. absurd (let e = ap length empty in omega arith);
   }
 
-  -- they show nothing
+  -- these chains show no values
   pub map-none : (rows : List (Option T)) (more : ℕ)
       → map (values_of rows) (replicate more []) ≡ replicate more []
   map-none rows zero = refl
   map-none rows (suc more) = ap (λ vs. [] ∷ vs) (map-none rows more)
 
-  -- a chain has no values just where it has no last row
+  -- a chain has no values if and only if it has no last row
   pub empty-is : {next : List ℕ} {lasts : List (Option ℕ)} {rows : List (Option T)}
       {chains : List (List ℕ)} → IsTable next lasts rows chains
       → (chain : ℕ) (last : Option ℕ) (empty : Bool) → 0 < chain → last ≡ last_in lasts chain

@@ -10,7 +10,7 @@ use Rattle.pending.proofs.ListLaws.{one-of}
 use Rattle.pending.proofs.RingLaws.{leads-end, times-same, times-append}
 use Rattle.pending.proofs.HoldsLaws.{few-in}
 
--- where a way ends on its last row and passes it just once, it is found
+-- If a way ends on its last row and has this row only once, following the links finds the way.
 pub way-found : (next : List ℕ) (from row : ℕ) (rows : List ℕ) (last steps : ℕ)
     → Leads next from (row ∷ rows) last
     → times last (row ∷ rows) ≤ 1 → length (row ∷ rows) ≤ steps
@@ -35,7 +35,7 @@ way-found next from row (other ∷ rows) last (suc steps) leads few long =
     ∙ ap (λ r. r ∷ rows_from next last steps r) (sym here)
     ∙ sym (ap (λ b. after next from ∷ cond b [] (rows_from next last steps (after next from))) on)
 
--- a ring is found from its last row
+-- Following the links from the last row of a ring finds the ring.
 pub ring-found : (next : List ℕ) (last : ℕ) (rows : List ℕ) (steps : ℕ) → IsRing next last rows
     → times last rows ≤ 1 → length rows ≤ steps
     → rows ≡ rows_from next last steps last
@@ -43,7 +43,7 @@ ring-found next last [] steps ring few long = absurd (let some = ring.some in om
 ring-found next last (row ∷ rows) steps ring few long =
     way-found next last row rows last steps ring.leads few long
 
--- a chain is found
+-- Following the links finds a chain.
 pub chain-found : (next : List ℕ) (last : Option ℕ) (rows : List ℕ) → IsChain next last rows
     → ((row : ℕ) → times row rows ≤ 1)
     → length rows ≤ length next → rows ≡ chain_of next last
@@ -51,7 +51,7 @@ chain-found next None rows chain few long = chain
 chain-found next (Some last) rows chain few long =
     ring-found next last rows (length next) chain (few last) long
 
--- each chain is found
+-- Following the links finds each chain.
 pub chains-found : {next : List ℕ} {lasts : List (Option ℕ)} {loose : List ℕ}
     {chains : List (List ℕ)} → Holds next lasts loose chains
     → chains ≡ chains_of next lasts

@@ -15,7 +15,7 @@ use Rattle.pending.proofs.RingLaws.{SameBut, times-same, times-other, times-appe
 use Rattle.pending.proofs.RingLaws.{leads-kept, leads-end, same-but-one, same-but-two, chain-kept}
 use Rattle.pending.proofs.RingLaws.{ring-parts, ring-turned, sources-none, sources-end, last-counts}
 
--- what is read of a list that got its default at the end
+-- Appending the default to a list doesn't change what is read of the list.
 pub default-grown : {X : Type 0} (xs : List X) (i : ℕ) (d : X)
     → get_or (xs ++ d ∷ []) i d ≡ get_or xs i d
 default-grown [] zero d = refl
@@ -23,11 +23,11 @@ default-grown [] (suc i) d = refl
 default-grown (x ∷ xs) zero d = refl
 default-grown (x ∷ xs) (suc i) d = default-grown xs i d
 
--- a link that is added leads to row 0, as one past the end does
+-- A link that is added leads to row 0, as a link past the end does.
 pub after-grown : (next : List ℕ) (row : ℕ) → after (next ++ 0 ∷ []) row ≡ after next row
 after-grown next row = default-grown next row 0
 
--- a chain with the same last row and the same rows
+-- Equal rows with an equal last row are a chain too.
 pub chain-at : (next : List ℕ) (last other : Option ℕ) (rows same : List ℕ) → last ≡ other
     → rows ≡ same → IsChain next last rows
     → IsChain next other same
@@ -36,7 +36,7 @@ chain-at next last other rows same e d chain =
     let Q : List ℕ → Type 0 = λ rs. IsChain next other rs in
     subst Q d (subst P e chain)
 
--- a chain with a last row is there
+-- If a chain has a last row, the chain exists.
 pub last-there : (lasts : List (Option ℕ)) (chain last : ℕ) → last_in lasts chain ≡ Some last
     → chain < length lasts
 last-there lasts chain last is = elim (cases_lt chain (length lasts)) [
@@ -44,7 +44,7 @@ last-there lasts chain last is = elim (cases_lt chain (length lasts)) [
   | inr past ↦ absurd (let e = get_or_past lasts chain None past in cc)
 ]
 
--- a chain with a last row is a ring
+-- If a chain has a last row, it is a ring.
 pub ring-at : {next : List ℕ} {lasts : List (Option ℕ)} {loose : List ℕ} {chains : List (List ℕ)}
     → Holds next lasts loose chains
     → (chain last : ℕ) → last_in lasts chain ≡ Some last → IsRing next last (chain_in chains chain)
@@ -52,7 +52,7 @@ ring-at {next} {lasts} {loose} {chains} h chain last is =
     chain-at next (last_in lasts chain) (Some last) (chain_in chains chain)
     (chain_in chains chain) is refl (h.each chain)
 
--- a chain without a last row has no rows
+-- If a chain has no last row, it has no rows.
 pub none-at : {next : List ℕ} {lasts : List (Option ℕ)} {loose : List ℕ} {chains : List (List ℕ)}
     → Holds next lasts loose chains
     → (chain : ℕ) → last_in lasts chain ≡ None → chain_in chains chain ≡ []
@@ -60,7 +60,7 @@ none-at {next} {lasts} {loose} {chains} h chain is =
     chain-at next (last_in lasts chain) None (chain_in chains chain) (chain_in chains chain) is refl
     (h.each chain)
 
--- a row is at most once in all chains and among the loose ones
+-- A row is at most once in all chains and among the loose rows.
 pub holds-few : {next : List ℕ} {lasts : List (Option ℕ)} {loose : List ℕ} {chains : List (List ℕ)}
     → Holds next lasts loose chains
     → (row : ℕ) → times row loose + times_in row chains ≤ 1
@@ -69,7 +69,7 @@ holds-few {next} h row = elim (cases_lt row (length next)) [
   | inr past ↦ let e = h.within row past in omega arith
 ]
 
--- a row stands at most once in one chain and among the loose ones
+-- A row is at most once in a chain and among the loose rows.
 pub few-in : {next : List ℕ} {lasts : List (Option ℕ)} {loose : List ℕ} {chains : List (List ℕ)}
     → Holds next lasts loose chains
     → (chain row : ℕ) → times row loose + times row (chain_in chains chain) ≤ 1
@@ -78,7 +78,7 @@ few-in {next} {lasts} {loose} {chains} h chain row =
     let part = one-of (times row) chains chain [] refl in
     omega arith
 
--- and at most once in two chains
+-- A row is at most once in two chains.
 pub few-in-two : {next : List ℕ} {lasts : List (Option ℕ)} {loose : List ℕ} {chains : List (List ℕ)}
     → Holds next lasts loose chains
     → (chain other row : ℕ) → chain ≢ other
@@ -88,7 +88,7 @@ few-in-two {next} {lasts} {loose} {chains} h chain other row apart =
     let part = two-of (times row) chains chain other [] refl apart in
     omega arith
 
--- a row of a chain is a row
+-- A row of a chain, or a loose row, is a row of the links.
 pub is-row : {next : List ℕ} {lasts : List (Option ℕ)} {loose : List ℕ} {chains : List (List ℕ)}
     → Holds next lasts loose chains
     → (chain row : ℕ) → 0 < times row loose + times row (chain_in chains chain) → row < length next
@@ -100,7 +100,8 @@ is-row {next} {lasts} {loose} {chains} h chain row some = elim (cases_lt row (le
       omega arith)
 ]
 
--- One chain is another one then: what it lacks is loose, and what it has more was loose.
+-- One chain is replaced by another chain. The rows that it loses become loose, and the rows that it
+-- gains were loose.
 pub holds-put : {next : List ℕ} {lasts : List (Option ℕ)} {loose : List ℕ} {chains : List (List ℕ)}
     → Holds next lasts loose chains
     → (new left : List ℕ) (chain : ℕ) (last : Option ℕ) (rows : List ℕ) → chain < length lasts
@@ -148,7 +149,7 @@ holds-put {next} {lasts} {loose}
           omega arith;
     }
 
--- The chain seen from another of its rows.
+-- The links hold the chain also if another of its rows counts as the last.
 pub holds-turned : {next : List ℕ} {lasts : List (Option ℕ)} {loose : List ℕ}
     {chains : List (List ℕ)} → Holds next lasts loose chains
     → (chain : ℕ) (front : List ℕ) (row : ℕ) (back : List ℕ)
@@ -191,7 +192,7 @@ holds-turned {next} {lasts} {loose} {chains} h chain front row back is =
         let e = ap length (sym (none-at h chain there) ∙ is) in
         omega (arith, length-append front (row ∷ back)))
 
--- the chain forgotten: its rows are loose
+-- If a chain is forgotten, its rows are loose.
 pub holds-loosened : {next : List ℕ} {lasts : List (Option ℕ)} {loose : List ℕ}
     {chains : List (List ℕ)} → Holds next lasts loose chains
     → (chain : ℕ) → chain < length lasts
@@ -202,20 +203,21 @@ holds-loosened {next} {lasts} {loose} {chains} h chain less =
     (λ row. omega (arith, times-append row (chain_in chains chain) loose))
     (omega (arith, length-append (chain_in chains chain) loose))
 
--- the first row of a chain, and that the others come after it
+-- The first row of a chain is that to which the last row's link leads, and the links lead from it
+-- over the others.
 pub record IsFirst (next : List ℕ) (last : ℕ) (rows rest : List ℕ) : Type 0 where
   pub is : rows ≡ after next last ∷ rest
   pub leads : Leads next (after next last) rest last
   pub behind : drop 1 rows ≡ rest
 
--- a ring has a first row
+-- A ring has a first row.
 pub first-of : {next : List ℕ} {last : ℕ} {rows : List ℕ} → IsRing next last rows
     → (rest : List ℕ) × IsFirst next last rows rest
 first-of {next} {last} {rows} ring =
     let parts = ring-parts next last rows ring in
     (parts.0, record { is = parts.1; leads = parts.2; behind = ap (λ rs. drop 1 rs) parts.1 })
 
--- the first row of a chain is a row
+-- The first row of a chain is a row of the links.
 pub first-is-row : {next : List ℕ} {lasts : List (Option ℕ)} {loose : List ℕ}
     {chains : List (List ℕ)} → Holds next lasts loose chains
     → (chain last : ℕ) → last_in lasts chain ≡ Some last → after next last < length next
@@ -225,7 +227,7 @@ first-is-row {next} {lasts} {loose} {chains} h chain last there =
     is-row h chain (after next last)
     (omega (arith, times-same (after next last) (after next last) first.0 refl))
 
--- the last row of a chain is a row
+-- The last row of a chain is a row of the links.
 pub last-is-row : {next : List ℕ} {lasts : List (Option ℕ)} {loose : List ℕ}
     {chains : List (List ℕ)} → Holds next lasts loose chains
     → (chain last : ℕ) → last_in lasts chain ≡ Some last → last < length next
@@ -234,7 +236,7 @@ last-is-row {next} {lasts} {loose} {chains} h chain last there =
     (let some = last-counts next last (chain_in chains chain) (ring-at h chain last there) in
     omega arith)
 
--- what is noted of a chain is a row, if there is one
+-- If a chain has a last row, this is a row of the links.
 pub noted-is-row : {next : List ℕ} {lasts : List (Option ℕ)} {loose : List ℕ}
     {chains : List (List ℕ)} → Holds next lasts loose chains
     → (chain : ℕ) (last : Option ℕ) → last_in lasts chain ≡ last
@@ -242,13 +244,13 @@ pub noted-is-row : {next : List ℕ} {lasts : List (Option ℕ)} {loose : List �
 noted-is-row h chain None there = tt
 noted-is-row h chain (Some last) there = last-is-row h chain last there
 
--- a loose row is a row
+-- A loose row is a row of the links.
 pub loose-is-row : {next : List ℕ} {lasts : List (Option ℕ)} {chains : List (List ℕ)}
     (row : ℕ) (loose : List ℕ) → Holds next lasts (row ∷ loose) chains → row < length next
 loose-is-row row loose h =
     is-row h 0 row (let one = times-same row row loose refl in omega arith)
 
--- the last row of a loose ring is a row
+-- The last row of a loose ring is a row of the links.
 pub ring-is-row : {next : List ℕ} {lasts : List (Option ℕ)} {chains : List (List ℕ)} (last : ℕ)
     (rows loose : List ℕ) → Holds next lasts (rows ++ loose) chains → IsRing next last rows
     → last < length next
@@ -256,7 +258,8 @@ ring-is-row {next} last rows loose h ring =
     is-row h 0 last
     (let some = last-counts next last rows ring in omega (arith, times-append last rows loose))
 
--- The first row taken out of a chain that has others: the last leads to the one behind it.
+-- The first row is taken out of a chain that has other rows: the link of the last row then leads to
+-- the second row.
 pub holds-cut : {next : List ℕ} {lasts : List (Option ℕ)} {loose : List ℕ} {chains : List (List ℕ)}
     → Holds next lasts loose chains
     → (chain last : ℕ) → last_in lasts chain ≡ Some last → after next last ≢ last
@@ -307,7 +310,7 @@ holds-cut {next} {lasts} {loose} {chains} h chain last there apart =
         let b = ap (times row) first.behind in omega arith)
         (let d = ap length first.is in let b = ap length first.behind in omega arith)
 
--- the only row taken out of a chain
+-- The only row is taken out of a chain.
 pub holds-emptied : {next : List ℕ} {lasts : List (Option ℕ)} {loose : List ℕ}
     {chains : List (List ℕ)} → Holds next lasts loose chains
     → (chain last : ℕ) → last_in lasts chain ≡ Some last → after next last ≡ last
@@ -336,7 +339,7 @@ holds-emptied {next} {lasts} {loose} {chains} h chain last there same =
         let d = ap (times last) end.1 in
         omega (arith, times-append last end.0 (last ∷ [])))
 
--- a loose row before the first of a chain that has rows
+-- A loose row is put before the first row of a chain that has rows.
 pub holds-preceded : {next : List ℕ} {lasts : List (Option ℕ)} {loose : List ℕ}
     {chains : List (List ℕ)} {row : ℕ}
     → Holds next lasts (row ∷ loose) chains → (chain last : ℕ) → last_in lasts chain ≡ Some last
@@ -395,7 +398,7 @@ holds-preceded {next} {lasts} {loose} {chains} {row} h chain last there =
         (λ r. omega arith)
         (omega arith)
 
--- a loose row as the only one of a chain
+-- A loose row becomes the only row of a chain.
 pub holds-begun : {next : List ℕ} {lasts : List (Option ℕ)} {loose : List ℕ}
     {chains : List (List ℕ)} {row : ℕ}
     → Holds next lasts (row ∷ loose) chains → (chain : ℕ) → chain < length lasts
@@ -420,7 +423,7 @@ holds-begun {next} {lasts} {loose} {chains} {row} h chain less there =
     (λ r. omega arith)
     (omega arith)
 
--- a loose ring before the first of a chain that has rows: the two links exchanged
+-- A loose ring is put before the first row of a chain that has rows, by exchanging two links.
 pub holds-embraced : {next : List ℕ} {lasts : List (Option ℕ)} {loose : List ℕ}
     {chains : List (List ℕ)} (two : ℕ) (rows : List ℕ)
     → Holds next lasts (rows ++ loose) chains → IsRing next two rows → (chain one : ℕ)
@@ -495,7 +498,7 @@ holds-embraced {next} {lasts} {loose} {chains} two rows h moved chain one there 
         (λ r. omega (arith, times-append r rows loose, times-append r rows (chain_in chains chain)))
         (omega (arith, length-append rows loose, length-append rows (chain_in chains chain)))
 
--- loose rows that are a ring as the rows of a chain that has none
+-- Loose rows that are a ring become the rows of a chain that had none.
 pub holds-named : {next : List ℕ} {lasts : List (Option ℕ)} {loose : List ℕ}
     {chains : List (List ℕ)} (two : ℕ) (rows : List ℕ)
     → Holds next lasts (rows ++ loose) chains → IsRing next two rows → (chain : ℕ)
@@ -513,7 +516,7 @@ holds-named {next} {lasts} {loose} {chains} two rows h moved chain less there =
     (λ r. omega (arith, times-append r rows loose, times-append r rows (chain_in chains chain)))
     (omega (arith, length-append rows loose, length-append rows (chain_in chains chain)))
 
--- the same chains, noted in an equal way
+-- The links hold equal chains with equal last rows.
 pub holds-at : {next : List ℕ} {loose : List ℕ} (lasts other : List (Option ℕ))
     (chains same : List (List ℕ)) → lasts ≡ other → chains ≡ same
     → Holds next lasts loose chains → Holds next other loose same
@@ -522,12 +525,12 @@ holds-at {next} {loose} lasts other chains same e d h =
     let Q : List (List ℕ) → Type 0 = λ cs. Holds next other loose cs in
     subst Q d (subst P e h)
 
--- the last row of a chain, written as it is, changes nothing
+-- Writing the last row of a chain that it has already changes nothing.
 pub last-again : (lasts : List (Option ℕ)) (chain : ℕ) (last : Option ℕ)
     → last_in lasts chain ≡ last → set lasts chain last ≡ lasts
 last-again lasts chain last is = ap (λ l. set lasts chain l) (sym is) ∙ set-get_or lasts chain None
 
--- one chain put before another that has rows
+-- One chain is put before another chain that has rows.
 pub holds-fronted : {next : List ℕ} {lasts : List (Option ℕ)} {loose : List ℕ}
     {chains : List (List ℕ)} → Holds next lasts loose chains
     → (from onto : ℕ) → from ≢ onto → from < length lasts → (new : List ℕ) (noted : List (Option ℕ))
@@ -543,7 +546,8 @@ holds-fronted {next} {lasts} {loose} {chains} h from onto apart less new noted s
     (ap (λ rows. set (set chains from []) onto (chain_in chains from ++ rows)) e)
     (step (holds-loosened h from less))
 
--- one chain put before another, seen from its last row: it comes after the other
+-- If one chain is put before another, and its last row then counts as the last, it comes after the
+-- other.
 pub holds-joined : {next : List ℕ} {lasts : List (Option ℕ)} {loose : List ℕ}
     {chains : List (List ℕ)} → Holds next lasts loose chains
     → (from onto last : ℕ) → last_in lasts from ≡ Some last → onto < length lasts
@@ -574,7 +578,8 @@ holds-joined {next} {lasts} {loose} {chains} h from onto last there less new not
         ∙ ap (λ rs. set (set chains from []) onto (chain_in chains onto ++ rs)) (sym rows))
         (holds-turned then onto end.0 last (chain_in chains onto) here)
 
--- a row put before a chain, which is then seen from it: it comes after the others
+-- If a row is put before a chain and then counts as the chain's last row, it comes after the other
+-- rows.
 pub holds-lengthened : (new : List ℕ) (noted : List (Option ℕ)) (loose : List ℕ)
     (chains : List (List ℕ)) (chain row : ℕ) → chain < length chains
     → Holds new noted loose (preceded chains chain row)
@@ -587,7 +592,7 @@ holds-lengthened new noted loose chains chain row less h =
     (holds-turned h chain [] row (chain_in chains chain)
     (in-put chains chain (row ∷ chain_in chains chain) less))
 
--- links that lead to the same rows hold the same chains
+-- Equal links hold the same chains.
 pub holds-same : {lasts : List (Option ℕ)} {loose : List ℕ} {chains : List (List ℕ)}
     (next new : List ℕ) (noted : List (Option ℕ)) → new ≡ next → noted ≡ lasts
     → Holds next lasts loose chains → Holds new noted loose chains
@@ -596,13 +601,13 @@ holds-same {lasts} {loose} {chains} next new noted e d h =
     let Q : List (Option ℕ) → Type 0 = λ l. Holds next l loose chains in
     subst P (sym e) (subst Q (sym d) h)
 
--- a ring in equal links
+-- A ring is a ring in equal links too.
 pub ring-same : (next new : List ℕ) (last : ℕ) (rows : List ℕ) → new ≡ next → IsRing next last rows
     → IsRing new last rows
 ring-same next new last rows e ring =
     let P : List ℕ → Type 0 = λ n. IsRing n last rows in subst P (sym e) ring
 
--- one more row, in no chain
+-- One more row, which is in no chain, is loose.
 pub holds-grown : {next : List ℕ} {lasts : List (Option ℕ)} {chains : List (List ℕ)}
     → Holds next lasts [] chains
     → Holds (next ++ 0 ∷ []) lasts (length next ∷ []) chains
@@ -636,7 +641,7 @@ holds-grown {next} {lasts} {chains} h =
       all = let e = h.all in omega (arith, length-append next (0 ∷ []));
     }
 
--- one more chain, with no rows
+-- One more chain has no rows.
 pub holds-more : {next : List ℕ} {lasts : List (Option ℕ)} {loose : List ℕ} {chains : List (List ℕ)}
     → Holds next lasts loose chains
     → Holds next (lasts ++ None ∷ []) loose (chains ++ [] ∷ [])

@@ -1,4 +1,4 @@
--- Laws of lists of lists: what is in a chain after a write, and sums over all chains.
+-- Laws of lists of lists: what a chain has after a write, and sums over all chains.
 use Rattle.std.proofs.Common.{◌≡◌, ◌≢◌, ℕ, zero, suc, ◌+◌, ◌<◌, ◌≤◌, List, [], ◌∷◌, length, get_or}
 use Rattle.std.proofs.Common.{set, refl, ap, inl, inr, arith}
 use Rattle.std.proofs.lemmas.Bool.{cases_lt}
@@ -7,7 +7,7 @@ use Rattle.std.proofs.lemmas.List.Sums.{sum_by-cons, sum_by-set}
 use Rattle.std.specs.List.{sum_by}
 use Rattle.pending.specs.Edits.{chain_in}
 
--- a chain that has something is there
+-- If a chain has an element, it exists.
 pub there : {X : Type 0} (chains : List (List X)) (chain : ℕ) → 0 < length (chain_in chains chain)
     → chain < length chains
 there chains chain some = elim (cases_lt chain (length chains)) [
@@ -15,14 +15,14 @@ there chains chain some = elim (cases_lt chain (length chains)) [
   | inr past ↦ absurd (let e = ap length (get_or_past chains chain [] past) in omega arith)
 ]
 
--- one term is at most the sum
+-- A term is at most the sum.
 pub one-of : {X : Type 0} (f : X → ℕ) (xs : List X) (i : ℕ) (d : X) → f d ≡ 0
     → f (get_or xs i d) ≤ sum_by f xs
 one-of f [] i d none = omega arith
 one-of f (x ∷ xs) zero d none = omega (arith, sum_by-cons f x xs)
 one-of f (x ∷ xs) (suc i) d none = omega (arith, sum_by-cons f x xs, one-of f xs i d none)
 
--- two terms are at most the sum
+-- Two different terms are together at most the sum.
 pub two-of : {X : Type 0} (f : X → ℕ) (xs : List X) (i j : ℕ) (d : X) → f d ≡ 0 → i ≢ j
     → f (get_or xs i d) + f (get_or xs j d) ≤ sum_by f xs
 two-of f [] i j d none apart = omega arith
@@ -34,18 +34,18 @@ two-of f (x ∷ xs) (suc i) zero d none apart =
 two-of f (x ∷ xs) (suc i) (suc j) d none apart =
     omega (arith, sum_by-cons f x xs, two-of f xs i j d none (λ e. apart (ap suc e)))
 
--- one chain in place of another changes the sum by both
+-- If one chain is replaced by another list, the sum changes by the difference of both.
 pub sum-put : {X : Type 0} (f : List X → ℕ) (chains : List (List X)) (chain : ℕ) (xs : List X)
     → chain < length chains
     → sum_by f (set chains chain xs) + f (chain_in chains chain) ≡ sum_by f chains + f xs
 sum-put f chains chain xs less = sum_by-set f chains chain xs [] less
 
--- the chain that was written
+-- The chain that was written has what was written.
 pub in-put : {X : Type 0} (chains : List (List X)) (chain : ℕ) (xs : List X) → chain < length chains
     → chain_in (set chains chain xs) chain ≡ xs
 in-put chains chain xs less = get_or-set_same chains chain xs [] less
 
--- a chain that wasn't written
+-- A chain that wasn't written doesn't change.
 pub in-other : {X : Type 0} (chains : List (List X)) (chain other : ℕ) (xs : List X) → other ≢ chain
     → chain_in (set chains chain xs) other ≡ chain_in chains other
 in-other chains chain other xs apart = get_or-set_other chains chain other xs [] apart

@@ -18,12 +18,12 @@ use Rattle.pending.proofs.FoundLaws.{ring-found, way-found}
 use Rattle.pending.proofs.ValueLaws.{chain-map, value-there, values-first}
 use Rattle.pending.proofs.OpenLaws.{chain-full}
 
--- what is there is one
+-- If two values that are there are equal options, they are equal.
 pub some-is : {a b : ℕ} → Some a ≡ Some b → a ≡ b
 some-is e = cc
 
 module _ {T : Type 0} where
-  -- a way has a first row, and goes on behind it or ends
+  -- A way has a first row; after this row it goes on or ends
   pub way-step : (next : List ℕ) (rows : List (Option T)) (last before row : ℕ) (left : Option ℕ)
       → length rows ≡ length next → IsWay next rows last before
       → row ≡ after next before → left ≡ cond (eqb row last) None (Some row)
@@ -107,7 +107,7 @@ module _ {T : Type 0} where
             },
           )
 
-  -- a chain that is looked through from its first on
+  -- what an `Iter` has left of a chain at first
   pub look-begun : {links : Links} {rows : List (Option T)} {walk : Option Walk}
       → IsSound links rows walk → (chain last : ℕ) (at : Option ℕ) → 0 < chain
       → at ≡ last_in (seen_lasts links.lasts.items walk) chain
@@ -152,7 +152,7 @@ module _ {T : Type 0} where
             ∙ sym (chain-map (values_of rows) chains chain refl),
       )
 
--- a reference to what is there
+-- If a reference's value was found, the reference was found.
 pub copied-some : {T : Type 0} (found : Option (Bor T)) (value : T)
     → option_copied found ≡ Some value
     → (reference : Bor T) × (found ≡ Some reference) × (reference.now ≡ value)

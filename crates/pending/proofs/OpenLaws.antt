@@ -1,4 +1,4 @@
--- A row is taken out of the table or put in; in between, one row is loose.
+-- A row is taken out of the table or put into it; in between, this row is loose.
 use Rattle.std.proofs.Common.{◌≡◌, ℕ, ◌<◌, List, [], ◌∷◌, ◌++◌, length, map, set, drop, Option}
 use Rattle.std.proofs.Common.{Some, None, refl, ap, sym, ◌∙◌, subst, inl, inr, arith, length-append}
 use Rattle.std.proofs.Common.{length-set}
@@ -14,7 +14,7 @@ use Rattle.pending.proofs.HoldsLaws.{default-grown, few-in, few-in-two, is-row, 
 use Rattle.pending.proofs.ValueLaws.{chain-map, value-none, value-there, values-append, values-first}
 use Rattle.pending.proofs.ValueLaws.{values-full, values-grown, values-kept, values-none}
 
--- equal chains show the same
+-- If chains have equal values one by one, they show the same.
 pub shown-by : {T : Type 0} (rows : List (Option T)) (chains : List (List ℕ)) (seen : List (List T))
     → length chains ≡ length seen
     → ((chain : ℕ) → values_of rows (chain_in chains chain) ≡ chain_in seen chain)
@@ -23,7 +23,8 @@ shown-by rows chains seen long same =
     ext_get_or [] (map (values_of rows) chains) seen (length-map chains (values_of rows) ∙ long)
     (λ chain less. chain-map (values_of rows) chains chain refl ∙ same chain)
 
--- a chain that shows the same in place of another changes nothing
+-- If a chain is replaced by another list of rows that has the same values, what is shown doesn't
+-- change.
 pub shown-put : {T : Type 0} (rows : List (Option T)) (chains : List (List ℕ)) (chain : ℕ)
     (other : List ℕ)
     → values_of rows other ≡ values_of rows (chain_in chains chain)
@@ -34,7 +35,7 @@ shown-put rows chains chain other same =
     (same ∙ sym (chain-map (values_of rows) chains chain refl))
     ∙ set-get_or (map (values_of rows) chains) chain []
 
--- a chain with nothing, cut, is as it is
+-- Taking the first value out of an empty chain changes nothing.
 pub nothing-cut : {X : Type 0} (chains : List (List X)) (chain : ℕ) → chain_in chains chain ≡ []
     → shortened chains chain ≡ chains
 nothing-cut chains chain is =
@@ -51,7 +52,7 @@ module _ {T : Type 0} where
       let full = t.full row (omega arith) in
       omega arith)
 
-  -- a row of a chain that is shown has a value
+  -- a row of a chain other than that of the free rows has a value
   pub chain-full : {next : List ℕ} {lasts : List (Option ℕ)} {rows : List (Option T)}
       {chains : List (List ℕ)} → IsTable next lasts rows chains
       → (chain row : ℕ) → 0 < chain → 0 < times row (chain_in chains chain)
@@ -63,7 +64,7 @@ module _ {T : Type 0} where
       let few = few-in-two t.holds chain 0 row (λ e. absurd (omega arith)) in
       omega arith
 
-  -- it shows as many values as it has rows
+  -- such a chain shows as many values as it has rows
   pub chain-length : {next : List ℕ} {lasts : List (Option ℕ)} {rows : List (Option T)}
       {chains : List (List ℕ)} → IsTable next lasts rows chains
       → (chain : ℕ) → 0 < chain
@@ -71,7 +72,7 @@ module _ {T : Type 0} where
   chain-length {next} {lasts} {rows} {chains} t chain shown =
       values-full rows (chain_in chains chain) (λ row some. chain-full t chain row shown some)
 
-  -- the first free row is taken: it is loose, and all is shown as before
+  -- the first free row is taken out: it is loose, and what is shown doesn't change
   pub open-free : {next : List ℕ} {lasts : List (Option ℕ)} {rows : List (Option T)}
       {chains : List (List ℕ)} → IsTable next lasts rows chains
       → (new : List ℕ) (noted : List (Option ℕ)) (row : ℕ) (rest : List ℕ)
@@ -94,7 +95,7 @@ module _ {T : Type 0} where
             omega arith;
       }
 
-  -- a new row, which is loose
+  -- a new row is added, which is loose
   pub open-grown : {next : List ℕ} {lasts : List (Option ℕ)} {rows : List (Option T)}
       {chains : List (List ℕ)} → IsTable next lasts rows chains
       → IsOpen (next ++ 0 ∷ []) lasts (rows ++ None ∷ []) (length rows) chains
@@ -124,7 +125,7 @@ module _ {T : Type 0} where
             ];
       }
 
-  -- all is shown as before
+  -- what is shown doesn't change
   pub shown-grown : {next : List ℕ} {lasts : List (Option ℕ)} {rows : List (Option T)}
       {chains : List (List ℕ)} → IsTable next lasts rows chains
       → map (values_of (rows ++ None ∷ [])) chains ≡ map (values_of rows) chains
@@ -136,7 +137,7 @@ module _ {T : Type 0} where
       let sized = t.sized in omega arith)
       ∙ sym (chain-map (values_of rows) chains chain refl))
 
-  -- the first row of a chain and its value are taken: the row is loose
+  -- the first row of a chain and its value are taken out: the row is loose
   pub open-taken : {next : List ℕ} {lasts : List (Option ℕ)} {rows : List (Option T)}
       {chains : List (List ℕ)} → IsTable next lasts rows chains
       → (new : List ℕ) (noted : List (Option ℕ)) (chain row : ℕ) (rest : List ℕ) → 0 < chain
@@ -175,7 +176,7 @@ module _ {T : Type 0} where
             ];
       }
 
-  -- what is shown then: the chain without its first
+  -- what is shown after that: the chain without its first value
   pub shown-taken : {next : List ℕ} {lasts : List (Option ℕ)} {rows : List (Option T)}
       {chains : List (List ℕ)} → IsTable next lasts rows chains
       → (chain row : ℕ) (rest : List ℕ) → 0 < chain → chain_in chains chain ≡ row ∷ rest
@@ -214,7 +215,7 @@ module _ {T : Type 0} where
             ∙ sym (in-other seen chain other (drop 1 (chain_in seen chain)) apart)
       ])
 
-  -- the loose row is put to the free ones
+  -- the loose row is put to the free rows
   pub closed-free : {next : List ℕ} {lasts : List (Option ℕ)} {rows : List (Option T)} {row : ℕ}
       {chains : List (List ℕ)} → IsOpen next lasts rows row chains
       → (new : List ℕ) (noted : List (Option ℕ)) → Holds new noted [] (preceded chains 0 row)
@@ -232,7 +233,7 @@ module _ {T : Type 0} where
             omega arith;
       }
 
-  -- all is shown as before
+  -- what is shown doesn't change
   pub shown-closed : {next : List ℕ} {lasts : List (Option ℕ)} {rows : List (Option T)} {row : ℕ}
       {chains : List (List ℕ)} → IsOpen next lasts rows row chains
       → map (values_of rows) (preceded chains 0 row) ≡ map (values_of rows) chains
@@ -245,7 +246,7 @@ module _ {T : Type 0} where
       shown-put rows chains 0 (row ∷ chain_in chains 0)
       (ap (λ found. with_value found (values_of rows (chain_in chains 0))) none)
 
-  -- the loose row gets a value and is put behind the last of a chain
+  -- the loose row gets a value and is appended to a chain
   pub closed-filled : {next : List ℕ} {lasts : List (Option ℕ)} {rows : List (Option T)} {row : ℕ}
       {chains : List (List ℕ)} → IsOpen next lasts rows row chains
       → (new : List ℕ) (noted : List (Option ℕ)) (chain : ℕ) (value : T) → 0 < chain
@@ -281,7 +282,7 @@ module _ {T : Type 0} where
             ];
       }
 
-  -- what is shown then: the chain with the value behind its last
+  -- what is shown after that: the chain with the value at its end
   pub shown-filled : {next : List ℕ} {lasts : List (Option ℕ)} {rows : List (Option T)} {row : ℕ}
       {chains : List (List ℕ)} → IsOpen next lasts rows row chains
       → (chain : ℕ) (value : T) → chain < length chains

@@ -1,4 +1,4 @@
--- Laws of rows in lists and of the links that lead over them.
+-- Laws of rows in lists, and of links that lead over them.
 use Rattle.std.proofs.Common.{◌≡◌, ◌≢◌, ℕ, ◌+◌, ◌<◌, ◌≤◌, List, [], ◌∷◌, ◌++◌, set, Option, Some}
 use Rattle.std.proofs.Common.{None, refl, ap, sym, ◌∙◌, subst, arith, length-append, cond}
 use Rattle.std.proofs.lemmas.Bool.{eq-eqb, ne_eqb}
@@ -6,27 +6,27 @@ use Rattle.std.proofs.lemmas.List.{get_or-set_other}
 use Rattle.std.specs.Prelude.{is_some, IfSome, true, false}
 use Rattle.pending.specs.inside.Rings.{after, times, Leads, IsRing, IsChain}
 
--- a row is in a list that begins with it
+-- If a list begins with a row, this row is in it once more than in the rest.
 pub times-same : (row other : ℕ) (rows : List ℕ) → other ≡ row
     → times row (other ∷ rows) ≡ 1 + times row rows
 times-same row other rows same = ap (λ b. cond b 1 0 + times row rows) (eq-eqb other row same)
 
--- another row at the front doesn't count
+-- If a list begins with another row, the row is in it as often as in the rest.
 pub times-other : (row other : ℕ) (rows : List ℕ) → other ≢ row
     → times row (other ∷ rows) ≡ times row rows
 times-other row other rows apart =
     let e = ap (λ b. cond b 1 0 + times row rows) (ne_eqb other row apart) in omega arith
 
--- the rows of two lists, one after the other
+-- How often a row is in two lists together.
 pub times-append : (row : ℕ) (xs ys : List ℕ) → times row (xs ++ ys) ≡ times row xs + times row ys
 times-append row [] ys = omega arith
 times-append row (x ∷ xs) ys = omega (arith, times-append row xs ys)
 
--- a row that isn't in a list isn't its first
+-- If a row isn't in a list, it isn't the list's first row.
 pub not-first : (row other : ℕ) (rows : List ℕ) → times row (other ∷ rows) ≡ 0 → other ≢ row
 not-first row other rows none same = absurd (let e = times-same row other rows same in omega arith)
 
--- two ways, one after the other
+-- Two ways, one after the other, are a way.
 pub leads-append : (next : List ℕ) (from : ℕ) (xs : List ℕ) (by : ℕ) (ys : List ℕ) (to : ℕ)
     → Leads next from xs by → Leads next by ys to
     → Leads next from (xs ++ ys) to
@@ -35,21 +35,21 @@ leads-append next from [] by ys to first second =
 leads-append next from (x ∷ xs) by ys to first second =
     (first.0, leads-append next x xs by ys to first.1 second)
 
--- the first part of a way
+-- The first part of a way is a way.
 pub leads-front : (next : List ℕ) (from : ℕ) (xs : List ℕ) (row : ℕ) (ys : List ℕ) (to : ℕ)
     → Leads next from (xs ++ row ∷ ys) to
     → Leads next from (xs ++ row ∷ []) row
 leads-front next from [] row ys to leads = (leads.0, refl)
 leads-front next from (x ∷ xs) row ys to leads = (leads.0, leads-front next x xs row ys to leads.1)
 
--- the second part of a way
+-- The second part of a way is a way.
 pub leads-back : (next : List ℕ) (from : ℕ) (xs : List ℕ) (row : ℕ) (ys : List ℕ) (to : ℕ)
     → Leads next from (xs ++ row ∷ ys) to
     → Leads next row ys to
 leads-back next from [] row ys to leads = leads.1
 leads-back next from (x ∷ xs) row ys to leads = leads-back next x xs row ys to leads.1
 
--- a way ends where it ends
+-- A way ends with the row to which it leads.
 pub leads-end : (next : List ℕ) (from row : ℕ) (rows : List ℕ) (to : ℕ)
     → Leads next from (row ∷ rows) to
     → (front : List ℕ) × (row ∷ rows ≡ front ++ to ∷ [])
@@ -58,12 +58,12 @@ leads-end next from row (other ∷ rows) to leads =
     let rest = leads-end next row other rows to leads.1 in
     (row ∷ rest.0, ap (λ more. row ∷ more) rest.1)
 
--- the rows whose links a way goes along
+-- The rows whose links a way follows.
 abbrev pub sources : ℕ → List ℕ → List ℕ
 sources from [] = []
 sources from (row ∷ rows) = from ∷ sources row rows
 
--- with the end they are the start and the rows of the way
+-- These rows and the way's end are the way's start and its rows.
 pub times-sources : (next : List ℕ) (from : ℕ) (rows : List ℕ) (to row : ℕ)
     → Leads next from rows to
     → times row (sources from rows) + times row (to ∷ []) ≡ times row (from ∷ rows)
@@ -72,16 +72,16 @@ times-sources next from [] to row leads =
 times-sources next from (other ∷ rows) to row leads =
     omega (arith, times-sources next other rows to row leads.1)
 
--- the links lead to the same rows but from one row or two
+-- Except for the links of one or two rows, the links lead to the same rows.
 pub record SameBut (next new : List ℕ) (one two : ℕ) : Type 0 where
   pub at : (row : ℕ) → row ≢ one → row ≢ two → after new row ≡ after next row
 
--- one link written
+-- One link was written.
 pub same-but-one : (next : List ℕ) (row to : ℕ) → SameBut next (set next row to) row row
 same-but-one next row to =
     record { at = λ other apart _. get_or-set_other next row other to 0 apart }
 
--- two links written
+-- Two links were written.
 pub same-but-two : (next : List ℕ) (one to two by : ℕ)
     → SameBut next (set (set next one to) two by) one two
 same-but-two next one to two by = record {
@@ -90,7 +90,7 @@ same-but-two next one to two by = record {
       ∙ get_or-set_other next one other to 0 apart;
 }
 
--- a way is there as long as no link is written that it goes along
+-- If no link that a way follows was written, it is still a way.
 pub leads-kept : (next new : List ℕ) (from : ℕ) (rows : List ℕ) (to one two : ℕ)
     → Leads next from rows to → SameBut next new one two
     → times one (sources from rows) ≡ 0 → times two (sources from rows) ≡ 0 → Leads new from rows to
@@ -104,7 +104,7 @@ leads-kept next new from (row ∷ rows) to one two leads same first second =
           (omega (arith, times-other two from (sources row rows) away)),
     )
 
--- a ring is there as long as no link of its rows is written
+-- If no link of a ring's rows was written, it is still a ring.
 pub ring-kept : (next new : List ℕ) (last : ℕ) (rows : List ℕ) (one two : ℕ) → IsRing next last rows
     → SameBut next new one two
     → times one rows ≡ 0 → times two rows ≡ 0 → IsRing new last rows
@@ -118,7 +118,7 @@ ring-kept next new last rows one two ring same first second =
       some = ring.some;
     }
 
--- a chain is there as long as no link of its rows is written
+-- If no link of a chain's rows was written, it is still a chain.
 pub chain-kept : (next new : List ℕ) (last : Option ℕ) (rows : List ℕ) (one two : ℕ)
     → IsChain next last rows → SameBut next new one two
     → times one rows ≡ 0 → times two rows ≡ 0 → IsChain new last rows
@@ -126,21 +126,21 @@ chain-kept next new None rows one two chain same first second = chain
 chain-kept next new (Some last) rows one two chain same first second =
     ring-kept next new last rows one two chain same first second
 
--- a row that isn't on a way is none that it goes along
+-- If a row isn't on a way, the way doesn't follow the row's link.
 pub sources-none : (next : List ℕ) (from : ℕ) (rows : List ℕ) (to row : ℕ) → Leads next from rows to
     → times row (from ∷ rows) ≡ 0
     → times row (sources from rows) ≡ 0
 sources-none next from rows to row leads none =
     omega (arith, times-sources next from rows to row leads)
 
--- a way that has its end only once doesn't go on from it
+-- If a way has its end only once, it doesn't follow the link of its end.
 pub sources-end : (next : List ℕ) (from : ℕ) (rows : List ℕ) (to : ℕ) → Leads next from rows to
     → times to (from ∷ rows) ≤ 1
     → times to (sources from rows) ≡ 0
 sources-end next from rows to leads few =
     let one = times-same to to [] refl in omega (arith, times-sources next from rows to to leads)
 
--- the last row is in its ring
+-- The last row of a ring is in the ring.
 pub last-counts : (next : List ℕ) (last : ℕ) (rows : List ℕ) → IsRing next last rows
     → 0 < times last rows
 last-counts next last [] ring = ring.some
@@ -150,7 +150,7 @@ last-counts next last (row ∷ rows) ring =
     let e = ap (times last) end.1 in
     omega (arith, times-append last end.0 (last ∷ []))
 
--- a ring as its first row and the others
+-- A ring is its first row and the others.
 pub ring-parts : (next : List ℕ) (last : ℕ) (rows : List ℕ) → IsRing next last rows
     → (rest : List ℕ) × (rows ≡ after next last ∷ rest) × Leads next (after next last) rest last
 ring-parts next last [] ring = absurd (let some = ring.some in omega arith)
@@ -161,7 +161,7 @@ ring-parts next last (row ∷ rows) ring =
       (let P : ℕ → Type 0 = λ first. Leads next first rows last in subst P (sym e) ring.leads.1),
     )
 
--- a ring seen from another of its rows
+-- A ring is a ring also if another of its rows counts as the last.
 pub ring-turned : (next : List ℕ) (last : ℕ) (front : List ℕ) (row : ℕ) (back : List ℕ)
     → IsRing next last (front ++ row ∷ back)
     → IsRing next row (back ++ (front ++ row ∷ []))
@@ -172,13 +172,13 @@ ring-turned next last front row back ring = record {
   some = simp (length-append) (omega arith);
 }
 
--- the row that is there
+-- If a row was found, and it equals `row`, then `row` was found.
 pub some-of : (found : Option ℕ) (row : ℕ) → is_some found ≡ true
     → IfSome found (λ other. other ≡ row) → found ≡ Some row
 some-of (Some other) row there same = ap (λ r. Some r) same
 some-of None row there same = cc
 
--- no row is there
+-- If the test `is_some` fails, no row was found.
 pub none-of : (found : Option ℕ) → is_some found ≡ false → found ≡ None
 none-of (Some other) there = cc
 none-of None there = refl

@@ -13,32 +13,32 @@ use Rattle.pending.specs.inside.Tables.{IsTable, IsWalk}
 use Rattle.pending.proofs.ListLaws.{in-other}
 use Rattle.pending.proofs.FoundLaws.{chains-found}
 
--- between walks the last rows are seen as they are noted
+-- Between walks, the last row that is seen of each chain is the stored one.
 pub seen-rest : (lasts : List (Option ℕ)) (walk : Option Walk) → walked_in walk ≡ None
     → seen_lasts lasts walk ≡ lasts
 seen-rest lasts None rest = refl
 seen-rest lasts (Some walk) rest = cc
 
--- between walks nothing is asked of the walk
+-- Between walks, `IsWalk` holds.
 pub walk-rest : (lasts : List (Option ℕ)) (walk : Option Walk) → walked_in walk ≡ None
     → IsWalk lasts walk
 walk-rest lasts None rest = tt
 walk-rest lasts (Some walk) rest = absurd (cc)
 
--- a chain that is neither of two that were written
+-- If two chains other than that of the free rows were written, the free rows don't change.
 pub in-neither : (chains : List (List ℕ)) (from onto : ℕ) (left all : List ℕ) → 0 < from → 0 < onto
     → chain_in (set (set chains from left) onto all) 0 ≡ chain_in chains 0
 in-neither chains from onto left all some more =
     in-other (set chains from left) onto 0 all (λ e. absurd (omega arith))
     ∙ in-other chains from 0 left (λ e. absurd (omega arith))
 
--- one more chain is seen as it is noted
+-- One more chain is seen as it is stored.
 pub seen-grown : (lasts : List (Option ℕ)) (walk : Option Walk) → IsWalk lasts walk
     → seen_lasts (lasts ++ None ∷ []) walk ≡ seen_lasts lasts walk ++ None ∷ []
 seen-grown lasts None walks = refl
 seen-grown lasts (Some walk) walks = set-append_left lasts (None ∷ []) walk.chain walk.at walks.1
 
--- the walk goes on among more chains
+-- If chains are added, `IsWalk` still holds.
 pub walk-grown : (lasts : List (Option ℕ)) (walk : Option Walk) → IsWalk lasts walk
     → IsWalk (lasts ++ None ∷ []) walk
 walk-grown lasts None walks = tt
@@ -46,7 +46,7 @@ walk-grown lasts (Some walk) walks =
     (walks.0, (let less = walks.1 in omega (arith, length-append lasts (None ∷ []))))
 
 module _ {T : Type 0} where
-  -- the same table, with its chains and last rows noted in an equal way
+  -- a table is the same table if its chains and last rows are replaced by equal ones
   pub table-at : {next : List ℕ} {rows : List (Option T)} (lasts other : List (Option ℕ))
       (chains same : List (List ℕ)) → lasts ≡ other → chains ≡ same
       → IsTable next lasts rows chains → IsTable next other rows same
@@ -55,7 +55,7 @@ module _ {T : Type 0} where
       let Q : List (List ℕ) → Type 0 = λ cs. IsTable next other rows cs in
       subst Q d (subst P e t)
 
-  -- between walks the table is as it is noted
+  -- between walks, the table is the stored one
   pub table-rest : {links : Links} {rows : List (Option T)} {walk : Option Walk}
       → IsSound links rows walk → walked_in walk ≡ None
       → IsTable links.next.items links.lasts.items rows (seen_chains links walk)
@@ -70,7 +70,7 @@ module _ {T : Type 0} where
       → seen_chains links walk ≡ chains
   seen-of links rows walk chains t = sym (chains-found t.holds)
 
-  -- a table with some chains is sound
+  -- if a table has some chains, it is sound
   pub sound-of : (links : Links) (rows : List (Option T)) (walk : Option Walk)
       (chains : List (List ℕ))
       → IsTable links.next.items (seen_lasts links.lasts.items walk) rows chains
@@ -82,7 +82,7 @@ module _ {T : Type 0} where
     walks = walks;
   }
 
-  -- a table that was written between walks is seen as it is noted
+  -- if a table was written between walks, what is seen of it is what is stored
   pub table-seen : (links : Links) (rows : List (Option T)) (walk : Option Walk)
       (chains : List (List ℕ)) → walked_in walk ≡ None
       → IsTable links.next.items links.lasts.items rows chains
@@ -91,7 +91,7 @@ module _ {T : Type 0} where
       table-at links.lasts.items (seen_lasts links.lasts.items walk) chains chains
       (sym (seen-rest links.lasts.items walk rest)) refl t
 
-  -- a table whose free rows and values stay
+  -- the table after a change that leaves the free rows and the values as they were
   pub table-kept : {next : List ℕ} {lasts : List (Option ℕ)} {rows : List (Option T)}
       {chains : List (List ℕ)} → IsTable next lasts rows chains
       → (new : List ℕ) (noted : List (Option ℕ)) (other : List (List ℕ)) → Holds new noted [] other
@@ -105,7 +105,7 @@ module _ {T : Type 0} where
     full = λ row less. let f = t.full row less in let e = ap (times row) same in omega arith;
   }
 
-  -- as much room where the free rows stay
+  -- if the free rows don't change, the room doesn't either
   pub keeps-room : (links new : Links) (rows : List (Option T)) (capacity most : ℕ)
       (walk later : Option Walk) → Changes links new most
       → chain_in (seen_chains new later) 0 ≡ chain_in (seen_chains links walk) 0
@@ -122,7 +122,7 @@ module _ {T : Type 0} where
         spare = omega arith;
       }
 
-  -- the table after links were written between walks, where the free rows and the values stay
+  -- the table after links were written between walks, if the free rows and the values don't change
   pub table-moved : {links : Links} {rows : List (Option T)} {walk : Option Walk}
       → IsSound links rows walk → walked_in walk ≡ None
       → (new : Links) (most : ℕ) → Changes links new most → (other : List (List ℕ))

@@ -22,14 +22,14 @@ use Rattle.pending.proofs.TableLaws.{in-neither, sound-of, table-at, table-kept,
 use Rattle.pending.proofs.OpenLaws.{nothing-cut, shown-by}
 use Rattle.pending.proofs.CallLaws.{chain-noted, first-row, first-value, row-within}
 
--- a chain with nothing, turned, is as it is
+-- Turning an empty chain changes nothing.
 pub nothing-turned : {X : Type 0} (chains : List (List X)) (chain : ℕ) → chain_in chains chain ≡ []
     → turned chains chain ≡ chains
 nothing-turned chains chain is =
     ap (λ xs. set chains chain (drop 1 xs ++ take 1 xs)) is
     ∙ ap (λ xs. set chains chain xs) (sym is) ∙ set-get_or chains chain []
 
--- nothing is lifted from a chain with nothing
+-- Lifting from an empty chain changes nothing.
 pub nothing-lifted : {X : Type 0} (chains : List (List X)) (chain onto : ℕ)
     → chain_in chains chain ≡ [] → lifted chains chain onto ≡ chains
 nothing-lifted chains chain onto is =
@@ -38,7 +38,7 @@ nothing-lifted chains chain onto is =
     ∙ ap (λ xs. set chains onto (take 1 xs ++ chain_in chains onto)) is
     ∙ set-get_or chains onto []
 
--- what is seen of another chain's last row while one is walked
+-- The last row that is seen of a chain other than the walked one is the stored one.
 pub last-other : (lasts : List (Option ℕ)) (walk : Walk) (left : Option ℕ) (onto : ℕ)
     → onto ≢ walk.chain
     → last_in (set (seen_lasts lasts (Some walk)) walk.chain left) onto ≡ last_in lasts onto
@@ -46,12 +46,12 @@ last-other lasts walk left onto apart =
     get_or-set_other (seen_lasts lasts (Some walk)) walk.chain onto left None apart
     ∙ get_or-set_other lasts walk.chain onto walk.at None apart
 
--- which chain is being walked
+-- Which chain is being walked.
 pub walked-is : (walk : Option Walk) (w : Walk) (chain : ℕ) → walk ≡ Some w
     → walked_in walk ≡ Some chain → w.chain ≡ chain
 walked-is walk w chain is walked = let both = sym (ap walked_in is) ∙ walked in cc
 
--- the changes of two steps
+-- The changes of two steps together.
 pub both-changes : {links mid new : Links} → Changes links mid 1 → Changes mid new 2
     → Changes links new 3
 both-changes first second = record {
@@ -64,20 +64,20 @@ both-changes first second = record {
 }
 
 module _ {T : Type 0} where
-  -- the same table and an equal walk
+  -- the same table with an equal walk is sound
   pub sound-at : {links : Links} {rows : List (Option T)} (walk other : Option Walk) → walk ≡ other
       → IsSound links rows walk → IsSound links rows other
   sound-at {links} {rows} walk other e s =
       let P : Option Walk → Type 0 = λ w. IsSound links rows w in subst P e s
 
-  -- the row at which the walk is, is the last of its chain
+  -- the row at which the walk is counts as the last row of its chain
   pub walk-last : {links : Links} {rows : List (Option T)} (walk : Walk)
       → IsSound links rows (Some walk)
       → last_in (seen_lasts links.lasts.items (Some walk)) walk.chain ≡ walk.at
   walk-last {links} {rows} walk s =
       get_or-set_same links.lasts.items walk.chain walk.at None s.walks.1
 
-  -- the values of a chain without its first, and of its first
+  -- a chain's values are its first value and the others
   pub chain-parts : {next : List ℕ} {lasts : List (Option ℕ)} {rows : List (Option T)}
       {chains : List (List ℕ)} → IsTable next lasts rows chains
       → (chain : ℕ) → 0 < chain
@@ -105,7 +105,7 @@ module _ {T : Type 0} where
                 ∙ sym (ap (λ vs. take 1 vs) front),
           )
 
-  -- the chain turned by one
+  -- the table after a chain was turned by one row
   pub turned-table : {next : List ℕ} {lasts : List (Option ℕ)} {rows : List (Option T)}
       {chains : List (List ℕ)} → IsTable next lasts rows chains
       → (chain at : ℕ) → 0 < chain → last_in lasts chain ≡ Some at
@@ -126,7 +126,7 @@ module _ {T : Type 0} where
       (in-other chains chain 0 (drop 1 (chain_in chains chain) ++ take 1 (chain_in chains chain))
       (λ e. absurd (omega arith)))
 
-  -- what is shown then
+  -- what is shown after that
   pub shown-turned : {next : List ℕ} {lasts : List (Option ℕ)} {rows : List (Option T)}
       {chains : List (List ℕ)} → IsTable next lasts rows chains
       → (chain : ℕ) → 0 < chain
@@ -142,7 +142,7 @@ module _ {T : Type 0} where
       ∙ ap (λ vs. drop 1 (values_of rows xs) ++ vs) parts.1
       ∙ sym (ap (λ vs. drop 1 vs ++ take 1 vs) seen))
 
-  -- what is shown after the first of one went before the first of another
+  -- what is shown after the first value of one chain was put before another chain
   pub shown-lifted : {next : List ℕ} {lasts : List (Option ℕ)} {rows : List (Option T)}
       {chains : List (List ℕ)} → IsTable next lasts rows chains
       → (chain onto : ℕ) → 0 < chain
@@ -164,7 +164,7 @@ module _ {T : Type 0} where
       ∙ ap (λ vs. vs ++ f ys) (parts.1 ∙ sym (ap (λ vs. take 1 vs) seen))
       ∙ ap (λ vs. take 1 (chain_in (map f chains) chain) ++ vs) (sym other))
 
-  -- The first of the walked chain went before the first of another.
+  -- the table after the first row of the walked chain was put before the first row of another chain
   pub lifted-table : (links mid new : Links) (rows : List (Option T)) (walk : Walk)
       (at row onto : ℕ) (left : Option ℕ) → IsSound links rows (Some walk)
       → walk.at ≡ Some at → row ≡ after links.next.items at → 0 < onto → onto ≢ walk.chain
@@ -206,7 +206,7 @@ module _ {T : Type 0} where
       (in-neither chains walk.chain onto (drop 1 xs)
       (take 1 xs ++ chain_in chains onto) s.walks.0 more)
 
-  -- the first value of a chain replaced
+  -- the table after the first value of a chain was replaced
   pub replaced-table : {next : List ℕ} {lasts : List (Option ℕ)} {rows : List (Option T)}
       {chains : List (List ℕ)} → IsTable next lasts rows chains
       → (chain row : ℕ) (rest : List ℕ) (value : T) → 0 < chain → chain_in chains chain ≡ row ∷ rest
@@ -235,7 +235,7 @@ module _ {T : Type 0} where
             ];
       }
 
-  -- what is shown then
+  -- what is shown after that
   pub shown-replaced : {next : List ℕ} {lasts : List (Option ℕ)} {rows : List (Option T)}
       {chains : List (List ℕ)} → IsTable next lasts rows chains
       → (chain row : ℕ) (rest : List ℕ) (value : T) → 0 < chain → chain_in chains chain ≡ row ∷ rest
@@ -272,7 +272,7 @@ module _ {T : Type 0} where
             ∙ sym (in-other seen chain other (value ∷ drop 1 (chain_in seen chain)) apart)
       ])
 
-  -- the row at which the walk is, is the last of the chain that is being walked
+  -- the row at which the walk is counts as the last row of the walked chain
   pub walked-last : {links : Links} {rows : List (Option T)} (walk : Option Walk) (w : Walk)
       (chain : ℕ) → IsSound links rows walk → walk ≡ Some w
       → walked_in walk ≡ Some chain
@@ -287,7 +287,7 @@ module _ {T : Type 0} where
             ∙ walk-last w at,
       )
 
-  -- the walked chain turned by one
+  -- what the walk sees after the walked chain was turned by one row
   pub turn-made : (links : Links) (rows : List (Option T)) (walk : Option Walk) (w : Walk)
       (at first : ℕ) → IsSound links rows walk → walk ≡ Some w
       → w.at ≡ Some at → first ≡ after links.next.items at
@@ -305,7 +305,7 @@ module _ {T : Type 0} where
       (ap (λ k. turned (seen_chains links k) w.chain) (sym is))
       (turned-table other.table w.chain at other.walks.0 (walk-last w other ∙ there))
 
-  -- the first row of the walked chain cut out of it
+  -- the links after the first row of the walked chain was cut out of it
   pub lift-cut : (links mid : Links) (rows : List (Option T)) (walk : Option Walk) (w : Walk)
       (at row : ℕ) (left : Option ℕ) → IsSound links rows walk
       → walk ≡ Some w → w.at ≡ Some at → row ≡ after links.next.items at
@@ -323,7 +323,7 @@ module _ {T : Type 0} where
       subst P (sym leads) (cut (seen_lasts links.lasts.items (Some w)) []
       (seen_chains links (Some w)) w.chain (other.table).holds (walk-last w other ∙ there))
 
-  -- it may be put to another chain
+  -- the row may be put to another chain
   pub lift-loose : (links mid : Links) (rows : List (Option T)) (w : Walk) (row onto : ℕ)
       (left : Option ℕ)
       → Holds mid.next.items (set (seen_lasts links.lasts.items (Some w)) w.chain left) (row ∷ [])
@@ -346,7 +346,8 @@ module _ {T : Type 0} where
         );
   }
 
-  -- the first row of the walked chain put before the first of another
+  -- what the walk sees after the first row of the walked chain was put before the first row of
+  -- another chain
   pub lift-made : (links mid new : Links) (rows : List (Option T)) (walk : Option Walk) (w : Walk)
       (at row onto : ℕ) (left : Option ℕ) → IsSound links rows walk
       → walk ≡ Some w → w.at ≡ Some at → row ≡ after links.next.items at → 0 < onto → onto ≢ w.chain
@@ -379,7 +380,7 @@ module _ {T : Type 0} where
       (lift-loose links mid rows w row onto left h cut same apart less).within
       (lift-loose links mid rows w row onto left h cut same apart less).same))
 
-  -- the walk that ends: its chain's last row is noted
+  -- what is seen after the walk ended: the last row of its chain is stored
   pub rest-made : (links new : Links) (rows : List (Option T)) (walk : Option Walk) (w : Walk)
       → IsSound links rows walk → walk ≡ Some w
       → new.next.items ≡ links.next.items → new.lasts.items ≡ set links.lasts.items w.chain w.at
@@ -392,7 +393,7 @@ module _ {T : Type 0} where
       sound-of new rows None (seen_chains links (Some w))
       (subst P (sym same) (subst Q (sym noted) other.table)) tt
 
-  -- what the walk that begins sees
+  -- what the walk sees when it begins
   pub walk-made : (links : Links) (rows : List (Option T)) (walk : Option Walk) (chain : ℕ)
       (at : Option ℕ) → IsSound links rows walk → walked_in walk ≡ None
       → 0 < chain → chain < length links.lasts.items → at ≡ last_in links.lasts.items chain
@@ -404,7 +405,7 @@ module _ {T : Type 0} where
       (seen_chains links walk) (sym noted) refl (table-rest s rest))
       (shown, less)
 
-  -- a chain that is seen is noted
+  -- a chain that is seen is stored
   pub lift-within : {links : Links} {rows : List (Option T)} {walk : Option Walk}
       → IsSound links rows walk → (chain : ℕ)
       → chain < length (map (values_of rows) (seen_chains links walk))

@@ -72,8 +72,8 @@ const OUTPUTS: &str = "record script log=a ok;b ok;3 4;
 list log=super version 1 entries 3 sectorsize 512;0 @1 write 5+1;1 @3 flush;2 @4 mark dm-log-writes-end;
 status log=3 4;";
 
-// Checks that the command line prints the output `wanted`, and ends with 0. It may also fail, and
-// print nothing else than a lack of memory or an unusable file.
+// Checks that the command line prints the output `wanted`, and ends with 0. The command may also
+// fail. Then its error output is empty, or reports a lack of memory or an unusable file.
 fn check_output<F: Files>(
     rt: &(impl Abort + Print + Threads + Wait + Sync),
     alloc: Global,

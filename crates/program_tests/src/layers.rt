@@ -12,6 +12,7 @@ use test_devices::holds;
 // How `list` prints all entries of the script in `layered`, if no layer fails a call.
 const WHOLE: &str = "0 @1 write 5+1;1 @3 flush;2 @4 mark dm-log-writes-end;";
 
+// The table lines of the layers that are combined.
 const LOWER: [&str; 4] = [
     "0 32 linear disk 0",
     "0 32 error",

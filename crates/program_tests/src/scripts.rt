@@ -228,6 +228,7 @@ fn values(rt: HostRuntime) -> Result<(), Fail> {
     Ok(())
 }
 
+// The text of each error.
 const ERRORS: &str =
     "no target of this name\ntoo many words, or too few\na word that is no number\na value out of its range\nno such feature";
 

@@ -152,12 +152,13 @@ fn answers_of_messages(rt: HostRuntime) -> Result<(), Fail> {
     Ok(())
 }
 
-// A layer has as many blocks as begin in it, here blocks of two sectors. One or two sectors have
-// one block, three or four have two.
+// Rows for a layer with blocks of two sectors. It has as many blocks as begin in it: with one or
+// two sectors it has one block.
 const ONE: &str = "m 1 addbadblock 0|ok
 m 1 addbadblock 1|6 BadMessage
 m 1 addbadblock 2|6 BadMessage";
 
+// With three or four sectors, the layer has two blocks.
 const TWO: &str = "m 1 addbadblock 0|ok
 m 1 addbadblock 1|ok
 m 1 addbadblock 2|6 BadMessage";

@@ -26,6 +26,7 @@ const IMAGES: &str = "4096 512 7 0 6 0 0=0 @1 write 0+6;21 CutShort;;21 CutShort
 512 4096 0 0 0 0 0=;;0 0;
 512 4096 1 0 0 0 0=-;21 CutShort;;21 CutShort";
 
+// The image that a log is replayed onto has this many bytes.
 const TARGET_BYTES: usize = 8192;
 
 // The longest mark in a log sector of 512 bytes has this many bytes.

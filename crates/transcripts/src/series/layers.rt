@@ -13,6 +13,7 @@ pub enum Layer {
     Delay,
 }
 
+// The layers of which the stacks are made.
 const LAYERS: [Layer; 5] = [
     Layer::Linear,
     Layer::Error,

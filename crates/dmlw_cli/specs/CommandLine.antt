@@ -68,7 +68,7 @@ pub record IsCommandOf (app : App) (command : Command) : Type 0 where
   pub reads : app_of command ≡ app
   pub own : (fields_of command).has_globals ≡ false
 
--- A command that a command line enters: its name, and its words, each with its argument.
+-- An entered command: the command's name, and the words after the name, each with its argument.
 abbrev pub Entered : Type 0
 Entered = Text × List Row
 

@@ -1,4 +1,4 @@
--- What a command line does: its exit, what it prints, and which file it asks to be written.
+-- What a command line does: its exit, what it prints, and which file write it asks for.
 use Rattle.std.specs.Prelude.{◌≡◌, ◌≤◌, ◌⊎◌, ◌++◌, ℕ, Bool, true, false, Err, IfErr, List}
 use Rattle.std.specs.Prelude.{MatchResult, Option, Result, codes}
 use Rattle.std.specs.declared.io.ErrorKind.{ErrorKind as IoErrorKind}
@@ -235,8 +235,8 @@ pub record IsFaultLine (exit : Exit) (line : List ℕ) : Type 0 where
   pub ends : exit ≡ exit_of cause
   pub is : line ≡ fault_line cause
 
--- If the error stream can be written, it gets exactly one line: that of a fault with the command's
--- exit.
+-- If the error stream can be written, it gets exactly one line. This is the line of a fault whose
+-- exit is that of the command.
 pub record ReportsOneLine (ended : Ended) (old new : Option (List ℕ)) : Type 0 where
   pub line : List ℕ
   pub is : IsFaultLine ended.exit line

@@ -32,10 +32,10 @@ const MAX_FILE_BYTES: u64 = 9_223_372_036_854_775_807;
 /// that it leads to is replaced. A pipe, a device, or a stream of the process such as
 /// `/dev/stdout`, is written directly: the bytes are appended.
 ///
-/// A pipe, a socket or a character device can be read only once. So this value remembers its bytes,
-/// if they are at most 4,194,304, and a later read of the name returns a copy. If the file is known
-/// to have more bytes than a later read's limit, that read fails with `TooLong(0)`. Otherwise, if
-/// the bytes weren't remembered, it fails with `NotSeekable`.
+/// A pipe, a socket or a character device can be read only once. So this value remembers the bytes,
+/// if there are at most 4,194,304. A later read of the name returns a copy of them. If the file is
+/// known to have more bytes than a later read's limit, that read fails with `TooLong(0)`.
+/// Otherwise, if the bytes weren't remembered, it fails with `NotSeekable`.
 #[derive(Drop)]
 pub struct HostFiles<'a, R: std::rt::Files> {
     runtime: &'a R,

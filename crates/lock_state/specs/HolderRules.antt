@@ -1,5 +1,4 @@
--- The rule that the passes of a keeper and its holders keep, and how each step changes what a pass
--- knows.
+-- The rule for the passes of a keeper and its holders, and how each step changes what a pass knows.
 use Rattle.std.specs.Prelude.{◌≡◌, ℕ, List, [], ◌∷◌, ◌++◌, length, Option, Some, None, slice_get}
 use Rattle.std.specs.Prelude.{slice_set, true, false}
 use mathlib.Core.Option.{some}
@@ -98,8 +97,8 @@ pub record Fits (place : ℕ) (owner : ℕ → ℕ) (all : List (Option ℕ)) (b
     (pass : Knows) : Type 0 where
   -- if the pass is a keeper's, it is the pass at `place`, and it knows what each holder holds
   pub kept : pass.keeps ≡ true → (by ≡ place) × (pass.all ≡ all)
-  -- if the pass is a holder's, it is the only pass with its number, and it holds what `all` has at
-  -- this number
+  -- if the pass is a holder's, no other pass has the same number, and the holder holds what `all`
+  -- has at this number
   pub held : pass.holds ≡ true → (owner pass.number ≡ by)
       × (slice_get all pass.number ≡ Some pass.held)
 

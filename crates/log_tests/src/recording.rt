@@ -121,10 +121,11 @@ fn played(alloc: Global, core: &mut Core, steps: &str) -> Result<String, AllocEr
 
 // Rows `steps=what they show`: `take` shows `id first+count flags;` for each entry, and the last
 // number counts events. A flush queues what ended before its submission. A FUA write is queued when
-// it ends, even if it fails. It comes after an older write or discard of its sector, and before
-// those of other sectors. A core with an open request can't be closed. Nothing is queued after a
-// stop. If the later of two flushes ends first, it queues what ended before its submission; this
-// holds for a write with flush too. Recording goes on after a take. A mark waits for nothing.
+// it ends, even if it fails. In the list it comes after an older write or discard of the same
+// sector, and before writes and discards of other sectors. A core with an open request can't be
+// closed. Nothing is queued after a stop. If the later of two flushes ends first, its end queues
+// what ended before the later flush was submitted. A write with flush does so too. Recording goes
+// on after a take. A mark waits for nothing.
 const ROWS: &str =
     "write 10,write 20,write 30,end 2,end 1,flush,end 0,end 5,close,take=2 30+1 0;1 20+1 0;5 0+0 1;0 10+1 0;8 0+0 8;9
 fua 5,fail 0,take,take=0 5+1 2;2

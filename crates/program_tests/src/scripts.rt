@@ -178,8 +178,9 @@ fn messages_keep_their_words(rt: HostRuntime) -> Result<(), Fail> {
     Ok(())
 }
 
-// Returns how many lines a script's head has; the data disk's sectors, and those of its topmost
-// layer; the number of its layers; and the sectors of the log's topmost layer.
+// Returns five numbers of a script. They are the lines of its head, the data disk's sectors, and
+// the sectors of the data disk's topmost layer. Then come the number of the data disk's layers, and
+// the sectors of the log's topmost layer.
 fn disks_of(alloc: Global, script: &Script) -> Result<String, Fail> {
     let (data, log) = (script.data(), script.log());
     Ok(format!(in alloc;

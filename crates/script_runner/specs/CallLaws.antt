@@ -18,7 +18,8 @@ appends_twice (Some a) (Some b) None x y first second = absurd second
 appends_twice (Some a) (Some b) (Some c) x y first second =
     second ∙ ap (λ (z : List ℕ). z ++ y) first ∙ append_assoc a x y
 
--- If a writer appends `x`, and then keeps what it holds, it appended `x` in both calls together.
+-- If a writer appends `x` in one call, and keeps what it holds in the next, both calls together
+-- append `x`.
 pub appends_kept : (a b c : Option (List ℕ)) (x : List ℕ) → Appends a b x → Keeps b c
     → Appends a c x
 appends_kept None b c x first second = tt
@@ -26,7 +27,7 @@ appends_kept (Some a) None c x first second = absurd first
 appends_kept (Some a) (Some b) None x first second = absurd second
 appends_kept (Some a) (Some b) (Some c) x first second = second ∙ first
 
--- If a writer keeps what it holds in each of two calls, it does so in both together.
+-- If a writer keeps what it holds in each of two calls, it keeps what it held before both.
 pub keeps_twice : (a b c : Option (List ℕ)) → Keeps a b → Keeps b c → Keeps a c
 keeps_twice None b c first second = tt
 keeps_twice (Some a) None c first second = absurd first

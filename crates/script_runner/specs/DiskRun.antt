@@ -81,8 +81,8 @@ pub record Starts (plan : ScriptValue) (run : DiskRun) : Type 0 where
   pub moment : run.moment ≡ 0
   pub short : run.short ≡ false
 
--- The content that is left on `disk`. Without picks, that is its content; with picks, it is what a
--- crash with these picks leaves.
+-- The content that is left on `disk`: the present content, or, with picks, what a crash with these
+-- picks leaves.
 abbrev pub left_on : Option (List ℕ) → SectorDisk → Content
 left_on None disk = (shown_of disk).content
 left_on (Some picks) disk = left_by (cache_of disk) picks

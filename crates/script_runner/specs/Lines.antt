@@ -78,9 +78,9 @@ is_ample run = not run.short && list_all is_asked run.requests.items
 
 -- ---- lines
 
--- `request` is what became of a submission of `bio`. If it is `Asked`, the recorder tracks it by an
--- id or passes it. If it is `NotAsked`, memory ran out: either for the bytes of `bio`, and the
--- recorder wasn't called, or in the recorder, which refused it.
+-- `request` is what became of a submission of `bio`. If it is `Asked`, the recorder tracks `bio` by
+-- an id or passes it. If it is `NotAsked`, memory ran out. This happened either for the bytes of
+-- `bio`, and the recorder wasn't called, or in the recorder, which refused `bio`.
 abbrev pub Asks : {L : Type 0} {l : Ghosts L} → Bio → Request → Recorder L l → Recorder L l → Type 0
 Asks bio (requests.Asked kept id) old new = (kept ≡ bio) × Submits bio (reply_of id) old new
 Asks bio requests.NotAsked old new =

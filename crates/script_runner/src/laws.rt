@@ -92,7 +92,7 @@ pub fn both_devices_are_called_at_one_time<D: Message + Drop, L: Message + Drop>
 
 /// Each line that submits adds one request to the run, in the order of the lines. It is the request
 /// that the line asks for, unless memory ran out for it. If the recorder tracks a request by an id,
-/// the event at this id is its Submit, provided that this was so before the lines.
+/// the event at this id is the request's Submit. This holds after the lines if it held before them.
 pub fn requests_are_in_the_events<D: Message + Drop, L: Message + Drop>()
     ensures asked { (names : List ScriptId) (body : List Command) (text : List ℕ)
         (old new : Running D L D.BlockDev L.BlockDev) →
@@ -138,8 +138,8 @@ pub fn crashes_of_a_run_leave_prefixes<D: Message + Drop, L: Message + Drop>()
 
 /// If recording is closed and logging hasn't ended, the whole completion list of the recorder's
 /// events is placed. If this holds before some lines, it holds after them, even for lines after the
-/// Close. Unless the log's device lied, its content then has the whole log, and so has whatever a
-/// crash leaves.
+/// Close. Unless the log's device lied, the device's content then has the whole log, and so has
+/// each content that a crash may leave.
 pub fn closed_runs_leave_whole_logs<D: Message + Drop, L: Message + Drop>()
     ensures placed { (names : List ScriptId) (body : List Command) (text : List ℕ)
         (old new : Running D L D.BlockDev L.BlockDev) →

@@ -12,10 +12,10 @@ const ROWS: usize = 64;
 // at the variable with the index id modulo 64. So a settle wakes another seat only if their ids
 // have the same variable.
 //
-// No wake-up is lost. What a thread waits for changes only under the log's lock. The thread holds
-// this lock from its look until it waits, and a thread that makes the change wakes it afterwards.
-// Threads wait only for marks and for writes with FUA, each of which is settled when it is placed.
-// So a settle concerns only the id in hand, and an end concerns all threads.
+// No wake-up is lost. What a thread waits for changes only under the log's lock. The waiting thread
+// holds this lock from its look until it waits. A thread that makes the change wakes the waiting
+// thread afterwards. Threads wait only for marks and for writes with FUA, each of which is settled
+// when it is placed. So a settle concerns only the id in hand, and an end concerns all threads.
 #[derive(Drop)]
 pub(crate) struct Waiters {
     row: [Condvar; ROWS],

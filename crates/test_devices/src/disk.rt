@@ -60,7 +60,7 @@ fn discarded(rt: &impl Abort, alloc: Global, image: &Vec<u8>) -> Result<SectorDi
     Ok(disk)
 }
 
-// Returns a new disk after these bytes were written to it with FUA, and it crashed without picks.
+// Writes these bytes to a new disk with FUA, crashes the disk without picks, and returns it.
 fn written(rt: &impl Abort, alloc: Global, image: &Vec<u8>) -> Result<SectorDisk, Fail> {
     let length = image.len();
     assert!(rt; 0 < length && length <= 3_072_000 && length % 512 == 0);
@@ -70,8 +70,8 @@ fn written(rt: &impl Abort, alloc: Global, image: &Vec<u8>) -> Result<SectorDisk
     Ok(disk)
 }
 
-// Checks the bytes of disks of `sectors` sectors: a disk made of `image`, one that was discarded, a
-// new one, and one that `image` was written to.
+// Checks the bytes of four disks of `sectors` sectors: a disk made of `image`, a discarded disk, a
+// new disk, and a disk that `image` was written to.
 fn check_size(
     rt: &impl Abort,
     alloc: Global,

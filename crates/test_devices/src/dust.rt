@@ -96,8 +96,8 @@ fn write_many<D: BlockDev + Drop>(
     Ok(())
 }
 
-// Lists 1,000 bad blocks of one sector each, and then writes all of them with one write, which
-// removes them from the list.
+// Lists 1,000 bad blocks of one sector each. Then one write writes all these blocks, and so removes
+// them from the list.
 fn mend_many<D: Message + Drop>(
     rt: &(impl Abort + Print),
     alloc: Global,

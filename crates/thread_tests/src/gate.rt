@@ -78,7 +78,8 @@ impl Sign {
     }
 }
 
-/// A device that passes all calls, but holds one of the writes to one sector until it is released.
+/// A device that passes all calls, but holds one of the writes to `sector` until this write is
+/// released.
 #[derive(Drop)]
 pub struct Gate<D: BlockDev + Drop, C: Clock + Drop> {
     lower: D,

@@ -1,8 +1,9 @@
 // How a transcript shows bytes, and how it gives them.
 use std::alloc::{AllocError, Global};
 
-/// Appends a file's length, and for each sector of 512 bytes with a byte other than zero its number
-/// and its bytes. Equal neighbouring bytes are written once, with a star and their count: `41*512`.
+/// Appends a file's length. Then appends each sector of 512 bytes that isn't only zeroes: its
+/// number, and its bytes. Equal neighbouring bytes are written once, with a star and their count:
+/// `41*512`.
 pub fn push_sectors(text: &mut String, bytes: &[u8]) -> Result<(), AllocError> {
     writeln!(text, "{} bytes", bytes.len())?;
     for (number, sector) in bytes.chunks(512).enumerate() {

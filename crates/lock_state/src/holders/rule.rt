@@ -1,5 +1,4 @@
-// The rule that the passes of a keeper and its holders keep, and the steps that they take under
-// this rule.
+// The rule for the passes of a keeper and its holders, and the steps that this rule allows.
 
 use atomic_table::{Join, Play, Split, Table, TableRule};
 use std::alloc::Global;

@@ -47,9 +47,9 @@ pub record Makes (call : Call) (old : Player) (outcome : Outcome) (new : Player)
   pub number : new.number ≡ old.number
   pub tally : new.tally ≡ old.tally
 
--- A seat goes over one line. If `old` has made the calls of its lines in `before`, then `new` has
--- made those of its lines in `before` and `line`. The call of `line` is made and counted only if
--- the line is the seat's own.
+-- A seat goes over one line. If `old` has made the calls of the seat's lines in `before`, then
+-- `new` has made those of the seat's lines in `before` and `line`. The call of `line` is made and
+-- counted only if the line is the seat's own.
 pub record DoesLine (line : SeatCall) (old new : Player) : Type 0 where
   pub number : new.number ≡ old.number
   pub ran : (before : List SeatCall) → length before < 2 ^ 64 - 1

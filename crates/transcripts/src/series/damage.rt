@@ -64,8 +64,9 @@ struct Seen {
     flushed: Faults,
 }
 
-/// Runs four series: images of chosen fields; the log of `FLUSHED`, cut to each length; the log of
-/// `SETTLED` with each of its first bytes changed; and replays onto devices that fail or lie.
+/// Runs four series. The first has images with chosen fields, the second the log of `FLUSHED`, cut
+/// to each length. The third has the log of `SETTLED` with each of its first bytes changed, the
+/// fourth replays onto devices that fail or lie.
 pub fn run<H: Threads + Wait + Sync>(
     rt: &H,
     alloc: Global,

@@ -38,8 +38,8 @@ enum Ending {
     Plain,
     // It crashes; each sector then holds its durable value.
     Crash,
-    // It crashes; each sector then holds the first value that it could hold besides its durable
-    // value, if there is one.
+    // It crashes. If a sector has other possible values besides its durable value, it then holds
+    // the first of them.
     Picked,
 }
 

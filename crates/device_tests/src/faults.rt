@@ -2,12 +2,11 @@
 use crate::calls::{calls, look, play};
 use bio::Ms;
 use blockdev::BlockDev;
-use fault_layers::{Delay, ErrorDev, Flakey, Fuse, Linear};
+use fault_layers::{Delay, ErrorDev, Feature, Flakey, Fuse, Linear};
 use sector_disk::SectorDisk;
 use std::io::Print;
 use std::process::Abort;
 use std::test::Fail;
-use fault_layers::Feature;
 
 // Layers over a disk of 8 sectors of zeroes, a line each: the layer, then its calls. `@12` sets the
 // time of the later calls, in milliseconds. `w31+` writes 1s to sector 3, and `F31+` does with FUA.

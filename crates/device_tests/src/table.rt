@@ -1,14 +1,14 @@
 //! Stacks of layers by their table lines.
 ghost use Rattle.std.specs.Prelude.{◌≡◌};
 ghost use Rattle.std.specs.List.{AllByRecursion};
-ghost use Rattle.layer_table.specs.declared.layer_spec.Target.TheVariants.{Linear};
+ghost use Rattle.fault_layers.specs.declared.target.Target.TheVariants.{Linear};
 ghost use Rattle.layer_table.specs.Ranges.{IsLayerSpec};
 
 use crate::calls::{Call, ask, asked};
 use bio::Ms;
 use blockdev::BlockDev;
 use fault_layers::Kind;
-use layer_table::Stack;
+use layer_table::{LayerSpec, Stack, Target, parse_line};
 use plain::{Plain, counts, plain_call};
 use refusals::Refusal;
 use sector_disk::SectorDisk;
@@ -16,7 +16,6 @@ use std::alloc::Global;
 use std::io::Print;
 use std::process::Abort;
 use std::test::Fail;
-use layer_table::{LayerSpec, Target, parse_line};
 use test_devices::is_same;
 
 mod plain;

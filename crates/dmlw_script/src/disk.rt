@@ -3,9 +3,9 @@ ghost use Rattle.std.specs.Prelude.{◌≡◌, OnOk};
 ghost use Rattle.dmlw_script.specs.Plans.{top_of};
 ghost use Rattle.dmlw_script.specs.FirstFault.{bare, with_layer};
 
+use layer_table::LayerSpec;
 use std::alloc::{AllocError, Global};
 use std::marker::Model;
-use layer_table::LayerSpec;
 
 /// A disk of a script: its sectors of 512 bytes, and the layers over it, from the lowest up.
 /// Contracts see it as a `Disk` (`specs/Plans`).

@@ -13,9 +13,9 @@ use crate::disk_name::DiskName;
 use crate::line::HeadLine;
 use crate::line_error::LineError;
 use bio::{MAX_DEVICE_SECTORS, SectorSize};
+use layer_table::{LayerSpec, TableError};
 use refusals::Refusal;
 use std::alloc::Global;
-use layer_table::{LayerSpec, TableError};
 
 // The maximum number of layers over one disk.
 const MAX_LAYERS: usize = 4;

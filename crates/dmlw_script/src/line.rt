@@ -21,8 +21,8 @@ use crate::options::options_of;
 use crate::script_id::ScriptId;
 use crate::values::byte_of;
 use bio::{Ms, SectorSize};
-use refusals::{cut, number_of};
 use layer_table::{LayerSpec, TableError, parse_line};
+use refusals::{cut, number_of};
 
 /// The meaning of a line that is no crash.
 #[derive(Drop)]

@@ -6,9 +6,9 @@ ghost use Rattle.bio.specs.Refusals.{bad_bio_refusal};
 ghost use Rattle.layer_table.specs.TableLines.{table_refusal};
 
 use bio::BadBio;
+use layer_table::TableError;
 use refusals::Refusal;
 use std::alloc::{AllocError, AllocFailed};
-use layer_table::TableError;
 
 /// Why reading ends at a line.
 #[derive(Clone, Copy)]

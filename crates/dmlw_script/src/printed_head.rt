@@ -8,8 +8,8 @@ use crate::disk::DiskSpec;
 use crate::disk_name::DiskName;
 use crate::parts::push_value;
 use bio::SectorSize;
-use std::alloc::AllocError;
 use layer_table::{LayerSpec, push_line};
+use std::alloc::AllocError;
 
 // Appends the lines of a script's head.
 pub(crate) fn push_head(

@@ -1,10 +1,10 @@
 //! What a script and a table's line are parsed as, field by field, and texts of any length.
 use dmlw_script::{print_script, *};
+use layer_table::{TableError, parse_line};
 use std::alloc::{AllocError, Global};
 use std::io::Print;
 use std::process::Abort;
 use std::test::Fail;
-use layer_table::{TableError, parse_line};
 use test_devices::{is_told, rows_are_told};
 
 // Returns the result of parsing a text: the printed script, or the fault.

@@ -2,11 +2,10 @@
 use crate::bytes::{hex_byte, push_sectors};
 use bio::{DevError, Ms};
 use blockdev::{BlockDev, Message};
-use layer_table::Stack;
+use layer_table::{Stack, parse_line};
 use refusals::Refusal;
 use sector_disk::SectorDisk;
 use std::alloc::{AllocError, Global};
-use layer_table::parse_line;
 
 // The most sectors that a call may name.
 const MAX_SECTORS: u64 = 4096;

@@ -7,12 +7,12 @@ use dmlw_cli::execute;
 use dmlw_commands::Ended;
 use dmlw_files::{Output, Session};
 use dmlw_script::{print_run_script, print_script, read_run_script, read_script};
+use layer_table::{parse_line, push_line};
 use refusals::Refusal;
 use sector_disk::SectorDisk;
 use std::alloc::{AllocError, Global};
 use std::sync::Wait;
 use std::thread::Threads;
-use layer_table::{parse_line, push_line};
 use test_devices::{Folder, Outlet};
 
 // The sectors of the largest disk.

@@ -4,7 +4,7 @@ use crate::series::damage::plain_log;
 use crate::series::report::Report;
 use bio::Ms;
 use blockdev::BlockDev;
-use fault_layers::{Flakey, Fuse};
+use fault_layers::{Feature, Flakey, Fuse};
 use log_reader::LogReader;
 use refusals::Refusal;
 use replay::{ReplayFault, Upto, replay};
@@ -12,7 +12,6 @@ use sector_disk::SectorDisk;
 use std::alloc::{AllocError, Global};
 use std::sync::Wait;
 use std::thread::Threads;
-use fault_layers::Feature;
 
 // The device has `SECTORS` sectors of zeroes before.
 const SECTORS: u64 = 16;

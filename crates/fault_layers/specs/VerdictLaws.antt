@@ -85,7 +85,8 @@ reads_kept false features.ErrorReads is = cc
 reads_kept false features.ErrorWrites is = cc
 reads_kept false features.DropWrites is = cc
 
-target_keeps_reads : (target : Target) (load now : ℕ) → target_verdict target load Read now ≡ Drop → ⊥
+target_keeps_reads : (target : Target) (load now : ℕ) → target_verdict target load Read now ≡ Drop
+    → ⊥
 target_keeps_reads targets.Linear load now is = cc
 target_keeps_reads targets.Error load now is = cc
 target_keeps_reads (targets.Flakey up down feature) load now is =
@@ -109,7 +110,8 @@ ends_at_once old new (Discards first count) now end (same, past) = same
 ends_at_once old new Flushes now end (same, past) = cc
 
 -- so one that begins so much later ends so much later
-pub ends_later : {K : Type 0} (old new : Gated SectorDisk K) (delays : Delays) (call : Call) (now end : ℕ)
+pub ends_later : {K : Type 0} (old new : Gated SectorDisk K) (delays : Delays) (call : Call)
+    (now end : ℕ)
     → IsDecided (delay_verdict delays (kind_of call) now)
     (λ begun. Does old.lower call begun (Ok end) new.lower) call now (Ok end) old new
     → end ≡ later_by now (delay_of delays (kind_of call))

@@ -101,7 +101,8 @@ impl<D: BlockDev + Drop> Delay<D> {
     /// later, and its flushes `flush` later, in milliseconds; a moment past 2^64 - 1 is 2^64 - 1.
     pub fn new(lower: D, read: Ms, write: Ms, flush: Ms) -> Delay<D>
         ensures lower { result.lower ≡ lower }
-        ensures delays { result.gate ≡ record { target = targets.Delay read write flush; load = 0 } }
+        ensures delays { result.gate
+            ≡ record { target = targets.Delay read write flush; load = 0 } }
         ensures faults { result.faults ≡ 0 }
         ensures lies { result.lies ≡ 0 }
     {

@@ -4,8 +4,8 @@ use crate::gate::{Gate, Kind, Verdict};
 use bio::{DevError, Ms};
 use blockdev::{BlockDev, Message, MessageError};
 
-/// A device with a gate that decides, call by call, whether the lower device does it, and when. `K` only
-/// tells one kind of layer from another.
+/// A device with a gate that decides, call by call, whether the lower device does it, and when. `K`
+/// only tells one kind of layer from another.
 #[derive(Drop)]
 pub struct Gated<D: BlockDev + Drop, K: Drop> {
     lower: D,

@@ -1,7 +1,7 @@
 //! Devices over another one, which map its sectors, make its calls later or make it fail.
 //!
-//! `Linear` is a part of the lower device. Every other layer only decides: its gate (`Gate`) says by
-//! its `Target` for each call whether the lower device does it, and when, and `Gated` is the one
+//! `Linear` is a part of the lower device. Every other layer only decides: its gate (`Gate`) says
+//! by its `Target` for each call whether the lower device does it, and when, and `Gated` is the one
 //! device over it.
 #![tactic(auto)]
 

@@ -16,7 +16,13 @@ abbrev gate : Target → Loaded
 gate target = record { target = target; load = 3000 }
 
 asked : layer_asked (record { length = 8; offset = 4; target = targets.Fuse 3 }) 3000
-    ≡ record { offset = 4; length = 8; rule = Deciding (gate (targets.Fuse 3)); faults = 0; lies = 0 }
+    ≡ record {
+      offset = 4;
+      length = 8;
+      rule = Deciding (gate (targets.Fuse 3));
+      faults = 0;
+      lies = 0;
+    }
 asked = refl
 
 -- ---- which layers may drop writes
@@ -46,10 +52,24 @@ gap-beneath = refl
 -- ---- what layers show
 
 abbrev four-on : Layer
-four-on = record { offset = 4; length = 8; rule = Deciding (gate targets.Linear); faults = 0; lies = 0 }
+four-on =
+    record {
+      offset = 4;
+      length = 8;
+      rule = Deciding (gate targets.Linear);
+      faults = 0;
+      lies = 0;
+    }
 
 abbrev two-on : Layer
-two-on = record { offset = 2; length = 3; rule = Deciding (gate (targets.Fuse 3)); faults = 5; lies = 0 }
+two-on =
+    record {
+      offset = 2;
+      length = 3;
+      rule = Deciding (gate (targets.Fuse 3));
+      faults = 5;
+      lies = 0;
+    }
 
 -- the top's sector 1 is sector 7 of what is shown beneath; its size is its own, and its faults are
 -- its own and those beneath

@@ -46,7 +46,8 @@ IsKept {D} {A} g f =
 pub decided_keeps : {D A : Type 0} {g : Ghosts D} (f : Linear D g → A) (verdict : Verdict)
     (below : ℕ → Type 0) (call : Call) (now : ℕ)
     (result : Result ℕ DevError)
-    (layer after : Gated (Linear D g) (Unit {0})) → IsDecided verdict below call now result layer after
+    (layer after : Gated (Linear D g) (Unit {0}))
+    → IsDecided verdict below call now result layer after
     → ((begun : ℕ) → below begun → f after.lower ≡ f layer.lower) → f after.lower ≡ f layer.lower
 decided_keeps f Pass below call now result layer after is passed = passed now (is.passes refl).0
 decided_keeps f (Delay by) below call now result layer after is passed =

@@ -51,8 +51,8 @@ use Rattle.layer_table.specs.Texts.{feature_words, set_words, target_words}
 use Rattle.fault_layers.specs.declared.feature.Feature.{Feature}
 use Rattle.fault_layers.specs.declared.feature.Feature.TheVariants as features
 use Rattle.layer_table.specs.declared.layer_spec.LayerSpec.{LayerSpec}
-use Rattle.layer_table.specs.declared.layer_spec.Target.{Target}
-use Rattle.layer_table.specs.declared.layer_spec.Target.TheVariants as targets
+use Rattle.fault_layers.specs.declared.target.Target.{Target}
+use Rattle.fault_layers.specs.declared.target.Target.TheVariants as targets
 use Rattle.dmlw_script.proofs.DiskLaws.{disk_small, layer_specs, top_small}
 use Rattle.dmlw_script.proofs.FoldLaws.{all_append, all_map, barred_ok, tells_said, Tells}
 use Rattle.dmlw_script.proofs.BodyLaws.{count_after_command-is, submissions-cons}

@@ -4,7 +4,7 @@ use Rattle.std.proofs.Common.{replicate, refl, arith}
 use Rattle.std.specs.Prelude.{◌/◌, ◌≤◌, ◌++◌, codes, decimal}
 use Rattle.layer_table.specs.Ranges.{IsLayerSpec}
 use Rattle.layer_table.specs.declared.layer_spec.LayerSpec.{LayerSpec}
-use Rattle.layer_table.specs.declared.layer_spec.Target.TheVariants as targets
+use Rattle.fault_layers.specs.declared.target.Target.TheVariants as targets
 use Rattle.layer_table.specs.declared.table_error.TableError.TheVariants as table_errors
 use Rattle.bio.specs.Sizes.{bytes_of}
 use Rattle.bio.specs.declared.request.BadBio.TheVariants.{PastEnd, Unaligned}

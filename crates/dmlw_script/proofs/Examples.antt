@@ -17,38 +17,35 @@ use Rattle.dmlw_script.specs.declared.command.Command.TheVariants as commands
 use Rattle.dmlw_script.specs.declared.command.Submission.TheVariants as submits
 use Rattle.dmlw_script.specs.declared.command.Step.TheVariants as steps
 use Rattle.dmlw_script.specs.declared.command.WriteOptions.{WriteOptions}
-use Rattle.dmlw_script.specs.CanonicalText.{line_text, step_text}
+use Rattle.dmlw_script.specs.CanonicalText.{line_text}
 use Rattle.dmlw_script.specs.Plans.{head_count, is_log_disk_size, is_within, layer_line}
 use Rattle.dmlw_script.specs.Plans.{lines_of_script, time_after, range_test, top_of, Disk}
 use Rattle.dmlw_script.specs.Plans.{IsInTime, IsPlan, ScriptValue}
 use Rattle.table_line.specs.LayerOrder.{IsAllowed}
 use Rattle.dmlw_script.specs.FirstFault.{bare, data_due, head_refusal, in_body, in_head}
 use Rattle.dmlw_script.specs.FirstFault.{prefix_after, MayFollowInScript}
-use Rattle.dmlw_script.specs.Grammar.{spaced}
-use Rattle.dmlw_script.specs.Words.{byte_text}
+use Rattle.dmlw_script.specs.Fields.{option_fields, text_after, Byte, One}
 use Rattle.dmlw_script.specs.Ids.{script_id}
 use Rattle.dmlw_script.specs.Lines.{is_line_text}
-use Rattle.dmlw_script.specs.Options.{option_words}
 use Rattle.dmlw_script.specs.inside.LineParser.{parse_line, step, submit}
 
 -- a write that asks for this
 abbrev asks_for : Bool → Bool → Bool → WriteOptions
 asks_for flush fua meta = record { flush = flush; fua = fua; meta = meta }
 
--- the words of all options, of one, and of none
-all_options : option_words (asks_for true true true)
-    ≡ codes "flush" ∷ codes "fua" ∷ codes "meta" ∷ []
+-- the text of all options, of one, and of none
+all_options : text_after (option_fields (asks_for true true true)) ≡ codes " flush fua meta"
 all_options = refl
 
-fua_alone : option_words (asks_for false true false) ≡ codes "fua" ∷ []
+fua_alone : text_after (option_fields (asks_for false true false)) ≡ codes " fua"
 fua_alone = refl
 
-no_option : option_words (asks_for false false false) ≡ []
+no_option : text_after (option_fields (asks_for false false false)) ≡ []
 no_option = refl
 
 -- the end of a write's line, as it is printed
-write_text : spaced (byte_text 0x41 ∷ option_words (asks_for true false true))
-    ≡ codes "41 flush meta"
+write_text : text_after (One (Byte 0x41) ∷ option_fields (asks_for true false true))
+    ≡ codes " 41 flush meta"
 write_text = refl
 
 -- each choice of options is read
@@ -124,7 +121,7 @@ reads_no_mark = refl
 reads_another_word : parse_line (codes "markx y") ≡ None
 reads_another_word = refl
 
-mark_text : step_text (steps.Mark (codes "# here")) ≡ codes "mark # here"
+mark_text : line_text (step (steps.Mark (codes "# here"))) ≡ codes "mark # here"
 mark_text = refl
 
 -- a message's text is all behind its layer's number and one space
@@ -141,7 +138,7 @@ reads_no_text = refl
 reads_no_disk : parse_line (codes "message disk 1 enable") ≡ None
 reads_no_disk = refl
 
-message_text : step_text (steps.Message disks.Log 4 (codes "addbadblock 60"))
+message_text : line_text (step (steps.Message disks.Log 4 (codes "addbadblock 60")))
     ≡ codes "message log " ++ (decimal 4 ++ codes " addbadblock 60")
 message_text = refl
 
@@ -252,7 +249,7 @@ in_time = omega arith
 back_in_time : IsInTime 5 (steps.At 4) → ⊥
 back_in_time is = absurd (omega (arith, is))
 
-moment_text : step_text (steps.At 1000) ≡ codes "at " ++ decimal 1000
+moment_text : line_text (step (steps.At 1000)) ≡ codes "at " ++ decimal 1000
 moment_text = refl
 
 reads_moment : parse_line (codes "at 007") ≡ Some (step (steps.At 7))

@@ -6,6 +6,7 @@ pub mod DraftLemmas
 pub mod PickLaws
 pub mod LineLemmas
 pub mod LineParserLaws
+pub mod FieldLaws
 pub mod BodyLaws
 pub mod FaultLaws
 pub mod CanonicalTextLaws

@@ -1,7 +1,7 @@
 -- The canonical text of fields has these fields. `CanonicalTextLaws` and `RunTextLaws` cite it.
-use Rattle.std.proofs.Common.{◌≡◌, ℕ, ◌/◌, ◌%◌, ◌^◌, ◌<◌, Bool, true, false, not, ◌&&◌, List, []}
-use Rattle.std.proofs.Common.{◌∷◌, ◌++◌, Option, Some, None, Ok, Err, refl, ap, sym, subst, arith}
-use Rattle.std.specs.Prelude.{◌-◌, ◌==◌, codes, decimal, length, replicate}
+use Rattle.std.proofs.Common.{◌≡◌, ℕ, ◌/◌, ◌%◌, ◌^◌, ◌<◌, Bool, true, false, not, List, []}
+use Rattle.std.proofs.Common.{◌∷◌, ◌++◌, Option, Some, None, refl, ap, sym, subst, arith}
+use Rattle.std.specs.Prelude.{◌-◌, ◌==◌, decimal, length, replicate}
 use Rattle.std.proofs.Common.{zero, suc, ◌∙◌}
 use Rattle.std.specs.Prelude.{Result}
 use Rattle.std.specs.Char.{is_ascii_digit}

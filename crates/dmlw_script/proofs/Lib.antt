@@ -22,4 +22,3 @@ pub mod RunFaults
 pub mod RunLines
 pub mod RunTextLaws
 pub mod RunExamples
-pub mod RunTextExamples

@@ -5,14 +5,11 @@ use Rattle.std.proofs.Common.{not, ◌&&◌, cond, List, [], ◌∷◌, ◌++◌
 use Rattle.std.proofs.Common.{refl, ap, ◌∙◌, sym, subst, arith, append_assoc}
 use Rattle.std.specs.Prelude.{◌==◌, flat_map, map, nat_eq, nat_lt, unwrap_or}
 use Rattle.std.specs.List.{join_with_byte, AllByRecursion}
-use Rattle.std.proofs.lemmas.Bool.{ltb-false}
 use Rattle.std.proofs.lemmas.Bool.Decides.{nat_tests}
 use Rattle.std.proofs.lemmas.List.Elements.{All-from_recursion}
-use Rattle.bio.specs.SizeLaws.{sized_passed}
 use Rattle.bio.specs.Sizes.{bytes_of}
 use Rattle.bio.specs.declared.sector_size.SectorSize.{SectorSize}
 use Rattle.bio.specs.declared.sector_size.SectorSize.TheVariants as sizes
-use Rattle.bio.specs.declared.request.Bio.TheVariants.{Read}
 use Rattle.dmlw_script.specs.declared.command.Command.{Command}
 use Rattle.dmlw_script.specs.declared.command.Command.TheVariants as commands
 use Rattle.dmlw_script.specs.declared.disk_name.DiskName.{DiskName}
@@ -23,11 +20,8 @@ use Rattle.dmlw_script.specs.LineMeaning as parsed_lines
 use Rattle.dmlw_script.specs.declared.line.HeadLine.TheVariants as head_lines
 use Rattle.dmlw_script.specs.declared.line.BodyLine.TheVariants as body_lines
 use Rattle.dmlw_script.specs.declared.command.Submission.{Submission}
-use Rattle.dmlw_script.specs.declared.command.Submission.TheVariants as submits
-use Rattle.dmlw_script.specs.declared.command.Step.{Step}
-use Rattle.dmlw_script.specs.declared.command.Step.TheVariants as steps
-use Rattle.dmlw_script.specs.Fields.{fields_of, head_fields, layer_word, number, step_fields}
-use Rattle.dmlw_script.specs.Fields.{submission_fields, submission_word, text_of, Fields, Given}
+use Rattle.dmlw_script.specs.Fields.{fields_of, head_fields, layer_word, number}
+use Rattle.dmlw_script.specs.Fields.{text_of, Fields, Given}
 use Rattle.dmlw_script.specs.Fields.{IsLineWith}
 use Rattle.dmlw_script.specs.Grammar.{IsTextOf}
 use Rattle.dmlw_script.specs.Lines.{with_line_feeds, is_line_byte, is_skipped, lines_of}
@@ -35,9 +29,9 @@ use Rattle.dmlw_script.specs.Lines.{IsUnbroken}
 use Rattle.dmlw_script.specs.Ids.{script_id}
 use Rattle.dmlw_script.specs.Plans.{ArePicks, CanFollow, count_after_command, head_of, layer_line}
 use Rattle.dmlw_script.specs.Plans.{line_at, lines_after_head, lines_of_body, name_at}
-use Rattle.dmlw_script.specs.Plans.{lines_of_script, range_test, step_answer, submission_answer}
-use Rattle.dmlw_script.specs.Plans.{submissions, top_of, with_ending, Disk, HasLineText, IsDisk}
-use Rattle.dmlw_script.specs.Plans.{IsName, IsWellFormed, IsPlan, ScriptValue, WritesByte}
+use Rattle.dmlw_script.specs.Plans.{lines_of_script}
+use Rattle.dmlw_script.specs.Plans.{submissions, top_of, with_ending, Disk, IsDisk}
+use Rattle.dmlw_script.specs.Plans.{IsName, IsWellFormed, IsPlan, ScriptValue}
 use Rattle.dmlw_script.specs.CanonicalText.{canonical_text}
 use Rattle.table_line.specs.LineLaws.{printed_again}
 use Rattle.table_line.specs.Ranges.{IsLayerSpec, IsTargetInRange}
@@ -51,10 +45,11 @@ use Rattle.table_line.specs.declared.layer_spec.Target.TheVariants as targets
 use Rattle.dmlw_script.proofs.DiskLaws.{disk_small, layer_specs, top_small}
 use Rattle.dmlw_script.proofs.FieldLaws.{line_number, line_text_append, text_good, text_has, Fits}
 use Rattle.dmlw_script.proofs.FieldLaws.{FitsLine, FitsWord, IsLineText}
-use Rattle.dmlw_script.proofs.FoldLaws.{all_append, all_map, barred_ok, tells_said, Tells}
+use Rattle.dmlw_script.proofs.FoldLaws.{all_append, all_map, tells_said, Tells}
 use Rattle.dmlw_script.proofs.BodyLaws.{count_after_command-is, submissions-cons}
 use Rattle.dmlw_script.proofs.BodyLaws.{submissions-push}
-use Rattle.dmlw_script.proofs.LineParserLaws.{all_weaker, cut_alone, cut_word, lacks, said_kept}
+use Rattle.dmlw_script.proofs.WordLaws.{all_weaker, cut_alone, cut_word, lacks}
+use Rattle.dmlw_script.proofs.LineParserLaws.{said_kept, step_fits, submission_fits}
 use Rattle.dmlw_script.proofs.LineLemmas.{after_line, first_line}
 
 -- ---- lines
@@ -221,47 +216,6 @@ head_written d l size is_data is_log = (
 )
 
 -- ---- scripts
-
--- the numbers of sectors that pass the test are below 2 ^ 64
-pub range_low : (bytes sectors first count : ℕ) → sectors ≤ 1048576
-    → range_test bytes sectors first count ≡ Ok tt → (first < 2 ^ 64) × (count < 2 ^ 64)
-range_low bytes sectors first count small e =
-    let some = barred_ok (count == 0) _ _ _ (sized_passed bytes (Read first count) sectors e).0 in
-    let short = barred_ok (nat_lt 2048 count) _ _ _ some.1 in
-    let within = barred_ok (nat_lt sectors (first + count)) _ _ _ short.1 in
-    let few : count ≤ 2048 = ltb-false _ _ short.0 in
-    let inside : first + count ≤ sectors = ltb-false _ _ within.0 in
-    (omega arith, omega arith)
-
--- what a submission has can be written
-pub submission_fits : (bytes sectors : ℕ) (submission : Submission) → sectors ≤ 1048576
-    → submission_answer bytes sectors submission ≡ Ok tt → WritesByte submission
-    → FitsWord (Given (submission_word submission)) × Fits (submission_fields submission)
-submission_fits bytes sectors (submits.Write first count byte options) small passes low =
-    let r = range_low bytes sectors first count small passes in
-    ((refl, refl), (r.0, (r.1, (low, ((refl, refl), ((refl, refl), ((refl, refl), tt)))))))
-submission_fits bytes sectors (submits.Discard first count) small passes low =
-    let r = range_low bytes sectors first count small passes in ((refl, refl), (r.0, (r.1, tt)))
-submission_fits bytes sectors submits.Flush small passes low = ((refl, refl), tt)
-
--- a line that names no request
-step_fits : (bytes sectors : ℕ) (it : Step) → sectors ≤ 1048576
-    → step_answer bytes sectors it ≡ Ok tt → HasLineText it → FitsLine (step_fields it)
-step_fits bytes sectors steps.Close small passes text =
-    record { first = (refl, refl); others = tt }
-step_fits bytes sectors (steps.Read first count) small passes text =
-    let r = range_low bytes sectors first count small passes in
-    record { first = (refl, refl); others = (r.0, (r.1, tt)) }
-step_fits bytes sectors steps.Turn small passes text =
-    record { first = (refl, refl); others = tt }
-step_fits bytes sectors (steps.At moment) small passes low =
-    record { first = (refl, refl); others = (low, tt) }
-step_fits bytes sectors (steps.Message disks.Data layer text) small passes has =
-    record { first = (refl, refl); others = ((refl, refl), (has.0, has.1)) }
-step_fits bytes sectors (steps.Message disks.Log layer text) small passes has =
-    record { first = (refl, refl); others = ((refl, refl), (has.0, has.1)) }
-step_fits bytes sectors (steps.Mark mark) small passes text =
-    record { first = (refl, refl); others = text }
 
 -- a request's id is one
 id_at : (names : List ScriptId) (request : ℕ) → AllByRecursion IsName names → request < length names

@@ -18,8 +18,8 @@ use Rattle.dmlw_script.specs.Ids.{is_id, is_name_byte, letters_of, script_id, Is
 use Rattle.dmlw_script.specs.Lines.{is_line_byte, is_line_text}
 use Rattle.dmlw_script.specs.Plans.{IsName}
 use Rattle.dmlw_script.specs.Words.{byte_text, hex_digit}
-use Rattle.dmlw_script.proofs.LineParserLaws.{all_weaker, byte_lacks_space, cut_word, id_lacks_space}
-use Rattle.dmlw_script.proofs.LineParserLaws.{lacks, number_lacks_space}
+use Rattle.dmlw_script.proofs.WordLaws.{all_weaker, byte_lacks_space, cut_word, id_lacks_space}
+use Rattle.dmlw_script.proofs.WordLaws.{lacks, number_lacks_space}
 use Rattle.refusals.specs.WordLaws.{decimal_number, number_model}
 use Rattle.refusals.specs.Words.{after_byte, before_byte, words_of}
 use Rattle.table_line.specs.TableLines.{line_answer}

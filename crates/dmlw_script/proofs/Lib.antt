@@ -5,8 +5,9 @@ pub mod DiskLaws
 pub mod DraftLemmas
 pub mod PickLaws
 pub mod LineLemmas
-pub mod LineParserLaws
+pub mod WordLaws
 pub mod FieldLaws
+pub mod LineParserLaws
 pub mod BodyLaws
 pub mod FaultLaws
 pub mod CanonicalTextLaws

@@ -23,11 +23,11 @@ use Rattle.dmlw_script.specs.inside.LineParser.{head_words, submission_of}
 use Rattle.dmlw_script.specs.inside.RunLineParser.{call_of, mark_call, parse_run_line}
 use Rattle.dmlw_script.specs.inside.RunLineParser.{run_head_line, run_line_parts, seat_line}
 use Rattle.dmlw_script.specs.inside.RunLineParser.{seat_of}
-use Rattle.dmlw_script.proofs.LineParserLaws.{bind_at, bind_some, chosen, first_some, head_read}
-use Rattle.dmlw_script.proofs.LineParserLaws.{kept_by, last_number_again, last_number_read}
-use Rattle.dmlw_script.proofs.LineParserLaws.{log_again, map_some, same_bytes, same_some}
-use Rattle.dmlw_script.proofs.LineParserLaws.{submission_again, submission_read, text_left}
-use Rattle.dmlw_script.proofs.LineParserLaws.{verb_read}
+use Rattle.dmlw_script.proofs.WordLaws.{bind_at, bind_some, chosen, first_some, map_some}
+use Rattle.dmlw_script.proofs.WordLaws.{same_bytes, same_some, verb_read}
+use Rattle.dmlw_script.proofs.LineParserLaws.{head_read, kept_by, last_number_again}
+use Rattle.dmlw_script.proofs.LineParserLaws.{last_number_read, log_again, submission_again}
+use Rattle.dmlw_script.proofs.LineParserLaws.{submission_read, text_left}
 use Rattle.refusals.specs.WordLaws.{number_again, number_read}
 use Rattle.refusals.specs.Words.{after_byte, before_byte, number_of, IsNumber}
 

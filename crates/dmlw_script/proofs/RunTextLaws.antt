@@ -17,10 +17,11 @@ use Rattle.dmlw_script.specs.RunPlans.{call_answer, data_layer, lines_of_run, lo
 use Rattle.dmlw_script.specs.RunPlans.{IsAllowed as SeatCanStand, FitsLine as CallFits, IsRunPlan}
 use Rattle.dmlw_script.specs.RunPlans.{RunPlan}
 use Rattle.dmlw_script.specs.RunText.{run_text}
-use Rattle.dmlw_script.proofs.CanonicalTextLaws.{data_fits, layer_fits, log_fits, submission_fits}
+use Rattle.dmlw_script.proofs.CanonicalTextLaws.{data_fits, layer_fits, log_fits}
 use Rattle.dmlw_script.proofs.CanonicalTextLaws.{written_as, written_text, IsWrittenAs}
 use Rattle.dmlw_script.proofs.DiskLaws.{disk_small, layer_specs, top_small}
 use Rattle.dmlw_script.proofs.FieldLaws.{Fits, FitsLine}
+use Rattle.dmlw_script.proofs.LineParserLaws.{submission_fits}
 use Rattle.dmlw_script.proofs.FoldLaws.{all_append, all_map}
 use Rattle.dmlw_script.proofs.RunLines.{run_said_kept}
 use Rattle.dmlw_script.proofs.ReaderLaws.{one_script}

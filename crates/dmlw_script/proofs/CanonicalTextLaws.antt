@@ -33,15 +33,15 @@ use Rattle.dmlw_script.specs.Plans.{lines_of_script}
 use Rattle.dmlw_script.specs.Plans.{submissions, top_of, with_ending, Disk, IsDisk}
 use Rattle.dmlw_script.specs.Plans.{IsName, IsWellFormed, IsPlan, ScriptValue}
 use Rattle.dmlw_script.specs.CanonicalText.{canonical_text}
-use Rattle.table_line.specs.LineLaws.{printed_again}
-use Rattle.table_line.specs.Ranges.{IsLayerSpec, IsTargetInRange}
-use Rattle.table_line.specs.Texts as table_texts
-use Rattle.table_line.specs.Texts.{feature_words, set_words, target_words}
-use Rattle.table_line.specs.declared.feature.Feature.{Feature}
-use Rattle.table_line.specs.declared.feature.Feature.TheVariants as features
-use Rattle.table_line.specs.declared.layer_spec.LayerSpec.{LayerSpec}
-use Rattle.table_line.specs.declared.layer_spec.Target.{Target}
-use Rattle.table_line.specs.declared.layer_spec.Target.TheVariants as targets
+use Rattle.layer_table.specs.LineLaws.{printed_again}
+use Rattle.layer_table.specs.Ranges.{IsLayerSpec, IsTargetInRange}
+use Rattle.layer_table.specs.Texts as table_texts
+use Rattle.layer_table.specs.Texts.{feature_words, set_words, target_words}
+use Rattle.fault_layers.specs.declared.feature.Feature.{Feature}
+use Rattle.fault_layers.specs.declared.feature.Feature.TheVariants as features
+use Rattle.layer_table.specs.declared.layer_spec.LayerSpec.{LayerSpec}
+use Rattle.fault_layers.specs.declared.target.Target.{Target}
+use Rattle.fault_layers.specs.declared.target.Target.TheVariants as targets
 use Rattle.dmlw_script.proofs.DiskLaws.{disk_small, layer_specs, top_small}
 use Rattle.dmlw_script.proofs.FieldLaws.{line_number, line_text_append, text_good, text_has, Fits}
 use Rattle.dmlw_script.proofs.FieldLaws.{FitsLine, FitsWord, IsLineText}

@@ -2,8 +2,8 @@
 use Rattle.std.proofs.Common.{◌≡◌, ℕ, Bool, true, false, None, Some, List, [], ◌∷◌, Err, Ok}
 use Rattle.std.proofs.Common.{refl, arith}
 use Rattle.std.specs.Prelude.{◌≤◌, ◌++◌, codes, decimal}
-use Rattle.table_line.specs.declared.layer_spec.LayerSpec.{LayerSpec}
-use Rattle.table_line.specs.declared.layer_spec.Target.TheVariants as targets
+use Rattle.layer_table.specs.declared.layer_spec.LayerSpec.{LayerSpec}
+use Rattle.fault_layers.specs.declared.target.Target.TheVariants as targets
 use Rattle.bio.specs.declared.request.BadBio.TheVariants.{Unaligned}
 use Rattle.refusals.specs.declared.refusal.Refusal.TheVariants.{BadLine, OutOfRange}
 use Rattle.dmlw_script.specs.LineMeaning as parsed_lines

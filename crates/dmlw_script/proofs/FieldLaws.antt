@@ -22,9 +22,9 @@ use Rattle.dmlw_script.proofs.WordLaws.{all_weaker, byte_lacks_space, cut_word, 
 use Rattle.dmlw_script.proofs.WordLaws.{lacks, number_lacks_space}
 use Rattle.refusals.specs.WordLaws.{decimal_number, number_model}
 use Rattle.refusals.specs.Words.{after_byte, before_byte, words_of}
-use Rattle.table_line.specs.TableLines.{line_answer}
-use Rattle.table_line.specs.declared.layer_spec.LayerSpec.{LayerSpec}
-use Rattle.table_line.specs.declared.table_error.TableError.{TableError}
+use Rattle.layer_table.specs.TableLines.{line_answer}
+use Rattle.layer_table.specs.declared.layer_spec.LayerSpec.{LayerSpec}
+use Rattle.layer_table.specs.declared.table_error.TableError.{TableError}
 
 -- ---- bytes that may stand in a line
 

@@ -10,7 +10,7 @@ use Rattle.bio.specs.declared.sector_size.SectorSize.{SectorSize}
 use Rattle.bio.specs.Sizes.{bytes_of}
 use Rattle.refusals.specs.declared.refusal.Refusal.{Refusal}
 use Rattle.refusals.specs.declared.refusal.Refusal.TheVariants.{BadLine}
-use Rattle.table_line.specs.declared.layer_spec.LayerSpec.{LayerSpec}
+use Rattle.layer_table.specs.declared.layer_spec.LayerSpec.{LayerSpec}
 use Rattle.dmlw_script.specs.declared.line.HeadLine.{HeadLine}
 use Rattle.dmlw_script.specs.declared.line.HeadLine.TheVariants as head_lines
 use Rattle.dmlw_script.specs.declared.run_line.RunLine.{RunLine}

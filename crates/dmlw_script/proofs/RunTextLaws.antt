@@ -26,7 +26,7 @@ use Rattle.dmlw_script.proofs.FoldLaws.{all_append, all_map}
 use Rattle.dmlw_script.proofs.RunLines.{run_said_kept}
 use Rattle.dmlw_script.proofs.ReaderLaws.{one_script}
 use Rattle.dmlw_script.proofs.RunLaws.{runner}
-use Rattle.table_line.specs.Ranges.{IsLayerSpec}
+use Rattle.layer_table.specs.Ranges.{IsLayerSpec}
 
 -- ---- each script has a text
 

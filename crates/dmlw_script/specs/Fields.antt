@@ -26,10 +26,10 @@ use Rattle.dmlw_script.specs.LineMeaning as parsed_lines
 use Rattle.dmlw_script.specs.Lines.{is_line_text}
 use Rattle.dmlw_script.specs.Words.{byte_text}
 use Rattle.refusals.specs.Words.{after_byte, before_byte, words_of, IsNumber}
-use Rattle.table_line.specs.TableLines.{line_answer}
-use Rattle.table_line.specs.Texts as table_texts
-use Rattle.table_line.specs.declared.layer_spec.LayerSpec.{LayerSpec}
-use Rattle.table_line.specs.declared.table_error.TableError.{TableError}
+use Rattle.layer_table.specs.TableLines.{line_answer}
+use Rattle.layer_table.specs.Texts as table_texts
+use Rattle.layer_table.specs.declared.layer_spec.LayerSpec.{LayerSpec}
+use Rattle.layer_table.specs.declared.table_error.TableError.{TableError}
 
 -- one word: a given one, a number, an id, a byte, or the name of a seat, which is `s` and a number
 pub data Word : Type 0 where

@@ -14,8 +14,9 @@ ghost use Rattle.recorder.specs.declared.recorder.Recorder.{Recorder};
 use blockdev::BlockDev;
 use pending::laws::stopped_lists_stay;
 
-/// Each prefix of the completion list belongs to some moment up to the last one. So the headline's
-/// promise about the moments to which `count` entries belong is about at least one moment.
+/// Each prefix of the completion list belongs to some moment up to the last moment. So the
+/// headline's promise about the moments to which `count` entries belong is about at least one
+/// moment.
 pub fn each_count_belongs_to_a_moment()
     ensures { (size : ℕ) (events : List CoreEvent) (count : ℕ)
         → count ≤ length (completion_list (dm_log_writes size) events) →

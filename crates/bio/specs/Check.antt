@@ -34,7 +34,7 @@ unless_unaligned aligned (Ok tt) = if aligned then Ok tt else Err Unaligned
 unless_unaligned aligned (Err bad) = Err bad
 
 -- The result of `check_sized` for a device of `sectors` sectors and a log with sectors of `size`
--- bytes: the tests of `check` come first, then the alignment test.
+-- bytes. The tests of `check` come first, then the alignment test.
 abbrev pub check_sized_answer : ℕ → Bio → ℕ → Result (Unit {0}) BadBio
 check_sized_answer size bio sectors =
     unless_unaligned (is_aligned size bio) (check_answer bio sectors)

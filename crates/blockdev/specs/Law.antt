@@ -32,9 +32,8 @@ pub record DeviceFrame (patch : Patch) (v w : View) : Type 0 where
   pub crash : (left : Content) → w.crash left → AfterPatch patch v.crash left
   -- the clock doesn't go back
   pub moment : v.moment ≤ w.moment
-  -- if a crash since an earlier reading may have left a content, there are two cases: it may have
-  -- done so before the call, or the content is one that a crash could leave before the call,
-  -- patched
+  -- if a crash since an earlier reading may have left a content, there are two cases. Either a
+  -- crash may have left it before the call, or it is one that a crash could leave then, patched.
   pub gains : (moment : ℕ) (left : Content) → moment ≤ v.moment → w.since moment left →
       v.since moment left ⊎ AfterPatch patch v.crash left
   -- each content that a crash may have left before the call is still one that a crash may have left

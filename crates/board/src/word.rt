@@ -1,5 +1,5 @@
-// A status as one number: the entries from bit 26 on, the sector from bit 5 on, and the number of
-// the end in the lowest 5 bits.
+// A status as one number: the entries from bit 26 on, the sector from bit 5 on, and the end's
+// number below.
 ghost use Rattle.std.specs.Prelude.{◌≡◌, ◌≤◌, Option};
 ghost use Rattle.refusals.specs.declared.end.End.{End};
 ghost use Rattle.bio.specs.declared.outcome.Status.{Status as Said};

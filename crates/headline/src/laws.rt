@@ -27,7 +27,7 @@ pub fn each_count_belongs_to_a_moment()
 }
 
 /// If a device has the size of a recorder's log device, and the content that a crash left there, it
-/// holds the log that `reopen_and_replay` asks for: the first `count` entries. By the recorder's
+/// holds a log for `reopen_and_replay`. The log has the first `count` entries. By the recorder's
 /// clause `crash`, all acknowledged entries are among them.
 pub fn crashed_logs_are_held<L: BlockDev + Drop, D: BlockDev>()
     ensures { (old new : Recorder L L.BlockDev) (left : Content) (log : D)

@@ -84,9 +84,9 @@ fn has_value(event: &CoreEvent, sector: usize, value: &[u8]) -> bool
     }
 }
 
-// Returns whether the sector has the value of the event's request, and `end`, the index of that
-// request's end, isn't before the sector's entry in `last`. `last` has the last durable request
-// over each sector.
+// Returns whether the sector has the value of the event's request, and that request didn't end
+// before the sector's entry in `last`. `end` is the index of the end. `last` has the last durable
+// request over each sector.
 fn fits(
     event: &CoreEvent,
     end: Option<usize>,

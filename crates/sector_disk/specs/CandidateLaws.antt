@@ -80,8 +80,8 @@ left-torn patch fua cache left current may =
     (current sector) (may sector) in
     (λ sector. (at sector).0, λ sector. (at sector).1, λ sector. (at sector).2)
 
--- Each content that a crash may leave after a call with FUA is one that a crash could leave before,
--- with all of the call's values.
+-- Each content that a crash may leave after a call with FUA is one that it could leave before, with
+-- all of the call's values.
 pub left-durable : (patch : Patch) (fua : Bool) (cache : Cache) (left : Content) → IsTrue fua
     → IsCurrent cache
     → MayLeave (after_step (Puts patch fua) cache) left → AfterWhole patch (MayLeave cache) left

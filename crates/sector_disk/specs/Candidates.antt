@@ -87,8 +87,8 @@ unsynced_below cache zero = 0
 unsynced_below cache (suc sector) = unsynced_below cache sector + unsynced_at cache sector
 
 -- The index of the candidate that a sector takes. The n-th unsynced sector takes the n-th pick
--- modulo the number of its candidates, or 0, the durable value's index, if there is no such pick. A
--- synced sector has only one candidate.
+-- modulo the number of its candidates. If there is no n-th pick, it takes 0, the durable value's
+-- index. A synced sector has only one candidate.
 abbrev pub choice_of : Cache → List ℕ → ℕ → ℕ
 choice_of cache picks sector =
     unwrap_or (slice_get picks (unsynced_below cache sector)) 0 % length (cache.may sector)

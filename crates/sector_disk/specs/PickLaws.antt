@@ -1,5 +1,5 @@
--- Laws of the picks of a crash: all picks leave a content that a crash may leave, and for each such
--- content some picks leave it.
+-- Laws of the picks of a crash: all picks leave a content that a crash may leave, and some picks
+-- leave each such content.
 use Rattle.std.proofs.Common.{◌≡◌, ℕ, suc, zero, ◌+◌, ◌%◌, ◌<◌, true, false, Some, List, [], ◌∷◌}
 use Rattle.std.proofs.Common.{◌++◌, length, refl, ap, sym, ◌∙◌, inl, inr, arith, length-append}
 use Rattle.std.proofs.Math.Nat.{mod-eq_of_lt, mod-lt}

@@ -1,4 +1,4 @@
-//! Laws of crashes of a disk: a crash may leave exactly what picks can name, unsynced sectors may
+//! Laws of crashes of a disk. A crash may leave exactly what picks can name. Unsynced sectors may
 //! have old values, and a crash tears a running call.
 ghost use Rattle.std.specs.Prelude.{◌∷◌, ◌++◌, ◌≡◌, ◌+◌, ◌-◌, ◌/◌, ◌<◌, ◌≤◌, Bool, List, Ok, []};
 ghost use Rattle.std.specs.Prelude.{false, length, replicate, true, ℕ};
@@ -21,8 +21,8 @@ pub fn each_crash_is_picked()
         left_by (cache_of disk) picks sector ≡ left sector) }
 {}
 
-/// An unsynced sector may have an old value: each content that a crash could leave before a write
-/// without FUA or a discard, a crash may also leave afterwards.
+/// An unsynced sector may have an old value. What a crash could leave before a write without FUA or
+/// a discard, it may also leave after the call.
 pub fn unsynced_sectors_may_be_old()
     ensures write { (old new : SectorDisk) (first : ℕ) (bytes : List ℕ) (now end : ℕ)
         (left : Content) →
@@ -33,8 +33,9 @@ pub fn unsynced_sectors_may_be_old()
         (shown_of old).crash left → (shown_of new).crash left }
 {}
 
-/// While a write (also one with FUA) or a discard runs, a crash may leave any part of the call: any
-/// content that a crash could leave before, with the call's values in any of their sectors.
+/// While a write (also one with FUA) or a discard runs, a crash may leave any part of the call. The
+/// result is any content that a crash could leave before, with the call's values in any of their
+/// sectors.
 pub fn running_calls_tear()
     ensures write { (old new : SectorDisk) (first : ℕ) (bytes : List ℕ) (fua : Bool) (now end : ℕ)
         (before left : Content) →

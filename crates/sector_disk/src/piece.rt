@@ -14,7 +14,7 @@ enum Held {
 }
 
 /// A list of up to 65,536 bytes. A repeated byte at its end is stored once, or at the end of each
-/// sector if that takes at most half the memory.
+/// sector if that halves the memory.
 #[derive(Debug, Drop)]
 pub struct Piece {
     held: Held,

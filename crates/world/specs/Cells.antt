@@ -27,7 +27,7 @@ abbrev pub settling : CellState → CellState
 settling cell = record cell { settled = cell.landed }
 
 -- The state of a `World`: a cell for each sector, the calls so far (newest first), whether power
--- has failed, and the bytes of the durable content.
+-- has failed, and the durable bytes.
 pub record WorldState : Type 0 where
   pub cells : List CellState
   pub calls : List Step

@@ -1,6 +1,6 @@
--- A device with a volatile cache, as a machine that takes steps: a request lands in a sector, a
--- sector is destaged, a request ends, or power fails. A request's id is the index of the event that
--- submits it.
+-- A device with a volatile cache, as a machine that takes steps. A request is submitted, lands in a
+-- sector, or ends; a sector is destaged; or power fails. A request's id is the index of the event
+-- that submits it.
 use Rattle.std.specs.Prelude.{ℕ, ◌+◌, ◌==◌, Bool, true, false, not, ◌&&◌, ◌||◌, Option, Some, None}
 use Rattle.std.specs.Prelude.{is_some, List, [], ◌∷◌, slice_get, if◌then◌else◌}
 use Rattle.std.specs.List.{list_all, list_any}

@@ -10,8 +10,8 @@ use Rattle.judge.specs.inside.Last.{is_below_last}
 use Rattle.judge.specs.declared.verdict.Verdict.{Verdict}
 use Rattle.judge.specs.declared.verdict.Verdict.TheVariants.{Yes, No}
 
--- The sector has the value of the event's request, and `end`, the index of that request's end,
--- isn't before the index that `last` has for the sector.
+-- The sector has the value of the event's request, and that request didn't end before the index
+-- that `last` has for the sector. `end` is the index of the end.
 abbrev pub is_fit : Option CoreEvent → Option ℕ → List (Option ℕ) → Content → ℕ → Bool
 is_fit event end last now sector =
     not (is_below_last end (place_at last sector)) && is_value (values_at event sector) (now sector)

@@ -19,8 +19,8 @@ abbrev pub is_image_in : Option Call → ℕ → Bool
 is_image_in None count = false
 is_image_in (Some call) count = (call.first == 0) && is_write_of call.change count
 
--- the sector's value by the call at index `place`: the value of the image for the first call, at
--- index 0, or else the value of a later call
+-- the sector's value by the call at index `place`: the image's value for the first call, or else
+-- the value of a later call
 abbrev pub left_at : List Call → List ℕ → ℕ → Content
 left_at later image zero sector = sector_of image sector
 left_at later image (suc place) sector = value_at later place sector

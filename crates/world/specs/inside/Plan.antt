@@ -37,8 +37,8 @@ lands_if has_to wanted sure id sector =
 abbrev pub lands_early : List CoreEvent → (ℕ → Option ℕ) → (ℕ → ℕ → Bool) → ℕ → ℕ → List Step
 lands_early events wanted sure id = lands_if (ended_ok events id) wanted sure id
 
--- the steps of the request `id` for `sector` at the request's end: if it is the wanted request, it
--- lands there, and the sector is destaged
+-- the steps of the request `id` for `sector` at the request's end: the wanted request lands there,
+-- and the sector is destaged
 abbrev pub lands_late : (ℕ → Option ℕ) → ℕ → ℕ → List Step
 lands_late wanted id sector = touch (is_wanted (wanted sector) id) true id sector
 

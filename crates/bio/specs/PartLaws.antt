@@ -124,8 +124,8 @@ patched-part part whole old new is patched = λ sector. elim (patched sector) [
   ]
 ]
 
--- If a patch is applied to `old` and again to the result `mid`, in part each time, the result could
--- come from one application.
+-- If parts of a patch lead from `old` to `mid`, and from `mid` to `new`, a part of it leads from
+-- `old` to `new`.
 pub patched_twice : (patch : Patch) (old mid new : Content) → Patched patch old mid
     → Patched patch mid new → Patched patch old new
 patched_twice patch old mid new before after = λ sector. elim (after sector) [
@@ -181,8 +181,8 @@ put-joined first second whole old mid sector joins before = elim (joins sector) 
       put-some second mid sector late.0 late.1 ∙ sym (put-some whole old sector late.0 late.2)
 ]
 
--- If a smaller range has the values of a larger one, its patch is the larger patch between its
--- ends.
+-- If a part of a range has the range's values, the part's patch is the range's patch between the
+-- part's ends.
 pub over-between : (first count k n : ℕ) (value piece : ℕ → List ℕ) → k + n ≤ count
     → ((i : ℕ) → i < n → piece i ≡ value (k + i))
     → SameValues (over (first + k) n piece)

@@ -97,8 +97,8 @@ pub goes_cut : (end : ℕ) (patch : Patch) (v w : View) → DeviceFrame (below e
     → DeviceFrame patch v w
 goes_cut end patch v w = goes_part (below end patch) patch v w (below-part end patch)
 
--- If the values below `from` satisfy their frame, and then those from there to `to`, the values
--- below `to` satisfy theirs.
+-- The frame for the values below `from`, and then the frame for those from there to `to`, give the
+-- frame for the values below `to`.
 pub goes_next : (from to : ℕ) (patch piece : Patch) (u v w : View) → from ≤ to
     → SameValues piece (between from to patch)
     → DeviceFrame (below from patch) u v → DeviceFrame piece v w → DeviceFrame (below to patch) u w

@@ -1,5 +1,5 @@
-//! Laws of block devices: what a crash leaves of flushed and FUA writes, and of a call during the
-//! crash. Each function does nothing; its clauses are the law.
+//! Laws of block devices: what a crash leaves of flushed and FUA writes, and of a call that the
+//! crash interrupts. Each function does nothing; its clauses are the law.
 ghost use Rattle.std.specs.Prelude.{◌≡◌, ◌<◌, ◌≤◌, Bool, List, None, true, ℕ};
 ghost use Rattle.blockdev.specs.Law.{DeviceFrame, IsTorn, WriteDone, FlushDone};
 ghost use Rattle.bio.specs.Content.{Content, HasBytes, HasWholeSectors, Patch, nothing, writes};

@@ -194,9 +194,9 @@ impl<N: Names> Board<N> {
         writer.last = status;
     }
 
-    /// Looks at the board, and returns the last status that the reader has now seen: the one it
-    /// knew, or a later one. The statuses seen before stay the first ones, and none of all goes
-    /// back. It isn't proved that no newer status was posted.
+    /// Looks at the board, and returns the last status that the reader has now seen: the same as
+    /// before, or a later status. The list of seen statuses begins as before, and no status in it
+    /// goes back. It isn't proved that no newer status was posted.
     pub fn read(&self, mine: &mut StatusSeat<N>) -> Status
         ensures later { MayFollow (last_of mine.old) result }
         ensures begins { Begins mine.old mine.new }

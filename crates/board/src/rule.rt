@@ -28,6 +28,7 @@ impl TableRule<(), Knows, ()> for Law {
     ghost first = { λ _. writer_of (opening ∷ []) };
 }
 
+// The table of a board: its one word and its passes.
 pub type Post = Table<(), Knows, (), Law, Global>;
 
 // The writer posts a status.

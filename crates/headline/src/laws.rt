@@ -27,8 +27,8 @@ pub fn each_count_belongs_to_a_moment()
 }
 
 /// If a device has the size of a recorder's log device, and the content that a crash left there, it
-/// holds a log for `reopen_and_replay`. The log has the first `count` entries. By the recorder's
-/// clause `crash`, all acknowledged entries are among them.
+/// holds a log (`HoldsLogOf`). The log has the first `count` entries. `reopen_and_replay` asks for
+/// such a log. By the recorder's clause `crash`, all acknowledged entries are among them.
 pub fn crashed_logs_are_held<L: BlockDev + Drop, D: BlockDev>()
     ensures { (old new : Recorder L L.BlockDev) (left : Content) (log : D)
         → (plain : LeavesPlainLog (recorder_view old) (recorder_view new) left)

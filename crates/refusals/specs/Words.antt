@@ -26,8 +26,7 @@ words_of line = filter is_filled (slice_split (λ byte. byte == 32) line)
 abbrev pub is_word : List ℕ → Bool
 is_word word = is_filled word && list_all (λ byte. not (byte == 32)) word
 
--- the number `n` with `digit` appended, if `digit` is a decimal digit and the result is below 2 ^
--- 64
+-- `n` with `digit` appended, if `digit` is a decimal digit and the result is below 2^64
 abbrev pub with_digit : ℕ → ℕ → Option ℕ
 with_digit n digit =
     if is_ascii_digit digit && nat_lt (10 * n + (digit - 48)) (2 ^ 64) then Some

@@ -14,7 +14,8 @@ const BOUND: usize = 4;
 /// The bytes of up to 128 whole sectors. A repeated byte at a sector's end is stored once.
 #[derive(Debug, Drop)]
 pub struct PackedSectors {
-    // For each sector in turn, its bytes up to the first of the equal bytes at its end.
+    // For each sector in turn, its bytes up to and including the first of the equal bytes at its
+    // end.
     bytes: Vec<u8>,
     // For each sector, the index in `bytes` of its first stored byte; then the length of `bytes`.
     bounds: Vec<u32>,

@@ -13,8 +13,8 @@ enum Held {
     Packed(PackedSectors),
 }
 
-/// A list of up to 65,536 bytes. A repeated byte at its end is stored once, or at the end of each
-/// sector if that halves the memory.
+/// A list of up to 65,536 bytes. A repeated byte at the end is stored once, or one for each sector
+/// if that at least halves the memory.
 #[derive(Debug, Drop)]
 pub struct Piece {
     held: Held,

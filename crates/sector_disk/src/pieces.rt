@@ -24,8 +24,8 @@ fn read_piece(pieces: &[Piece], from: usize, buffer: &mut [u8])
 }
 
 /// A list of bytes, such as the image of a disk, in pieces of 65,536 bytes; the last piece may have
-/// fewer. A repeated byte at the end of a piece is stored once, or at the end of each sector if
-/// that halves the memory.
+/// fewer. A repeated byte at the end of a piece is stored once, or one for each sector if that at
+/// least halves the memory.
 #[derive(Debug, Drop)]
 pub struct Image {
     pieces: Vec<Piece>,

@@ -1,4 +1,4 @@
--- How an error of a step is reported as a refusal.
+-- The refusal that reports an error of a step.
 use Rattle.refusals.specs.declared.refusal.Refusal.{Refusal}
 use Rattle.refusals.specs.declared.refusal.Refusal.TheVariants as refusals
 use Rattle.world.specs.declared.step_error.StepError.{StepError}

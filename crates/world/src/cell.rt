@@ -9,6 +9,8 @@ use bio::Id;
 use std::alloc::{AllocError, Global};
 use std::marker::Model;
 
+/// The requests that landed in one sector, `ids`, of which the first `safe` had landed when the
+/// sector was last destaged. Contracts see both lists newest first.
 #[derive(Debug, Drop)]
 pub struct Cell {
     ids: Vec<u64>,

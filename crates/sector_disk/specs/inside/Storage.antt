@@ -78,7 +78,7 @@ abbrev pub cache_of : List Call → List ℕ → ℕ → Bool → Cache
 cache_of calls base begun flushed =
     cache_after (content_at calls base) (past_of calls begun flushed)
 
--- the index of the sector's call that is `n` calls before the one at `place`
+-- the index of the sector's call that is `n` of its calls before the call at `place`
 abbrev pub walk : List Call → ℕ → ℕ → ℕ → ℕ
 walk calls sector zero place = place
 walk calls sector (suc n) place = walk calls sector n (before_at calls place sector)

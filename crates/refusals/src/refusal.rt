@@ -63,7 +63,8 @@ pub enum Refusal {
     NoFlush,
     /// An entry reaches past the target's end.
     PastTarget,
-    /// A request isn't aligned to log sectors of 4,096 bytes.
+    /// A request isn't aligned to log sectors of 4,096 bytes, or an entry isn't aligned to the log
+    /// sectors of its copy.
     Unaligned,
     /// A flakey line has no such feature.
     BadFeature,

@@ -49,7 +49,7 @@ pub struct Call {
     /// The first sector of the call. A disk has less than 2^32 sectors, so 32 bits suffice.
     pub first: u32,
     pub fua: bool,
-    /// Whether a flush came between the previous call and this one.
+    /// Whether a flush came between the previous call and this call.
     pub after_flush: bool,
     pub change: Change,
     /// For each of the call's sectors, the index of the call whose value the sector had before.

@@ -1,5 +1,5 @@
-//! Finds, for each sector of an image, the last submitted request whose value it has and could
-//! still hold. `Account::of` ends with this pass.
+//! Finds, for each sector of an image, the last submitted request whose value the sector has, and
+//! which no durable request replaced there. `Account::of` ends with this pass.
 ghost use Rattle.std.specs.Prelude.{◌≡◌, ◌&&◌, ◌<◌, ◌≤◌, ◌⊎◌, ◌+◌, ◌*◌, ◌/◌, IfOk};
 ghost use Rattle.std.specs.Prelude.{MatchOption, Option, Some, if◌then◌else◌, length};
 ghost use Rattle.std.specs.Prelude.{ℕ};
@@ -28,7 +28,8 @@ pub fn sector_bytes(image: &[u8], sector: usize) -> &[u8]
     &image[from..from + SECTOR]
 }
 
-/// Returns the index of a sector among the `count` sectors from `first` on; none if it isn't there.
+/// Returns the index of a sector among the `count` sectors from `first` on; none if it isn't one of
+/// them.
 pub fn place_in(first: u64, count: u64, sector: usize) -> Option<usize>
     ensures { MatchOption result ((sector < first) ⊎ (first + count ≤ sector))
         (λ place. (sector ≡ first + place) × (place < count)) }
@@ -83,8 +84,9 @@ fn has_value(event: &CoreEvent, sector: usize, value: &[u8]) -> bool
     }
 }
 
-// Returns whether the sector has the value of the event's request, and could still hold it. `end`
-// is the index of the request's end. `last` has the last durable request over each sector.
+// Returns whether the sector has the value of the event's request, and that request didn't end
+// before the sector's entry in `last`. `end` is the index of the end. `last` has the last durable
+// request over each sector.
 fn fits(
     event: &CoreEvent,
     end: Option<usize>,
@@ -142,8 +144,8 @@ fn hold_values(
     hold_range(held, place, event, end, last, image, range);
 }
 
-/// Returns, for each sector of the image, the last submitted request whose value it has and could
-/// still hold.
+/// Returns, for each sector of the image, the last submitted request whose value the sector has,
+/// and which isn't replaced there.
 pub fn held_values(
     alloc: Global,
     events: &[CoreEvent],

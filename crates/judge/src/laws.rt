@@ -31,7 +31,7 @@ pub fn the_last_flush_decides()
         (submits has_fua (slice_get events id) || is_before events id flush)) }
 {}
 
-/// If `last` is the last submitted durable request over a sector, a request is replaced there
+/// Let `last` be the last submitted durable request over a sector. A request is replaced there
 /// exactly if it ended before the submission of `last`.
 pub fn the_last_durable_request_decides()
     ensures { (events : List CoreEvent) (sector last id : ℕ) → IsLastKept events sector last →

@@ -1,6 +1,7 @@
 //! Tests whether a `World` may take a step.
 //!
-//! The tests are those of the machine. They read the cells, and the calls so far, oldest first.
+//! The tests are those of the machine (`specs/Machine`). `cells` has one cell for each sector.
+//! `calls` are the submissions and ends so far, oldest first; contracts reverse them.
 ghost use Rattle.std.specs.Prelude.{◌≡◌, ◌+◌, ◌^◌, ◌<◌, Some, reverse, slice_get};
 ghost use Rattle.std.specs.List.{list_all, list_any};
 ghost use Rattle.bio.specs.declared.event.CoreEvent.TheVariants as core_events;
@@ -58,7 +59,7 @@ pub fn is_request(event: &CoreEvent) -> bool
     }
 }
 
-// Returns whether the call submits the request.
+// Returns whether the call submits the request `id`.
 fn is_submit(call: &Step, id: u64) -> bool
     ensures { result ≡ is_submit id call.now }
 {
@@ -68,7 +69,7 @@ fn is_submit(call: &Step, id: u64) -> bool
     }
 }
 
-// Returns whether the call ends the request.
+// Returns whether the call ends the request `id`.
 fn is_end(call: &Step, id: u64) -> bool
     ensures { result ≡ is_end id call.now }
 {
@@ -78,28 +79,28 @@ fn is_end(call: &Step, id: u64) -> bool
     }
 }
 
-// Returns whether some call submits the request.
+// Returns whether some call submits the request `id`.
 fn any_submit(calls: &[Step], id: u64) -> bool
     ensures { result ≡ list_any (is_submit id) calls.now }
 {
     calls.iter().any(|call| is_submit(call, id))
 }
 
-// Returns whether some call ends the request.
+// Returns whether some call ends the request `id`.
 fn any_end(calls: &[Step], id: u64) -> bool
     ensures { result ≡ list_any (is_end id) calls.now }
 {
     calls.iter().any(|call| is_end(call, id))
 }
 
-// Returns whether the request was submitted.
+// Returns whether the request was submitted. (The contract has `calls` newest first.)
 fn was_submitted(calls: &[Step], id: u64) -> bool
     ensures { result ≡ list_any (is_submit id) (reverse calls.now) }
 {
     any_submit(calls, id)
 }
 
-// Returns whether the request has ended.
+// Returns whether the request has ended. (The contract has `calls` newest first.)
 fn has_ended(calls: &[Step], id: u64) -> bool
     ensures { result ≡ list_any (is_end id) (reverse calls.now) }
 {
@@ -231,7 +232,8 @@ fn is_settled(cells: &[Cell], events: &[CoreEvent], event: &CoreEvent, id: u64) 
     }
 }
 
-// As above, for the event at index `id`; true if there is none.
+// Returns whether the request of the event at index `id` is settled in each of its sectors; true if
+// there is no such event.
 fn is_settled_at(cells: &[Cell], events: &[CoreEvent], id: u64) -> bool
     requires { AllEnd events.now }
     ensures { result ≡ is_settled cells.now id (slice_get events.now id) }
@@ -296,7 +298,8 @@ fn succeeds(
         && (!event.submits_flush() || ends_settled(cells, events, before_submit(calls, id)))
 }
 
-// As above, for the event at index `id`; true if there is none.
+// Returns whether the request of the event at index `id` may end with success; true if there is no
+// such event.
 fn may_succeed(cells: &[Cell], calls: &[Step], events: &[CoreEvent], id: u64) -> bool
     requires { AllEnd events.now }
     ensures { result ≡ succeeds events.now cells.now (reverse calls.now) id

@@ -1,6 +1,7 @@
 //! Makes a run that leaves an image, from the judge's account of the image.
 //!
-//! The plan has steps for each event, then for each request that hasn't ended; at last power fails.
+//! The plan has steps for each event, then for each request that hasn't ended. Its last step is
+//! that power fails.
 ghost use Rattle.std.specs.Prelude.{◌≡◌, ℕ, ◌/◌, ◌%◌, ◌++◌, IfOk, MatchOption, OnOk, Some, length};
 ghost use Rattle.std.specs.Prelude.{slice_get, take, true};
 ghost use Rattle.bio.specs.Events.{end_of, is_open_at};
@@ -24,14 +25,14 @@ use judge::{Account, First, Verdict, beginning};
 use std::alloc::{AllocError, Global};
 
 /// Makes a machine run that fits the first `moment` events and leaves the image, if `first` was on
-/// the device before the first event. Returns none if there is no such run. `events` is a list that
-/// a recorder of the device may have recorded (`is_lawful`). A `moment` past the last event counts
-/// as all of them. The image has the device's length in bytes, whole sectors of 512.
+/// the device before the first event. Returns none if there is no such run. A recorder of the
+/// device may have recorded `events` (`is_lawful`). If `moment` is past the last event, it means
+/// all events. The image has the device's length in bytes, whole sectors of 512.
 ///
 /// Takes 32 bytes of memory for each sector, 16 for each event, and memory for the run's steps. A
 /// run has at most two steps for each sector of each request, one for each submission and end, and
-/// one for the power failure. Takes time proportional to the sum of these. Lack of memory is the
-/// only error.
+/// one for the power failure. Takes time proportional to all these numbers together. Lack of memory
+/// is the only error.
 pub fn reach(
     alloc: Global,
     events: &[CoreEvent],
@@ -54,8 +55,8 @@ pub fn reach(
     }
 }
 
-/// As `reach`, but if there is no such run, returns what rules the image out: the sector and
-/// request of the verdict of `could_hold`. Makes one account of the image for both.
+/// Makes a run as `reach` does. If there is no such run, returns the sector and the request that
+/// `could_hold` returns for the image. One account of the image serves both.
 pub fn find(
     alloc: Global,
     events: &[CoreEvent],
@@ -77,7 +78,7 @@ pub fn find(
     }
 }
 
-// Returns the run that the account's plan makes.
+// Returns the run of the plan that the account gives.
 fn run_of(alloc: Global, events: &[CoreEvent], account: &Account) -> Result<Vec<Step>, AllocError>
     requires ends { (id : ℕ) → place_at account.now.ends.items id ≡ end_of events.now id }
     requires within { AllEnd events.now }
@@ -156,7 +157,7 @@ fn is_success_at(events: &[CoreEvent], place: usize) -> bool
     }
 }
 
-// Adds the plan's steps for the request `id` at its end.
+// Adds the plan's steps for the end of the request `id`.
 fn land_at(
     run: &mut Vec<Step>,
     events: &[CoreEvent],
@@ -173,7 +174,7 @@ fn land_at(
     }
 }
 
-// As above, for the event at index `id`.
+// Adds the plan's steps for the request `id`, which `event` submits, at its end.
 fn land_event(
     run: &mut Vec<Step>,
     events: &[CoreEvent],

@@ -10,8 +10,8 @@ use Rattle.judge.specs.inside.Last.{is_below_last}
 use Rattle.judge.specs.declared.verdict.Verdict.{Verdict}
 use Rattle.judge.specs.declared.verdict.Verdict.TheVariants.{Yes, No}
 
--- The sector has the value of the event's request. That request didn't end, at index `end`, before
--- the submission of the request that `last` has for the sector.
+-- The sector has the value of the event's request, and that request didn't end before the index
+-- that `last` has for the sector. `end` is the index of the end.
 abbrev pub is_fit : Option CoreEvent → Option ℕ → List (Option ℕ) → Content → ℕ → Bool
 is_fit event end last now sector =
     not (is_below_last end (place_at last sector)) && is_value (values_at event sector) (now sector)
@@ -33,7 +33,7 @@ pub record AreHeld (events : List CoreEvent) (now : Content) (sectors below : �
   pub each : (sector : ℕ) → sector < sectors
       → place_at held sector ≡ last_below (is_held_from events now sector) below
 
--- the sector has its first value, and `last` has no durable request over it
+-- `now` has the value of `first` in the sector, and `last` has no durable request over the sector
 abbrev pub is_at_first : List (Option ℕ) → Content → Content → ℕ → Bool
 is_at_first last first now sector =
     is_none (place_at last sector) && bytes_eq (now sector) (first sector)
@@ -51,8 +51,8 @@ pub record IsLowest (held last : List (Option ℕ)) (first now : Content) (secto
   pub lowest : (lower : ℕ) → lower < sector → is_fine held last first now lower ≡ true
   pub ruled_out : by ≡ place_at last sector
 
--- the verdict that follows from `held` and `last`: yes if each sector is fine, else no with the
--- lowest that isn't
+-- the verdict that follows from `held` and `last`: yes if each sector is fine, or else no with the
+-- lowest sector that isn't
 abbrev pub IsFound : List (Option ℕ) → List (Option ℕ) → Content → Content → ℕ → Verdict → Type 0
 IsFound held last first now sectors Yes =
     (sector : ℕ) → sector < sectors → is_fine held last first now sector ≡ true

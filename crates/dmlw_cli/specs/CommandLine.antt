@@ -1,5 +1,5 @@
 -- The program's command line as clap parses it: its commands, their arguments, and `--explain`.
--- `Tasks` says which task a command line asks for.
+-- `Tasks` says for which task a command line asks.
 use Rattle.std.specs.Prelude.{◌≡◌, ℕ, ◌==◌, ◌&&◌, Bool, true, false, not, List, [], ◌∷◌, Some}
 use Rattle.std.specs.Prelude.{codes, fold}
 use Rattle.std.specs.List.{filter, list_any}
@@ -11,12 +11,12 @@ use Rattle.clap.specs.Simple.{on_top}
 use Rattle.dmlw_cli.specs.declared.name.Name.{Name}
 use Rattle.dmlw_cli.specs.Names.{all_names, arguments, is_same, name_text}
 
--- the word doesn't begin with a hyphen
+-- The word doesn't begin with a hyphen.
 abbrev pub is_positional : List ℕ → Bool
 is_positional [] = true
 is_positional (x ∷ xs) = not (x == 45)
 
--- The command line that enters the command `name` with these words.
+-- The command line with the command `name` and its words `words`.
 abbrev pub command_words : List ℕ → Name → List (List ℕ) → List (List ℕ)
 command_words program name words = program ∷ name_text name ∷ words
 
@@ -40,11 +40,11 @@ is_formats (program ∷ first ∷ second ∷ []) =
     is_same first (codes "help") && is_same second (codes "formats")
 is_formats _ = false
 
--- A required argument of a command.
+-- A required argument with the name `name`.
 abbrev pub needed : Text → Rule
 needed name = record (new_rule name) { required = true }
 
--- A command as clap parses it: all its arguments are required.
+-- The command `name` as clap parses it: each of its arguments is required.
 abbrev pub command_app : Name → App
 command_app name =
     fold (λ app argument. with_rule app (needed argument)) (new_app (name_text name))
@@ -63,16 +63,16 @@ bare_app =
 abbrev pub program_app : App
 program_app = fold (λ app name. with_subcommand app (command_app name).top) bare_app all_names
 
--- clap parses `command` as `app`, and it has no global argument.
+-- clap parses `command` as `app` says, and `command` has no global argument.
 pub record IsCommandOf (app : App) (command : Command) : Type 0 where
   pub reads : app_of command ≡ app
   pub own : (fields_of command).has_globals ≡ false
 
--- A command that was entered: its name, and its words with their arguments.
+-- A command that a command line enters: its name, and its words, each with its argument.
 abbrev pub Entered : Type 0
 Entered = Text × List Row
 
--- clap finds no fault in `words`, and they enter the command `entered`.
+-- clap finds no fault in `words`, and `words` enter the command `entered`.
 pub record Enters (words : List Text) (entered : Entered) : Type 0 where
   pub faultless : fault_of program_app words ≡ []
   pub enters : subcommand_of program_app words ≡ Some entered

@@ -33,53 +33,54 @@ use Rattle.replay.specs.declared.upto.Upto.{Upto}
 use Rattle.dmlw_cli.specs.CommandLine.{has_explain, without_explain}
 use Rattle.dmlw_cli.specs.Tasks.{IsRead}
 
--- The exit if clap finds no task: `Refused` without memory, `Done` or `Refused` for help and the
--- version, else `Usage`.
+-- The exit if clap finds no task, given the kind of clap's error. If memory ran out, it is
+-- `Refused`. For help and the version it is `Done` or `Refused`, and for any other kind `Usage`.
 abbrev pub EndsUntasked : ErrorKind → Exit → Type 0
 EndsUntasked OutOfMemory exit = exit ≡ Refused
 EndsUntasked DisplayHelp exit = (exit ≡ Done) ⊎ (exit ≡ Refused)
 EndsUntasked DisplayVersion exit = (exit ≡ Done) ⊎ (exit ≡ Refused)
 EndsUntasked _ exit = exit ≡ Usage
 
--- The user asked for clap's text: it is help or the version.
+-- The user asked for help or the version.
 abbrev pub is_asked_for : ErrorKind → Bool
 is_asked_for DisplayHelp = true
 is_asked_for DisplayVersion = true
 is_asked_for _ = false
 
--- Printing help or the version had some result. If it failed, the output can't be written or there
--- is no memory, and the error stream got that line. Nothing is claimed about the output.
+-- How printing help or the version is reported. It may succeed. If it fails, the output can't be
+-- written or memory ran out, and the error stream gets the line of this fault. Nothing is claimed
+-- about the output.
 abbrev pub TellsPrinting : ErrStream → Ended → Type 0
 TellsPrinting t ended =
     (done : Result (Unit {0}) RunError) × IfErr done IsFileError × Tells t done ended
 
--- The exit if the words of the command line can't be read: `Usage` if a word isn't UTF-8 text, else
--- `Refused`.
+-- The exit if the words of the command line can't be read: `Usage` if a word isn't UTF-8 text,
+-- otherwise `Refused`.
 abbrev pub unread_exit : IoErrorKind → Exit
 unread_exit InvalidData = Usage
 unread_exit _ = Refused
 
--- One more file write was asked for, of some name.
+-- If the writes are known, `new` are the writes `old` and one more, of any file.
 abbrev pub AsksForOne : Option (List Write) → Option (List Write) → Type 0
 AsksForOne old new = (name : List ℕ) × AsksFor name old new
 
--- A command exits with 0 to 3 and asks for at most one file write; with 2, for none.
+-- The exit status is at most 3, and at most one file write was asked for. With status 2, none was.
 pub record EndsCommand (old new : Option (List Write)) (status : ℕ) : Type 0 where
   pub known : status ≤ 3
   pub once : (new ≡ old) ⊎ AsksForOne old new
   pub unwritten : status ≡ 2 → new ≡ old
 
--- What the error stream gets, if it can be written, from a command that only shows clap's text. If
--- memory ran out, it is that fault's line. If help or the version can't be printed, it is that
--- fault's line. For other kinds nothing is claimed.
+-- What the error stream gets from a command that only shows clap's text. If memory ran out, it gets
+-- the line of this fault. If help or the version can't be printed, it gets the line of that fault.
+-- For other kinds nothing is claimed.
 abbrev pub ReportsUntasked : ErrorKind → ErrStream → Ended → Type 0
 ReportsUntasked OutOfMemory t ended = Tells {T = Unit {0}} t (Err memory_error) ended
 ReportsUntasked DisplayHelp t ended = TellsPrinting t ended
 ReportsUntasked DisplayVersion t ended = TellsPrinting t ended
 ReportsUntasked _ t ended = Unit {0}
 
--- How a command that only shows clap's text ends. It asks for no file write, and exits as
--- `EndsUntasked` says. Unless the user asked for help or the version, nothing goes to the output.
+-- How a command ends that only shows clap's text. It asks for no file write, and exits as
+-- `EndsUntasked` says. Nothing goes to the output unless the user asked for help or the version.
 pub record EndsText (kind : ErrorKind) (writes_old writes_new : Option (List Write))
     (old new : Option (List ℕ)) (t : ErrStream) (ended : Ended) : Type 0 where
   pub unwritten : writes_new ≡ writes_old
@@ -87,21 +88,22 @@ pub record EndsText (kind : ErrorKind) (writes_old writes_new : Option (List Wri
   pub silent : is_asked_for kind ≡ false → Keeps old new
   pub tells : ReportsUntasked kind t ended
 
--- How printing a page ends: it was printed on the output; or the output can't be written or there
--- is no memory, and the error stream got that line.
+-- How printing the page `page` ends. If it succeeds, the page is on the output. If it fails, the
+-- output can't be written or memory ran out, and the error stream gets the line of this fault.
 pub record ReportsPage (page : List ℕ) (old new : Option (List ℕ)) (t : ErrStream)
     (ended : Ended) : Type 0 where
   pub done : Result (Unit {0}) RunError
   pub printed : MatchResult done (λ _. Appends old new page) IsFileError
   pub tells : Tells t done ended
 
--- How a command that prints a page ends. It asks for no file write.
+-- How a command ends that prints the page `page`. It asks for no file write, and ends as
+-- `ReportsPage` says.
 pub record EndsPage (page : List ℕ) (writes_old writes_new : Option (List Write))
     (old new : Option (List ℕ)) (t : ErrStream) (ended : Ended) : Type 0 where
   pub unwritten : writes_new ≡ writes_old
   pub told : ReportsPage page old new t ended
 
--- How a replay ends, if the word `what` names its last entry.
+-- How the command `replay` ends if the word `what` names the end of the replay.
 abbrev pub ReplaysWhat : List ℕ → Option (List ℕ) → Option (List ℕ) → Option (List ℕ) → List ℕ
     → Option (List Write) → Option (List Write) → Option (List ℕ)
     → Option (List ℕ) → ErrStream → Ended → Type 0
@@ -109,12 +111,13 @@ ReplaysWhat what log_file first_file out_file name writes_old writes_new old new
     (upto : Upto) × IsWhat what upto
     × EndsReplaying log_file first_file out_file name upto writes_old writes_new old new t ended
 
--- What a replay leaves in its output file, if the word `what` names its last entry.
+-- What `replay` leaves in its output file if the word `what` names the end of the replay.
 abbrev pub LeavesReplayed : List ℕ → Option (List ℕ) → Option (List ℕ) → Option (List ℕ) → Type 0
 LeavesReplayed what log_file first_file written =
     (upto : Upto) × IsWhat what upto × HoldsReplayed log_file first_file upto written
 
--- For a word of a wrong form: its argument, the allowed forms, and the command that prints help.
+-- What follows a word of a wrong form in its message: the argument's name, the forms that the
+-- argument may have, and the command that prints help.
 abbrev pub flaw_forms : Flaw → List ℕ
 flaw_forms flaws.What =
     codes
@@ -126,13 +129,13 @@ flaw_forms flaws.Moment =
     codes
     "'<M>'\n  [possible values: a number of 1 to 20 digits, below 2^64]\n\nFor more information, try 'dmlw help judge'."
 
--- The message about a word of a wrong form.
+-- The message about the word `word`, which has a wrong form.
 abbrev pub flaw_text : Flaw → List ℕ → List ℕ
 flaw_text flaw word =
     codes "error: invalid value '" ++ (word ++ (codes "' for " ++ (flaw_forms flaw ++ codes "\n")))
 
--- How a command line with a word of a wrong form ends: with `Usage`. If the error stream could be
--- written, it got the message. Nothing goes to the output, and no file write is asked for.
+-- How a command line with a word of a wrong form ends. It exits with `Usage`, and asks for no file
+-- write. If the error stream can be written, it gets the message. The output gets nothing.
 pub record EndsFlawed (flaw : Flaw) (word : List ℕ) (writes_old writes_new : Option (List Write))
     (old new : Option (List ℕ)) (t : ErrStream) (ended : Ended) : Type 0 where
   pub unwritten : writes_new ≡ writes_old
@@ -140,7 +143,7 @@ pub record EndsFlawed (flaw : Flaw) (word : List ℕ) (writes_old writes_new : O
   pub silent : new ≡ old
   pub told : ended.err_taken ≡ true → Appends t.before t.after (flaw_text flaw word)
 
--- How a task ends if the files hold `contents`.
+-- How a task ends if the files hold `contents` before it.
 abbrev pub EndsTask : Task → (List ℕ → Option (List ℕ)) → Option (List Write) → Option (List Write)
     → Option (List ℕ) → Option (List ℕ) → ErrStream → Ended → Type 0
 EndsTask (tasks.Record script log) contents writes_old writes_new old new t ended =
@@ -175,27 +178,31 @@ EndsTask (tasks.Show error) contents writes_old writes_new old new t ended =
 EndsTask (tasks.Flawed flaw word) contents writes_old writes_new old new t ended =
     EndsFlawed flaw word.now writes_old writes_new old new t ended
 
--- What `record` or `run` leaves in the file `log`. If it is done, `holds` says what the file holds.
--- If logging ended, `holds` says it too, unless no file changed.
+-- What `record` or `run` leaves in the file `log`. If the command is done, `holds` is true for the
+-- file's new content. If logging ended early, either no file changed, or `holds` is true for that
+-- content.
 pub record LeavesBy (holds : Exit → Option (List ℕ) → Type 0) (log : List ℕ)
     (contents later : List ℕ → Option (List ℕ)) (exit : Exit) : Type 0 where
   pub done : exit ≡ Done → holds Done (later log)
   pub ended : exit ≡ LoggingEnded → KeepsFiles contents later ⊎ holds LoggingEnded (later log)
 
--- What `record` leaves in the file `log`: the log.
+-- After `record`, the file `log` holds the log of the script in the file `script` (`HoldsLog`),
+-- with the exceptions that `LeavesBy` has.
 abbrev pub LeavesLog : List ℕ → List ℕ → (List ℕ → Option (List ℕ)) → (List ℕ → Option (List ℕ))
     → Option (List ℕ) → Option (List ℕ) → Exit → Type 0
 LeavesLog script log contents later old new exit =
     LeavesBy (λ by written. HoldsLog (contents script) by old new written) log contents later exit
 
--- What `run` leaves in the file `log`: the log.
+-- After `run`, the file `log` holds the log of the seats in the file `script` (`HoldsRun`), with
+-- the exceptions that `LeavesBy` has.
 abbrev pub LeavesRun : List ℕ → List ℕ → (List ℕ → Option (List ℕ)) → (List ℕ → Option (List ℕ))
     → Option (List ℕ) → Option (List ℕ) → Exit → Type 0
 LeavesRun script log contents later old new exit =
     LeavesBy (λ by written. HoldsRun (contents script) by old new written) log contents later exit
 
--- What a task leaves in its output file: the log after `record` or `run`; after a `replay` or a
--- `copy` that is done, the image or the new log. For other tasks nothing is claimed.
+-- What a task leaves in its output file. For `record` and `run`, that is the log, if the exit
+-- allows it. For a `replay` that is done, it is the image, and for a `copy` that is done, the new
+-- log. For other tasks and exits nothing is claimed.
 abbrev pub TaskLeaves : Task → (List ℕ → Option (List ℕ)) → (List ℕ → Option (List ℕ))
     → Option (List ℕ) → Option (List ℕ) → Exit → Type 0
 TaskLeaves (tasks.Record script log) contents later old new exit =
@@ -210,9 +217,9 @@ TaskLeaves (tasks.Copy files sectors) contents later old new exit =
 TaskLeaves task contents later old new exit = Unit {0}
 
 -- What the command line `words` does, if the files hold `contents` before it and `later` after it.
--- Its words without `--explain` are parsed as a task. The task ends as `EndsTask` says, and its
--- output file holds what `TaskLeaves` says. If `--explain` is among the words, more may follow a
--- fault's line.
+-- The words without `--explain` ask for `task`. The task ends as `EndsTask` says, and leaves in its
+-- output file what `TaskLeaves` says. If `words` have `--explain`, more text may follow the line of
+-- a fault.
 pub record DoesWords (words : List (List ℕ)) (contents later : List ℕ → Option (List ℕ))
     (writes_old writes_new : Option (List Write)) (old new : Option (List ℕ))
     (errors_old errors_new : Option (List ℕ)) (ended : Ended) : Type 0 where
@@ -222,21 +229,23 @@ pub record DoesWords (words : List (List ℕ)) (contents later : List ℕ → Op
       (err_stream (has_explain words) errors_old errors_new) ended
   pub leaves : TaskLeaves task contents later old new ended.exit
 
--- `line` reports a fault whose exit is `exit`.
+-- `line` is the line of a fault whose exit is `exit`.
 pub record IsFaultLine (exit : Exit) (line : List ℕ) : Type 0 where
   pub cause : RunError
   pub ends : exit ≡ exit_of cause
   pub is : line ≡ fault_line cause
 
--- If the error stream could be written, it got exactly one line, that of a fault with this exit.
+-- If the error stream can be written, it gets exactly one line: that of a fault with the command's
+-- exit.
 pub record ReportsOneLine (ended : Ended) (old new : Option (List ℕ)) : Type 0 where
   pub line : List ℕ
   pub is : IsFaultLine ended.exit line
   pub told : ended.err_taken ≡ true → Appends old new line
 
--- What the error stream gets from a command without `--explain`, given its exit. If it is refused,
--- it gets one line. If it is done or an image is ruled out, it gets nothing. If logging ended, it
--- gets nothing or one line. For `Usage` nothing is claimed.
+-- What the error stream gets from a command without `--explain`, given the command's exit. If the
+-- command is refused, the stream gets one line. If it is done, or rules an image out, the stream
+-- gets nothing. If logging ended early, it gets one line or nothing. For `Usage` nothing is
+-- claimed.
 abbrev pub ReportsBy : Exit → Ended → Option (List ℕ) → Option (List ℕ) → Type 0
 ReportsBy Done ended old new = new ≡ old
 ReportsBy Refused ended old new = ReportsOneLine ended old new

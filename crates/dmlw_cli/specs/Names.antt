@@ -11,7 +11,7 @@ use Rattle.dmlw_cli.specs.declared.name.Name.TheVariants as names
 abbrev pub is_same : List ℕ → List ℕ → Bool
 is_same = pointwise nat_eq
 
--- The word that enters a command.
+-- The word that names a command on the command line.
 abbrev pub name_text : Name → List ℕ
 name_text names.Record = codes "record"
 name_text names.Run = codes "run"
@@ -22,7 +22,7 @@ name_text names.Copy = codes "copy"
 name_text names.Judge = codes "judge"
 name_text names.Path = codes "path"
 
--- `name` if `word` is its name, else `other`.
+-- `name` if `word` is that command's name, otherwise `other`.
 abbrev pub named_or : Name → List ℕ → Option Name → Option Name
 named_or name word other = if is_same word (name_text name) then Some name else other
 
@@ -34,12 +34,12 @@ name_of word =
     (named_or names.List word (named_or names.Status word (named_or names.Replay word
     (named_or names.Copy word (named_or names.Judge word (named_or names.Path word None)))))))
 
--- the commands, in the order of the help
+-- All commands, in the order in which the help lists them.
 abbrev pub all_names : List Name
 all_names = names.Record ∷ names.Run ∷ names.List ∷ names.Status ∷ names.Replay ∷ names.Copy
     ∷ names.Judge ∷ names.Path ∷ []
 
--- the arguments of a command, in their order
+-- The arguments of a command, in their order.
 abbrev pub arguments : Name → List Text
 arguments names.Record = codes "SCRIPT" ∷ codes "LOG" ∷ []
 arguments names.Run = codes "SCRIPT" ∷ codes "LOG" ∷ []

@@ -1,5 +1,5 @@
--- Which task the words of a command line ask for, and why some ask for none. The contracts in
--- `command_line` and `asking` cite it.
+-- For which task the words of a command line ask, and why some words ask for none. The contracts in
+-- `command_line` and `asking` use these definitions.
 use Rattle.std.specs.Prelude.{◌≡◌, ℕ, Bool, List, [], Option, Some, false, true}
 use Rattle.clap.specs.Words.{IsAmong, Row, Text, fault_of, first_of, kind_of, subcommand_of}
 use Rattle.std.specs.Prelude.{codes}
@@ -21,8 +21,9 @@ use Rattle.refusals.specs.Words.{IsNumber, is_number}
 abbrev pub IsWord : List Row → Text → Text → Type 0
 IsWord rows argument word = first_of argument rows ≡ Some word
 
--- The command `name` with the words of `rows` asks for this task. If WHAT, SECTORS or M has a wrong
--- form, the task reports that. `Show` is the task if there was no memory to parse the command line.
+-- The command `name` with the words in `rows` asks for this task. If the word for WHAT, SECTORS or
+-- M has a wrong form, the task reports this. `Show` is the task if memory ran out while the words
+-- were parsed.
 abbrev pub AsksBy : Name → List Row → Task → Type 0
 AsksBy names.Record rows (tasks.Record script log) =
     IsWord rows (codes "SCRIPT") script.now × IsWord rows (codes "LOG") log.now
@@ -54,27 +55,27 @@ AsksBy names.Path rows (tasks.Flawed flaws.Moment m) =
 AsksBy name rows (tasks.Show error) = kind_of error ≡ OutOfMemory
 AsksBy name rows task = ⊥
 
--- The entered command is one of the program's, and asks for `task`.
+-- The command `entered` is one of the program's, and asks for `task`.
 abbrev pub Asks : Entered → Task → Type 0
 Asks entered task = (name : Name) × (entered.0 ≡ name_text name) × AsksBy name entered.1 task
 
--- A command was entered, and it asks for `task`.
+-- `found` is an entered command, and this command asks for `task`.
 abbrev pub IsAskedBy : Option Entered → Task → Type 0
 IsAskedBy found task = (entered : Entered) × (found ≡ Some entered) × Asks entered task
 
--- The entered command is one of the program's, and each of its arguments has a word.
+-- The command `entered` is one of the program's, and each of its arguments has a word.
 abbrev pub IsComplete : Entered → Type 0
 IsComplete entered = (name : Name) × (entered.0 ≡ name_text name) × HasWords name entered.1
 
--- clap finds no fault in `words`, and they ask for `task`.
+-- clap finds no fault in `words`, and `words` ask for `task`.
 abbrev pub IsAsked : List Text → Task → Type 0
 IsAsked words task =
     (fault_of program_app words ≡ []) × IsAskedBy (subcommand_of program_app words) task
 
--- Why `words` have no task, and the kind of clap's error.
--- - `memory`: there is no memory to parse them.
+-- Why `words` ask for no task, and the kind of clap's error.
+-- - `memory`: memory ran out while `words` were parsed.
 -- - `fault`: clap finds a fault of this kind.
--- - `missing`: clap finds no fault, but they don't enter a command with all its words.
+-- - `missing`: clap finds no fault, but `words` enter no command with all its words.
 pub data IsUntasked (words : List Text) (kind : ErrorKind) : Type 0 where
   memory : kind ≡ OutOfMemory → IsUntasked words kind
   fault : IsAmong kind (fault_of program_app words) → IsUntasked words kind
@@ -82,23 +83,25 @@ pub data IsUntasked (words : List Text) (kind : ErrorKind) : Type 0 where
       → ((entered : Entered) → Enters words entered → IsComplete entered → ⊥)
       → kind ≡ MissingRequiredArgument → IsUntasked words kind
 
--- The task that clap makes of `words`: the one that they ask for, or `Show` if they have none.
+-- The task of `words` if clap parses them: the task that `words` ask for, or `Show` if they ask for
+-- none.
 abbrev pub IsReadByClap : List Text → Task → Type 0
 IsReadByClap words (tasks.Show error) = IsUntasked words (kind_of error)
 IsReadByClap words task = IsAsked words task
 
--- The task is to print the page of the formats. It is `Show` if there was no memory to parse the
--- command line.
+-- The task is to print the page of the formats, or `Show` if memory ran out while the command line
+-- was parsed.
 abbrev pub IsFormats : Task → Type 0
 IsFormats (tasks.Formats page) = Unit {0}
 IsFormats (tasks.Show error) = kind_of error ≡ OutOfMemory
 IsFormats task = ⊥
 
--- The task of `words`, given whether they are `help formats`.
+-- The task of `words`, if the first argument says whether `words` are `help formats`.
 abbrev pub IsReadAs : Bool → List Text → Task → Type 0
 IsReadAs true words task = IsFormats task
 IsReadAs false words task = IsReadByClap words task
 
--- The task of `words`: `help formats` asks for the page of the formats; clap parses other words.
+-- The task of `words`. `help formats` asks for the page of the formats; clap parses all other
+-- words.
 abbrev pub IsRead : List Text → Task → Type 0
 IsRead words task = IsReadAs (is_formats words) words task

@@ -1,4 +1,4 @@
-//! Makes the task of each command from the words that were entered for it.
+//! Makes the task of each command from the words that were entered for its arguments.
 ghost use Rattle.std.specs.Prelude.{◌≡◌, IfSome, is_some, option_map, true};
 ghost use Rattle.clap.specs.Words.{first_of, found_of, rows_of};
 ghost use Rattle.dmlw_cli.specs.Names.{HasWords};
@@ -12,7 +12,7 @@ use dmlw_commands::explain::{CopyNames, ReplayNames};
 use dmlw_commands::replay_log::upto_of;
 use refusals::number_of;
 
-/// Makes the task of `record` from the words that were entered.
+/// Makes the task of `record` from the words that were entered. Returns None if one is missing.
 pub fn record_task<'a>(found: &ArgMatches<'a>) -> Option<Task<'a>>
     ensures asks { IfSome result (AsksBy names.Record (rows_of (found_of found.now))) }
     ensures complete { HasWords names.Record (rows_of (found_of found.now))
@@ -23,7 +23,7 @@ pub fn record_task<'a>(found: &ArgMatches<'a>) -> Option<Task<'a>>
     Some(Task::Record { script, log })
 }
 
-/// Makes the task of `run`.
+/// Makes the task of `run`; None if a word is missing.
 pub fn run_task<'a>(found: &ArgMatches<'a>) -> Option<Task<'a>>
     ensures asks { IfSome result (AsksBy names.Run (rows_of (found_of found.now))) }
     ensures complete { HasWords names.Run (rows_of (found_of found.now)) → is_some result ≡ true }
@@ -33,7 +33,7 @@ pub fn run_task<'a>(found: &ArgMatches<'a>) -> Option<Task<'a>>
     Some(Task::Run { script, log })
 }
 
-/// Makes the task of `list`.
+/// Makes the task of `list`; None if a word is missing.
 pub fn list_task<'a>(found: &ArgMatches<'a>) -> Option<Task<'a>>
     ensures asks { IfSome result (AsksBy names.List (rows_of (found_of found.now))) }
     ensures complete { HasWords names.List (rows_of (found_of found.now)) → is_some result ≡ true }
@@ -42,7 +42,7 @@ pub fn list_task<'a>(found: &ArgMatches<'a>) -> Option<Task<'a>>
     Some(Task::List { log })
 }
 
-/// Makes the task of `status`.
+/// Makes the task of `status`; None if a word is missing.
 pub fn status_task<'a>(found: &ArgMatches<'a>) -> Option<Task<'a>>
     ensures asks { IfSome result (AsksBy names.Status (rows_of (found_of found.now))) }
     ensures complete { HasWords names.Status (rows_of (found_of found.now))
@@ -52,7 +52,8 @@ pub fn status_task<'a>(found: &ArgMatches<'a>) -> Option<Task<'a>>
     Some(Task::Status { log })
 }
 
-/// Makes the task of `replay`. If WHAT names no end of a replay, the task reports that.
+/// Makes the task of `replay`; None if a word is missing. If WHAT names no end of a replay, the
+/// task reports this.
 pub fn replay_task<'a>(found: &ArgMatches<'a>) -> Option<Task<'a>>
     ensures asks { IfSome result (AsksBy names.Replay (rows_of (found_of found.now))) }
     ensures complete { HasWords names.Replay (rows_of (found_of found.now))
@@ -71,7 +72,8 @@ pub fn replay_task<'a>(found: &ArgMatches<'a>) -> Option<Task<'a>>
     }
 }
 
-/// Makes the task of `copy`. If SECTORS isn't a number of sectors, the task reports that.
+/// Makes the task of `copy`; None if a word is missing. If SECTORS isn't a number from 8 to
+/// 1,048,576, the task reports this.
 pub fn copy_task<'a>(found: &ArgMatches<'a>) -> Option<Task<'a>>
     ensures asks { IfSome result (AsksBy names.Copy (rows_of (found_of found.now))) }
     ensures complete { HasWords names.Copy (rows_of (found_of found.now)) → is_some result ≡ true }
@@ -88,7 +90,8 @@ pub fn copy_task<'a>(found: &ArgMatches<'a>) -> Option<Task<'a>>
     }
 }
 
-/// Makes the task of `judge`. If M isn't a number, the task reports that.
+/// Makes the task of `judge`; None if a word is missing. If M isn't a number, the task reports
+/// this.
 pub fn judge_task<'a>(found: &ArgMatches<'a>) -> Option<Task<'a>>
     ensures asks { IfSome result (AsksBy names.Judge (rows_of (found_of found.now))) }
     ensures complete { HasWords names.Judge (rows_of (found_of found.now)) → is_some result ≡ true }
@@ -106,7 +109,7 @@ pub fn judge_task<'a>(found: &ArgMatches<'a>) -> Option<Task<'a>>
     }
 }
 
-/// Makes the task of `path`. If M isn't a number, the task reports that.
+/// Makes the task of `path`; None if a word is missing. If M isn't a number, the task reports this.
 pub fn path_task<'a>(found: &ArgMatches<'a>) -> Option<Task<'a>>
     ensures asks { IfSome result (AsksBy names.Path (rows_of (found_of found.now))) }
     ensures complete { HasWords names.Path (rows_of (found_of found.now)) → is_some result ≡ true }
@@ -124,7 +127,7 @@ pub fn path_task<'a>(found: &ArgMatches<'a>) -> Option<Task<'a>>
     }
 }
 
-// Returns the word that was entered for an argument.
+// Returns the word that was entered for an argument, if one was.
 fn word_of<'a>(found: &ArgMatches<'a>, argument: &str) -> Option<&'a str>
     ensures { option_map (λ word. word.now) result
         ≡ first_of argument.now (rows_of (found_of found.now)) }

@@ -21,7 +21,8 @@ use clap::{ArgMatches, Error};
 use std::alloc::{AllocError, Global};
 use std::convert::AsStr;
 
-// Finds the task in a parsed command line.
+// Returns the task of a parsed command line. Returns None if it enters no command, or a word is
+// missing.
 fn task_of<'a>(matches: &ArgMatches<'a>) -> Option<Task<'a>>
     ensures asks { IfSome result (IsAskedBy (subcommand_rows_of matches.now)) }
     ensures complete { (entered : Entered) → subcommand_rows_of matches.now ≡ Some entered →
@@ -32,7 +33,7 @@ fn task_of<'a>(matches: &ArgMatches<'a>) -> Option<Task<'a>>
     task_by(name, found)
 }
 
-// Returns the name of the command that was entered, and its parsed words.
+// Returns the name of the entered command, and the words that were entered for it.
 fn entered<'m, 'a>(matches: &'m ArgMatches<'a>) -> Option<(&'a str, &'m ArgMatches<'a>)>
     ensures some { IfSome result
         (λ found. subcommand_rows_of matches.now
@@ -42,7 +43,7 @@ fn entered<'m, 'a>(matches: &'m ArgMatches<'a>) -> Option<(&'a str, &'m ArgMatch
     matches.subcommand()
 }
 
-// Makes the task of a command from the words that were entered.
+// Makes the task of the command `name` from the words that were entered for it.
 fn task_by<'a>(name: Name, found: &ArgMatches<'a>) -> Option<Task<'a>>
     ensures asks { IfSome result (AsksBy name (rows_of (found_of found.now))) }
     ensures complete { HasWords name (rows_of (found_of found.now)) → is_some result ≡ true }
@@ -59,7 +60,7 @@ fn task_by<'a>(name: Name, found: &ArgMatches<'a>) -> Option<Task<'a>>
     }
 }
 
-// Parses the command line.
+// Parses the command line with `clap`.
 fn parse<'a, S: AsStr>(alloc: Global, words: &'a [S]) -> Result<ArgMatches<'a>, Error>
     ensures entered { IfOk result (λ matches.
         subcommand_rows_of matches ≡ subcommand_of program_app (map S.text words.entry.now)) }
@@ -68,7 +69,7 @@ fn parse<'a, S: AsStr>(alloc: Global, words: &'a [S]) -> Result<ArgMatches<'a>, 
     program_command(alloc)?.try_get_matches_from(words)
 }
 
-// Returns the error for a command line that lacks a word though clap found no fault in it.
+// Returns the error for a command line in which clap found no fault, but which lacks a word.
 fn incomplete(alloc: Global) -> Error
     ensures { (kind_of result ≡ ErrorKind.OutOfMemory)
         ⊎ (kind_of result ≡ ErrorKind.MissingRequiredArgument) }
@@ -85,14 +86,14 @@ fn missing_word(alloc: Global) -> Result<Error, AllocError>
     program_command(alloc)?.error(ErrorKind::MissingRequiredArgument, "a word is missing")
 }
 
-// Whether a word is `--explain`.
+// Returns whether a word is `--explain`.
 fn is_explain(word: &str) -> bool
     ensures { result ≡ is_explain word.now }
 {
     word == "--explain"
 }
 
-/// Whether a command line has the word `--explain`, in any place after the program's name.
+/// Returns whether `--explain` is among the words after the program's name.
 pub fn has_explain<S: AsStr>(words: &[S]) -> bool
     ensures { result ≡ has_explain (map S.text words.now) }
 {
@@ -102,14 +103,14 @@ pub fn has_explain<S: AsStr>(words: &[S]) -> bool
     }
 }
 
-// Whether one of the words after the program's name is `--explain`.
+// Returns whether one of these words is `--explain`. They don't begin with the program's name.
 fn are_explaining<S: AsStr>(words: &[S]) -> bool
     ensures { result ≡ list_any (λ word. is_explain (S.text word)) words.now }
 {
     words.iter().any(|word| is_explain(word.as_str()))
 }
 
-/// Returns a command line without the words `--explain`.
+/// Returns the command line without the words `--explain`. The program's name stays in it.
 pub fn without_explain<'a, S: AsStr>(
     alloc: Global,
     words: &'a [S],
@@ -125,7 +126,7 @@ pub fn without_explain<'a, S: AsStr>(
     Ok(plain)
 }
 
-// Appends the words after the program's name, except `--explain`.
+// Appends these words except `--explain`. They don't begin with the program's name.
 fn push_plain<'a, S: AsStr>(words: &'a [S], plain: &mut Vec<&'a str>) -> Result<(), AllocError>
     ensures { OnOk result (map (λ word. word.now) plain.new.items ≡
         map (λ word. word.now) plain.old.items
@@ -140,7 +141,7 @@ fn push_plain<'a, S: AsStr>(words: &'a [S], plain: &mut Vec<&'a str>) -> Result<
     Ok(())
 }
 
-// Whether a command line is `help formats`.
+// Returns whether a command line is `help formats`.
 fn is_formats(words: &[&str]) -> bool
     ensures { result ≡ is_formats (map (λ word. word.now) words.now) }
 {
@@ -150,9 +151,9 @@ fn is_formats(words: &[&str]) -> bool
     }
 }
 
-/// Parses a command line without `--explain`; its first word is the program's name. `help formats`
-/// asks for the page of the formats, and `clap` parses all other words. A file's name isn't
-/// changed. It can't begin with a hyphen.
+/// Parses a command line without `--explain`, and returns its task. The first word is the program's
+/// name. `help formats` asks for the page of the formats; `clap` parses all other words. The name
+/// of a file is used as it is, and can't begin with a hyphen.
 pub fn read_words<'a>(alloc: Global, words: &'a [&'a str]) -> Task<'a>
     ensures { IsRead (map (λ word. word.now) words.entry.now) result }
 {
@@ -162,14 +163,14 @@ pub fn read_words<'a>(alloc: Global, words: &'a [&'a str]) -> Task<'a>
     read_commands(alloc, words)
 }
 
-/// Returns the task of a command line that couldn't be parsed for lack of memory.
+/// Returns the task of a command line that can't be parsed because memory ran out.
 pub fn unread<'a>(error: AllocError) -> Task<'a>
     ensures { (words : List (List ℕ)) → IsRead words result }
 {
     Task::Show(Error::from(error))
 }
 
-// Parses a command line with `clap`.
+// Parses a command line with `clap`, and returns its task.
 fn read_commands<'a, S: AsStr>(alloc: Global, words: &'a [S]) -> Task<'a>
     ensures { IsReadByClap (map S.text words.entry.now) result }
 {

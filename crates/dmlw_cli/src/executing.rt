@@ -1,4 +1,4 @@
-//! Executes a command line: the program calls only `execute`.
+//! Runs a command line. The program calls only `execute` and, if its words can't be read, `refuse`.
 ghost use Rattle.std.specs.Prelude.{◌≡◌, ◌⊎◌, Bool, IfErr, MatchResult, OnOk, false, map, true};
 ghost use Rattle.std.specs.Io.KnownBytes.{Appends, Keeps};
 ghost use Rattle.std.specs.IoError.{error_kind};
@@ -34,18 +34,17 @@ use std::io::Write;
 use std::sync::Wait;
 use std::thread::Threads;
 
-/// Executes a command line, and returns how it ended. The first of `words` is the program's name.
+/// Runs a command line, and returns how it ended. The first of `words` is the program's name.
 ///
-/// The exit status is 0 if the command is done, and 1 if it is refused or an image is ruled out. It
-/// is 2 if the command line isn't one of the program's, and 3 if logging ended early. Results go to
-/// the session's `out`, and faults to its `err`. If `--explain` is among the words, advice may
-/// follow a fault. If `out` can't be written, the command is refused, as for a file that can't be
-/// written.
+/// The exit status is 0 if the command is done, and 1 if it is refused or rules an image out. It is
+/// 2 if the command line isn't one of the program's, and 3 if logging ended early. Results go to
+/// the session's `out`, and faults to its `err`. If `words` have `--explain`, advice may follow a
+/// fault. If `out` can't be written, the command is refused, as it is if a file can't be written.
 ///
-/// `rt` starts threads and waits for them; only the command `run` needs it.
+/// `rt` starts threads and waits for them. Only the command `run` uses it.
 ///
-/// The contract holds for all words: `execute` does what they are parsed as, and no more.
-/// `crate::laws` says which words are parsed as which command.
+/// The contract holds for all words: `execute` does what the task of `words` says, and nothing
+/// else. `crate::laws` says which words ask for which command.
 pub fn execute<'a, S: AsStr, F: Files, O: Write, E: Write, H: Threads + Wait + Sync>(
     rt: &H,
     words: &'a [S],
@@ -58,16 +57,16 @@ pub fn execute<'a, S: AsStr, F: Files, O: Write, E: Write, H: Threads + Wait + S
     ensures command { EndsCommand (F.writes session.old.files) (F.writes session.new.files)
         (status_of result.exit) }
 
-    // If the command is refused, no file changes. If logging ended, no file changes, or one file
-    // write was asked for.
+    // If the command is refused, no file changes. If logging ended early, either no file changes,
+    // or one file write was asked for.
     ensures kept { IsRefusal result.exit
         → KeepsFiles (F.contents session.old.files) (F.contents session.new.files) }
     ensures unmade { result.exit ≡ LoggingEnded
         → KeepsFiles (F.contents session.old.files) (F.contents session.new.files)
         ⊎ AsksForOne (F.writes session.old.files) (F.writes session.new.files) }
 
-    // Without `--explain`, `err` gets nothing if the command is done, and one line if it is refused
-    // and `err` can be written.
+    // Without `--explain`, `err` gets nothing if the command is done. If the command is refused and
+    // `err` can be written, `err` gets one line.
     ensures told { has_explain (map S.text words.entry.now) ≡ false
         → ReportsBy result.exit result (E.contents session.old.err) (E.contents session.new.err) }
 {
@@ -131,8 +130,8 @@ fn perform<F: Files, O: Write, E: Write, H: Threads + Wait + Sync>(
     }
 }
 
-/// Prints why a command line can't be read, and returns the
-/// exit status: 2 if a word isn't UTF-8 text, else 1.
+/// Prints why the words of a command line can't be read. Returns the exit status: 2 if a word isn't
+/// UTF-8 text, otherwise 1.
 pub fn refuse<E: Write>(alloc: Global, error: io::Error, err: &mut E) -> u8
     ensures { result ≡ status_of (unread_exit (error_kind error)) }
 {
@@ -146,7 +145,7 @@ pub fn refuse<E: Write>(alloc: Global, error: io::Error, err: &mut E) -> u8
     exit.status()
 }
 
-// Prints a page.
+// Prints a page, and reports a fault if it can't be printed.
 fn print_page<O: Write, E: Write>(alloc: Global, page: &str, out: &mut O, err: &mut E) -> Ended
     ensures { (explains : Bool) → ReportsPage page.now (O.contents out.old) (O.contents out.new)
         (err_stream explains (E.contents err.old) (E.contents err.new)) result }
@@ -164,7 +163,7 @@ fn write_page<O: Write>(page: &str, out: &mut O) -> Result<(), RunError>
     Ok(())
 }
 
-// Reports that a word has a wrong form for its argument.
+// Prints the message about a word that has a wrong form for its argument.
 fn tell_flaw<E: Write>(flaw: Flaw, word: &str, err: &mut E) -> Ended
     ensures usage { result.exit ≡ Usage }
     ensures told { result.err_taken ≡ true

@@ -1,7 +1,6 @@
 // The page of the formats, which has the text of docs/FORMATS.md.
 
-/// The page that `dmlw help formats` prints: what is read
-/// and printed. docs/FORMATS.md has the same text.
+/// The page that `dmlw help formats` prints. docs/FORMATS.md has the same text.
 pub const FORMATS: &str = r#"# Formats
 
 What dmlw reads and prints. Every line ends with a line feed. The log's own bytes are those of the kernel's dm-log-writes, version 1

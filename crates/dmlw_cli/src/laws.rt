@@ -1,4 +1,4 @@
-//! Laws of command lines: each is a function that does nothing, and its contract is the law.
+//! Laws of command lines. Each law is a function that does nothing; its contract states the law.
 ghost use Rattle.std.specs.Prelude.{◌≡◌, ◌∷◌, [], List, Option, Some, false, true, ℕ};
 ghost use Rattle.dmlw_cli.specs.CommandLine.{command_words, is_positional};
 ghost use Rattle.dmlw_cli.specs.Commands.{DoesWords, LeavesLog, LeavesReplayed, LeavesRun};
@@ -20,7 +20,7 @@ ghost use Rattle.dmlw_commands.specs.Whats.{IsWhat};
 ghost use Rattle.replay.specs.declared.upto.Upto.{Upto};
 ghost use Rattle.refusals.specs.Words.{IsNumber};
 
-/// A word names a command exactly if it is the command's name.
+/// A word names a command if and only if it is the command's name.
 #[tactic(auto, using(crate::proofs::CommandNames::named, crate::proofs::CommandNames::named_again))]
 pub fn names_are_distinct()
     ensures named { (word : List ℕ) (name : Name) → name_of word ≡ Some name
@@ -28,8 +28,8 @@ pub fn names_are_distinct()
     ensures again { (name : Name) → name_of (name_text name) ≡ Some name }
 {}
 
-/// If SCRIPT and LOG don't begin with a hyphen, they are names of files. `record SCRIPT LOG`
-/// records the script in the file SCRIPT, and asks for its log to be written to the file LOG.
+/// If SCRIPT and LOG don't begin with a hyphen, they are file names. `record SCRIPT LOG` records
+/// the script in the file SCRIPT, and asks for the log to be written to the file LOG.
 pub fn plain_words_record()
     ensures ends { (contents later : List ℕ → Option (List ℕ)) (before after : Option (List Write))
         (old new errors_old errors_new : Option (List ℕ)) (ended : Ended)
@@ -38,7 +38,7 @@ pub fn plain_words_record()
         (script ∷ log ∷ [])) contents later before after old new errors_old errors_new ended →
         EndsRecording (contents script) log before after old new
         (err_stream false errors_old errors_new) ended }
-    // If the command is done, the file LOG holds the log.
+    // What the file LOG then holds: the log, if the command is done.
     ensures leaves { (contents later : List ℕ → Option (List ℕ))
         (before after : Option (List Write)) (old new errors_old errors_new : Option (List ℕ))
         (ended : Ended)
@@ -48,8 +48,8 @@ pub fn plain_words_record()
         LeavesLog script log contents later old new ended.exit }
 {}
 
-/// If SCRIPT and LOG don't begin with a hyphen, they are names of files. `run SCRIPT LOG` runs the
-/// seats of the script in the file SCRIPT, and asks for their log to be written to the file LOG.
+/// If SCRIPT and LOG don't begin with a hyphen, they are file names. `run SCRIPT LOG` runs the
+/// seats of the script in the file SCRIPT, and asks for the log to be written to the file LOG.
 pub fn plain_words_run()
     ensures ends { (contents later : List ℕ → Option (List ℕ)) (before after : Option (List Write))
         (old new errors_old errors_new : Option (List ℕ)) (ended : Ended)
@@ -58,7 +58,7 @@ pub fn plain_words_run()
         (script ∷ log ∷ [])) contents later before after old new errors_old errors_new ended →
         EndsRunning (contents script) log before after old new
         (err_stream false errors_old errors_new) ended }
-    // If the command is done, the file LOG holds the log.
+    // What the file LOG then holds: the log, if the command is done.
     ensures leaves { (contents later : List ℕ → Option (List ℕ))
         (before after : Option (List Write)) (old new errors_old errors_new : Option (List ℕ))
         (ended : Ended)
@@ -90,9 +90,9 @@ pub fn plain_words_status()
         (err_stream false errors_old errors_new) ended }
 {}
 
-/// LOG, FIRST and OUT may be any names that don't begin with a hyphen, and WHAT any end of a
-/// replay. Then `replay LOG FIRST OUT WHAT` replays the log in the file LOG up to there, on the
-/// image in the file FIRST. It asks for the resulting image to be written to the file OUT.
+/// LOG, FIRST and OUT are any file names that don't begin with a hyphen, and WHAT names the end of
+/// a replay. Then `replay LOG FIRST OUT WHAT` replays the log in the file LOG up to this end, onto
+/// the image in the file FIRST. It asks for the resulting image to be written to the file OUT.
 pub fn plain_words_replay()
     ensures ends { (contents later : List ℕ → Option (List ℕ)) (before after : Option (List Write))
         (old new errors_old errors_new : Option (List ℕ)) (ended : Ended)
@@ -115,10 +115,10 @@ pub fn plain_words_replay()
         ended.exit ≡ Done → LeavesReplayed what (contents log) (contents first) (later out) }
 {}
 
-/// LOG and OUT may be any names that don't begin with a hyphen, and SECTORS a number from 8 to
-/// 1,048,576. Then `copy LOG OUT SECTORS` copies the log in the file LOG to a new one with sectors
-/// of 4,096 bytes, on a disk of SECTORS sectors. It asks for the new log to be written to the file
-/// OUT.
+/// LOG and OUT are any file names that don't begin with a hyphen, and SECTORS is a number from 8 to
+/// 1,048,576. Then `copy LOG OUT SECTORS` copies the log in the file LOG to a new log with sectors
+/// of 4,096 bytes. The new log's disk has SECTORS sectors. The command asks for the new log to be
+/// written to the file OUT.
 pub fn plain_words_copy()
     ensures ends { (contents later : List ℕ → Option (List ℕ)) (before after : Option (List Write))
         (old new errors_old errors_new : Option (List ℕ)) (ended : Ended)
@@ -139,9 +139,9 @@ pub fn plain_words_copy()
         ended.exit ≡ Done → HoldsCopied (contents log) sectors (later out) }
 {}
 
-/// SCRIPT and IMAGE may be any names that don't begin with a hyphen, and M any number. Then `judge
-/// SCRIPT M IMAGE` judges the image in the file IMAGE after the first M events of the script in the
-/// file SCRIPT.
+/// SCRIPT and IMAGE are any file names that don't begin with a hyphen, and M is any number. Then
+/// `judge SCRIPT M IMAGE` judges the image in the file IMAGE after the first M events of the script
+/// in the file SCRIPT.
 pub fn plain_words_judge()
     ensures { (contents later : List ℕ → Option (List ℕ)) (before after : Option (List Write))
         (old new errors_old errors_new : Option (List ℕ)) (ended : Ended)
@@ -157,9 +157,9 @@ pub fn plain_words_judge()
         (err_stream false errors_old errors_new) ended }
 {}
 
-/// SCRIPT and IMAGE may be any names that don't begin with a hyphen, and M any number. Then `path
-/// SCRIPT M IMAGE` prints how the image in the file IMAGE could have come to the disk of the script
-/// in the file SCRIPT, after its first M events.
+/// SCRIPT and IMAGE are any file names that don't begin with a hyphen, and M is any number. Then
+/// `path SCRIPT M IMAGE` prints a run of the script's disk that leaves the image in the file IMAGE.
+/// The run ends after the first M events of the script in the file SCRIPT.
 pub fn plain_words_path()
     ensures { (contents later : List ℕ → Option (List ℕ)) (before after : Option (List Write))
         (old new errors_old errors_new : Option (List ℕ)) (ended : Ended)

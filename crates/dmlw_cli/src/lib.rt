@@ -1,8 +1,9 @@
-//! Executes command lines of dmlw, with files and writers of any kind.
+//! Runs command lines of dmlw, with files and writers of any kind.
 //!
-//! `execute` executes one command line. Its contract says, for each command, what is printed and
-//! which file it asks to be written (`specs/Commands`). The commands are in `dmlw_commands`.
-//! `command_line` parses the words, and `laws` says how words without a hyphen in front are parsed.
+//! `execute` runs one command line. Its contract says, for each command, what is printed and which
+//! file write is asked for (`specs/Commands`). The commands are in `dmlw_commands`. `command_line`
+//! parses the words. `laws` says how command lines are parsed whose file names don't begin with a
+//! hyphen.
 #![tactic(auto)]
 
 pub use executing::{execute, refuse};

@@ -1,4 +1,4 @@
-//! The program's command line, as `clap` parses it: its commands, their words and their help.
+//! The program's command line for `clap`: its commands, their arguments and their help.
 ghost use Rattle.std.specs.Prelude.{◌≡◌, IfOk, codes, false};
 ghost use Rattle.clap.specs.Words.{App, app_of, new_app, rule_of, with_rule, with_subcommand};
 ghost use Rattle.dmlw_cli.specs.CommandLine.{IsCommandOf, bare_app, command_app, needed};
@@ -8,8 +8,7 @@ ghost use Rattle.dmlw_cli.specs.declared.name.Name.TheVariants as names;
 use clap::{Arg, Command};
 use std::alloc::{AllocError, Global};
 
-// The text of `help`. It lists the commands of `program_command`, and `help formats`, which isn't
-// one of them.
+// The text of `help`. It lists the commands of `program_command`, and also `help formats`.
 const HELP: &str = "\
 Records block requests in a log, and reads logs back
 
@@ -36,7 +35,7 @@ Options:
 Exit status: 0 done, 1 refused or ruled out, 2 usage, 3 logging ended before its time.
 A status such as 3 4 says: 3 entries, of which the last uses sector 4.";
 
-// The help on events, for `judge` and `path`.
+// The help of `judge` and `path` on events.
 const EVENTS: &str = "\
 An event is a line of the script that submits a request (w, f, d) or ends one (c), a mark, or the
 close; so is the end of logging, if that comes first. Events count from 0. Other lines aren't events.
@@ -52,7 +51,7 @@ close; so is the end of logging, if that comes first. Events count from 0. Other
 M is 0 to 5 here. At 3 the flush hasn't ended: sector 5 may hold zeroes, or the bytes of a. At 4 it
 has, and made a durable: event 0 rules zeroes out. With --explain its line of the script is printed.";
 
-/// Returns the program's command line for `clap`.
+/// Returns the program's commands for `clap`.
 pub fn program_command<'a>(alloc: Global) -> Result<Command<'a>, AllocError>
     ensures { IfOk result (λ command. app_of command ≡ program_app) }
 {
@@ -72,7 +71,7 @@ pub fn program_command<'a>(alloc: Global) -> Result<Command<'a>, AllocError>
     with_command(program, path_command(alloc))
 }
 
-// Makes the program's command without its subcommands.
+// Returns the program for `clap`, without its commands.
 fn bare_command<'a>(alloc: Global) -> Command<'a>
     ensures { app_of result ≡ bare_app }
 {
@@ -83,7 +82,7 @@ fn bare_command<'a>(alloc: Global) -> Command<'a>
         .arg_required_else_help(true)
 }
 
-// Adds a subcommand to the program's command.
+// Adds a command to the program.
 fn with_command<'a>(
     program: Command<'a>,
     made: Result<Command<'a>, AllocError>,
@@ -94,7 +93,7 @@ fn with_command<'a>(
     program.subcommand(made?)
 }
 
-// Makes a required argument of a command.
+// Returns a required argument of a command.
 fn argument<'a>(alloc: Global, name: &'a str, help: &'a str) -> Arg<'a>
     ensures rule { rule_of result ≡ needed name.entry.now }
     ensures own { result.global ≡ false }
@@ -120,7 +119,7 @@ fn run_command<'a>(alloc: Global) -> Result<Command<'a>, AllocError>
         .arg(argument(alloc, "LOG", "The log to write"))
 }
 
-// Makes a command that reads a log.
+// Returns a command with the argument LOG.
 fn log_command<'a>(alloc: Global, name: &'a str, about: &'a str) -> Result<Command<'a>, AllocError>
     ensures { IfOk result (IsCommandOf
         (with_rule (new_app name.entry.now) (needed (codes "LOG")))) }

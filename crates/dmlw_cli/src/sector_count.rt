@@ -1,12 +1,12 @@
-//! The sector count of a copied log's disk, as a word of a command line.
+//! The sector count of a copied log's disk, which is a word of the command line.
 ghost use Rattle.std.specs.Prelude.{◌≡◌, ◌≤◌, IfSome, None, ℕ};
 ghost use Rattle.dmlw_cli.specs.Counts.{IsSectorCount};
 
 use refusals::number_of;
 use std::marker::Model;
 
-/// The number of sectors of 512 bytes on a copied log's disk: from 8, which is one log sector, to
-/// 1,048,576. Its value in contracts is this number.
+/// How many sectors of 512 bytes a copied log's disk has: from 8, which is one log sector, to
+/// 1,048,576. In contracts, its value is this number.
 #[derive(Debug, Drop)]
 pub struct SectorCount {
     sectors: u64,

@@ -1,4 +1,4 @@
-//! The tasks that a command line asks for.
+//! The tasks for which a command line can ask.
 ghost use Rattle.std.specs.Prelude.{◌≡◌};
 ghost use Rattle.dmlw_cli.specs.Commands.{flaw_forms};
 
@@ -28,24 +28,26 @@ pub enum Task<'a> {
     Status {
         log: &'a str,
     },
-    /// Replay a prefix of a log on an image. `upto` says where it ends.
+    /// Replay a log onto an image, up to the end `upto`.
     Replay {
         names: ReplayNames<'a>,
         upto: Upto<'a>,
     },
-    /// Copy a log to a new one with sectors of 4,096 bytes, on a disk of `sectors` sectors of 512.
+    /// Copy a log to a new log with sectors of 4,096 bytes, on a disk of `sectors` sectors of 512
+    /// bytes.
     Copy {
         names: CopyNames<'a>,
         sectors: SectorCount,
     },
-    /// Judge whether an image could have been on the disk of a script after its first `moment`
+    /// Judge whether the disk of a script could hold an image after the script's first `moment`
     /// events.
     Judge {
         script: &'a str,
         moment: u64,
         image: &'a str,
     },
-    /// Print how an image could have come to the disk of a script after its first `moment` events.
+    /// Print a run of the disk of a script that leaves an image after the script's first `moment`
+    /// events.
     Path {
         script: &'a str,
         moment: u64,
@@ -55,11 +57,11 @@ pub enum Task<'a> {
     Formats(&'static str),
     /// Print clap's text: help, the version, or why the command line has no task.
     Show(Error),
-    /// Report that a word has a wrong form for its argument.
+    /// Report that a word has a wrong form for its argument (`Flaw`).
     Flawed(Flaw, &'a str),
 }
 
-/// Why a word is wrong that `clap` accepts.
+/// Why a word is wrong, though `clap` accepts it.
 #[derive(Clone, Copy, Debug, PartialEq, Eq)]
 pub enum Flaw {
     /// WHAT isn't `entries:<n>`, `mark:<text>` or `flush`.
@@ -71,7 +73,8 @@ pub enum Flaw {
 }
 
 impl Flaw {
-    /// Returns the argument, the forms that it may have, and the command that prints help.
+    /// Returns the argument's name, the forms that the argument may have, and the command that
+    /// prints help.
     pub fn forms(self) -> &'static str
         ensures { result.now ≡ flaw_forms self }
     {

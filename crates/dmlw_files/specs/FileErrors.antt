@@ -1,5 +1,5 @@
--- Which error a failed call on a file gives, and the refusal that shows it.
--- The contracts of `src/files` cite both.
+-- Which error a failed call on a file gives, and which refusal reports it. The contracts of
+-- `src/files` use both.
 use Rattle.std.specs.declared.io.ErrorKind.{ErrorKind}
 use Rattle.std.specs.declared.io.ErrorKind.TheVariants as kinds
 use Rattle.refusals.specs.declared.refusal.Refusal.{Refusal}
@@ -7,7 +7,7 @@ use Rattle.refusals.specs.declared.refusal.Refusal.TheVariants as refusals
 use Rattle.dmlw_files.specs.declared.files.FileError.{FileError}
 use Rattle.dmlw_files.specs.declared.files.FileError.TheVariants.{Unusable, Memory}
 
--- The error of a failed call on a file, given the kind of the system's error.
+-- The error of a failed call on a file, given the kind of the operating system's error.
 abbrev pub file_error : ErrorKind → FileError
 file_error kinds.OutOfMemory = Memory
 file_error _ = Unusable

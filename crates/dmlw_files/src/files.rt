@@ -1,4 +1,4 @@
-//! Files that a command reads and writes by name, and why a call on one fails.
+//! Files that a command reads and writes by name, and why a call fails.
 ghost use Rattle.std.specs.Prelude.{◌≡◌, ◌≤◌, Bool, IfErr, IfOk, List, OnErr, OnOk, Option, false};
 ghost use Rattle.std.specs.Prelude.{is_some, length, true, ℕ};
 ghost use Rattle.refusals.specs.Errors.{refused_by};
@@ -15,10 +15,10 @@ use thiserror::Error;
 /// Why a file wasn't read or written.
 #[derive(Clone, Copy, Debug, PartialEq, Eq, Error)]
 pub enum FileError {
-    /// It can't be opened, read or written, or it is too long.
+    /// The file can't be opened, read or written, or is too long.
     #[error("the file can't be read or written, or is too long")]
     Unusable,
-    /// There was no memory for it.
+    /// Memory ran out.
     #[error("no memory for the file")]
     Memory,
 }
@@ -53,31 +53,31 @@ impl From<FileError> for RunError {
     }
 }
 
-/// Why a file wasn't read or written, with the system's error.
+/// Why a file wasn't read or written, with the operating system's error.
 #[derive(Debug, Drop)]
 pub enum FileFailure {
-    /// It can't be read.
+    /// The file can't be read.
     Read(io::Error),
-    /// It is longer than allowed. The number is the length that the system reports; for a pipe or a
-    /// device the system reports less.
+    /// The file is longer than allowed. The number is the length that the system reports. For a
+    /// pipe or a device, the system reports less.
     TooLong(u64),
-    /// It can't be written.
+    /// The file can't be written.
     Write(io::Error),
 }
 
 /// The files that a command reads and writes, by name.
 pub trait Files {
-    /// What each file holds, if that is known.
+    /// What each file holds, if it is known.
     ghost contents: { Self → List ℕ → Option (List ℕ) };
 
-    /// The writes that were asked for, in order, if they are known.
+    /// The writes that were asked for, in their order, if they are known.
     ghost writes: { Self → Option (List Write) };
 
-    /// Whether it is known why the last call failed.
+    /// Whether `failure` returns a reason for the last call's failure.
     ghost has_failure: { Self → Bool };
 
-    /// Returns all bytes of a file. A file of more than `limit` bytes is refused. If a file is
-    /// known to have at most `limit` bytes, only lack of memory refuses it.
+    /// Returns all bytes of a file. Refuses a file of more than `limit` bytes. If a file is known
+    /// to have at most `limit` bytes, the call fails only if memory runs out.
     fn read(&mut self, alloc: Global, name: &str, limit: u64) -> Result<Image, FileError>
         ensures contents { IfOk result
             (λ image. MatchesContents (contents self.old name.now) image) }
@@ -86,26 +86,26 @@ pub trait Files {
             → IfErr result (λ error. error ≡ FileError.Memory) }
         ensures kept { KeepsFiles (contents self.old) (contents self.new) }
         ensures writes { writes self.new ≡ writes self.old }
-        // After a success no earlier failure is kept.
+        // A success clears an earlier failure.
         ensures cleared { OnOk result (has_failure self.new ≡ false) };
 
-    /// Replaces the file's bytes with the image of a disk. If that fails, no file changes. The call
-    /// drops the disk. So it may take the bytes out of the disk piece by piece, and needs no second
-    /// copy of them in memory.
+    /// Replaces the file's bytes with the image of a disk. If this fails, no file changes. The call
+    /// drops the disk, so it can take the image out of the disk piece by piece, without a second
+    /// copy in memory.
     fn write(&mut self, alloc: Global, name: &str, disk: SectorDisk) -> Result<(), FileError>
         ensures holds { OnOk result (MatchesContents (contents self.new name.now) (image_of disk)) }
         ensures kept { OnErr result (KeepsFiles (contents self.old) (contents self.new)) }
         ensures writes { writes self.new ≡ one_more (writes self.old) name.now (image_of disk) }
         ensures cleared { OnOk result (has_failure self.new ≡ false) };
 
-    /// Returns why the last read or write failed, if it did and that is known.
+    /// Returns why the last read or write failed, if it failed and the reason is known.
     fn failure(&self) -> Option<&FileFailure>
         ensures { is_some result ≡ has_failure self.now };
 
-    /// Returns whether both names lead to the same file.
+    /// Returns whether both names are names of the same file.
     fn is_same(&self, first: &str, second: &str) -> bool
         ensures named { first.now ≡ second.now → result ≡ true }
-        // Then both names have the same content.
+        // If they are, what is known of both is the same.
         ensures held { result ≡ true
             → contents self.now first.now ≡ contents self.now second.now };
 }

@@ -6,7 +6,7 @@ use std::alloc::{AllocError, Global};
 use std::io;
 use std::io::{Seek, SeekFrom, Write};
 
-/// A writer in which zeroes may be skipped.
+/// A writer that can append zeroes without writing them.
 pub(crate) trait Skip: Write {
     /// Appends these zeroes without writing them.
     fn skip(&mut self, zeroes: &[u8]) -> io::Result<()>
@@ -17,7 +17,7 @@ pub(crate) trait Skip: Write {
 }
 
 /// A new file. Nothing is proved about its content. Skipped zeroes are in the file once later bytes
-/// are written or its length is set.
+/// are written, or once its length is set.
 #[derive(Drop)]
 pub(crate) struct NewFile<'a, F> {
     file: &'a mut F,
@@ -46,7 +46,8 @@ impl<F: Write + Seek> Skip for NewFile<'_, F> {
     }
 }
 
-/// A writer that skips each piece of at most `count` zeroes, and writes other pieces.
+/// A writer that skips a piece if it is zeroes and has at most `zeroes.len()` bytes, and writes
+/// other pieces.
 #[derive(Drop)]
 pub(crate) struct Holes<W> {
     writer: W,
@@ -62,7 +63,7 @@ impl<W: Skip + Drop> Holes<W> {
         Ok(Holes { writer, zeroes })
     }
 
-    // Returns whether the bytes are zeroes, and few enough to be skipped.
+    // Returns whether the bytes are zeroes, and are few enough to be skipped.
     fn skips(&self, bytes: &[u8]) -> bool
         ensures { result ≡ true → bytes.now ≡ replicate (length bytes.now) 0 }
     {

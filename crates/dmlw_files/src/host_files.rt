@@ -1,4 +1,4 @@
-//! The system's files.
+//! Files of the operating system.
 ghost use Rattle.std.specs.Prelude.{◌≡◌, ◌≤◌, ◌<◌, ◌+◌, ◌++◌, ◌%◌, IfOk, IfSome, None, OnOk};
 ghost use Rattle.std.specs.Prelude.{is_some, length, take};
 ghost use Rattle.std.specs.Io.KnownBytes.{Consumes, IsAtEnd};
@@ -16,26 +16,26 @@ use std::io::{Read, Seek, Write};
 use std::os::unix::fs::{FileTypeExt, MetadataExt};
 use std::{fs, io};
 
-// How many names are tried for the new file in a file's folder.
+// A new file in a file's folder tries at most this many names.
 const MAX_BESIDE: u32 = 1000;
 
-// How many bytes of a file are read at a time: as many as a piece of an `Image` has.
+// A file is read in pieces of this many bytes, which is the size of an `Image`'s piece.
 const READ_BYTES: usize = 65_536;
 
-// The most bytes that a file can have.
+// A file can have at most this many bytes.
 const MAX_FILE_BYTES: u64 = 9_223_372_036_854_775_807;
 
-/// The system's files. Nothing is proved about their contents.
+/// The files of the operating system. Nothing is proved about their contents.
 ///
-/// A regular file is replaced as a whole or not at all: the bytes go to `NAME.dmlw-tmp-<n>` in its
-/// folder, which is then renamed. A link stays, and the file that it leads to is replaced. A pipe
-/// or a device is written directly. So is a stream of the process, such as `/dev/stdout`: the bytes
-/// are appended to its file.
+/// A regular file is replaced as a whole or not at all. The bytes are written to a new file
+/// `NAME.dmlw-tmp-<n>` in the same folder, which is then renamed. A link isn't changed; the file
+/// that it leads to is replaced. A pipe, a device, or a stream of the process such as
+/// `/dev/stdout`, is written directly: the bytes are appended.
 ///
-/// A pipe, a socket or a character device can be read only once. Its bytes are kept under its name
-/// as long as this value lives, if they are at most 4,194,304. A later read of the name returns a
-/// copy of them. If they are known to be more than its limit, it fails with `TooLong(0)`. Else, if
-/// they weren't kept, it fails with `NotSeekable`.
+/// A pipe, a socket or a character device can be read only once. So this value remembers its bytes,
+/// if they are at most 4,194,304, and a later read of the name returns a copy. If the file is known
+/// to have more bytes than a later read's limit, that read fails with `TooLong(0)`. Otherwise, if
+/// the bytes weren't remembered, it fails with `NotSeekable`.
 #[derive(Drop)]
 pub struct HostFiles<'a, R: std::rt::Files> {
     runtime: &'a R,
@@ -43,20 +43,20 @@ pub struct HostFiles<'a, R: std::rt::Files> {
     spent: Vec<Spent>,
 }
 
-// A file that was opened and read, and that can't be read again. The read may have failed.
+// A file that was read once and can't be read again. The read may have failed.
 #[derive(Drop)]
 struct Spent {
     name: String,
-    // The file has at least this many bytes. It is the number of bytes that were read; the read's
-    // limit plus one, if the file has more; or 0, if the read failed.
+    // The file has at least this many bytes: the bytes that were read. If the file had more than
+    // the read's limit, this is the limit plus one. If the read failed, it is 0.
     length: u64,
-    // All its bytes, unless they are too many or there was no memory for a copy.
+    // All bytes of the file; None if they were too many, or memory ran out.
     bytes: Option<Vec<u8>>,
 }
 
 impl Spent {
-    // Returns the bytes of the file, or `Err(0)` if they are more than the limit. Fails if they
-    // weren't kept.
+    // Returns the bytes of the file. Returns `Err(0)` if the file has more than `limit` bytes.
+    // Fails if the bytes weren't remembered.
     fn read(&self, alloc: Global, limit: u64) -> io::Result<Result<Image, u64>>
         ensures { IfOk result (λ found. IfOk found (λ image. length image ≤ limit)) }
     {
@@ -79,7 +79,7 @@ impl<'a, R: std::rt::Files> HostFiles<'a, R> {
         }
     }
 
-    // Returns all bytes of a file. If they are more than the limit, returns the length that the
+    // Returns all bytes of a file. If they are more than `limit`, returns the length that the
     // system reports.
     fn find(&mut self, alloc: Global, name: &str, limit: u64) -> io::Result<Result<Image, u64>>
         ensures within { IfOk result (λ found. IfOk found (λ image. length image ≤ limit)) }
@@ -94,12 +94,12 @@ impl<'a, R: std::rt::Files> HostFiles<'a, R> {
         self.read_once(alloc, name, limit)
     }
 
-    // Reads a file that can't be read again, and keeps its bytes.
+    // Reads a file that can be read only once, and remembers its bytes.
     fn read_once(&mut self, alloc: Global, name: &str, limit: u64) -> io::Result<Result<Image, u64>>
         ensures within { IfOk result (λ found. IfOk found (λ image. length image ≤ limit)) }
         ensures failure { self.new.failure ≡ self.old.failure }
     {
-        // The memory for its name is allocated before it is read.
+        // The memory for the name is allocated before the file is read.
         let kept_name = String::from_str(alloc, name)?;
         self.spent.reserve(1)?;
         let file = fs::open(self.runtime, name)?;
@@ -107,7 +107,7 @@ impl<'a, R: std::rt::Files> HostFiles<'a, R> {
         let (length, bytes) = match &found {
             Ok(Ok(image)) => (image.len() as u64, kept(alloc, image)),
             Ok(Err(_)) => (limit.saturating_add(1), None),
-            // Some of its bytes may be gone.
+            // The failed read may have taken some bytes.
             Err(_) => (0, None),
         };
         self.spent.push_reserved(Spent {
@@ -118,7 +118,7 @@ impl<'a, R: std::rt::Files> HostFiles<'a, R> {
         found
     }
 
-    // Keeps why a call failed, and returns the error for that.
+    // Notes why a call failed, and returns the error for this reason.
     fn keep(&mut self, failure: FileFailure) -> FileError {
         let error = match &failure {
             FileFailure::Read(error) | FileFailure::Write(error) => FileError::from(error.kind()),
@@ -171,7 +171,8 @@ impl<R: std::rt::Files> Files for HostFiles<'_, R> {
     }
 }
 
-// Returns whether a later read of a file finds its bytes again, or fails as the first one did.
+// Returns whether a second read of a file can find its bytes again. Returns true if the file isn't
+// found; then both reads fail.
 fn reads_again<R: std::rt::Files>(runtime: &R, name: &str) -> bool {
     match fs::metadata(runtime, name) {
         Ok(found) => found.is_file() || found.is_dir() || found.file_type().is_block_device(),
@@ -179,7 +180,7 @@ fn reads_again<R: std::rt::Files>(runtime: &R, name: &str) -> bool {
     }
 }
 
-// Returns a copy of the bytes, if they are few enough to be kept and there is memory.
+// Returns a copy of the bytes, if they are few enough to be remembered and memory suffices.
 fn kept(alloc: Global, image: &Image) -> Option<Vec<u8>> {
     if image.len() as u64 > MAX_SCRIPT_BYTES {
         return None;
@@ -187,8 +188,8 @@ fn kept(alloc: Global, image: &Image) -> Option<Vec<u8>> {
     image.to_vec(alloc).ok()
 }
 
-// Returns all bytes of a file. If they are more than the limit, returns the length that the system
-// reports.
+// Opens a file and returns all its bytes. If they are more than `limit`, returns the length that
+// the system reports.
 fn read_file<R: std::rt::Files>(
     runtime: &R,
     alloc: Global,
@@ -201,7 +202,8 @@ fn read_file<R: std::rt::Files>(
     read_open::<R>(file, alloc, limit)
 }
 
-// As above, for an open file.
+// Returns all bytes of an open file. If they are more than `limit`, returns the length that the
+// system reports.
 fn read_open<R: std::rt::Files>(
     file: R::File,
     alloc: Global,
@@ -210,7 +212,7 @@ fn read_open<R: std::rt::Files>(
     ensures { IfOk result (λ found. IfOk found (λ image. length image ≤ limit)) }
 {
     let length = file.metadata()?.len();
-    // If one byte more than the limit can be read, the file is too long. No file has 2 ^ 63 bytes.
+    // If `limit` and one more byte can be read, the file is too long. No file has 2^63 bytes.
     let most = limit.min(MAX_FILE_BYTES) + 1;
     let mut room = vec![in alloc; 0; READ_BYTES]?;
     let image = read_rest(alloc, &mut file.take(most), most, &mut room)?;
@@ -220,8 +222,8 @@ fn read_open<R: std::rt::Files>(
     Ok(Ok(image))
 }
 
-// Returns the bytes that a reader has left, if they are at most `most`. It reads them into `room`,
-// piece by piece.
+// Reads the reader's remaining bytes piece by piece through `room`. If they are at most `most`,
+// returns all of them.
 fn read_rest<R: Read>(
     alloc: Global,
     reader: &mut R,
@@ -242,7 +244,8 @@ fn read_rest<R: Read>(
     Ok(image)
 }
 
-// Appends the reader's next 65,536 bytes to an image, or fewer at its end. Returns how many.
+// Appends the reader's next 65,536 bytes to an image, or fewer at the reader's end. Returns how
+// many.
 fn append_piece<R: Read>(
     alloc: Global,
     reader: &mut R,
@@ -263,7 +266,7 @@ fn append_piece<R: Read>(
     Ok(count)
 }
 
-// Appends a piece to an image, unless it is empty.
+// Appends a piece to an image, unless the piece is empty.
 fn push_piece(alloc: Global, piece: &[u8], image: &mut Image) -> Result<(), AllocError>
     requires whole { length image.old % 65536 ≡ 0 }
     requires few { length piece.now ≤ 65536 }
@@ -276,7 +279,7 @@ fn push_piece(alloc: Global, piece: &[u8], image: &mut Image) -> Result<(), Allo
     image.push_slice(alloc, piece)
 }
 
-// Reads until a buffer is full or the reader at its end, and returns how many bytes were read.
+// Reads until `buffer` is full or the reader has no more bytes. Returns how many bytes were read.
 fn fill<R: Read>(reader: &mut R, buffer: &mut [u8]) -> io::Result<usize>
     ensures few { IfOk result (λ count. count ≤ length buffer.old) }
     ensures moved { IfOk result
@@ -297,8 +300,7 @@ fn fill<R: Read>(reader: &mut R, buffer: &mut [u8]) -> io::Result<usize>
     Ok(count)
 }
 
-// Writes the image of a disk to the file `name`. The buffer is allocated before any file is
-// touched.
+// Writes the image of a disk to the file `name`. Allocates the buffer before it touches any file.
 fn write_file<R: std::rt::Files>(
     runtime: &R,
     alloc: Global,
@@ -310,7 +312,8 @@ fn write_file<R: std::rt::Files>(
     write_image(runtime, alloc, name, &mut disk, &mut buffer)
 }
 
-// Writes the file `name`: replaces a regular file, and writes to any other one directly.
+// Writes the image of a disk to the file `name`. Replaces a regular file, and writes to any other
+// file directly.
 fn write_image<R: std::rt::Files>(
     runtime: &R,
     alloc: Global,
@@ -342,7 +345,8 @@ fn write_image<R: std::rt::Files>(
     }
 }
 
-// Returns whether a name is that of an open stream of the process, whatever the stream leads to.
+// Returns whether a name is that of an open stream of the process, even if the stream is a regular
+// file.
 fn is_stream(name: &str) -> bool {
     name == "/dev/stdout"
         || name == "/dev/stderr"
@@ -350,7 +354,7 @@ fn is_stream(name: &str) -> bool {
         || name.starts_with("/proc/self/fd/")
 }
 
-// Appends the image to a pipe, a device or a stream.
+// Appends the image of a disk to a pipe, a device or a stream.
 fn write_through<R: std::rt::Files>(
     runtime: &R,
     name: &str,
@@ -363,7 +367,7 @@ fn write_through<R: std::rt::Files>(
     write_sectors(disk, disk.sectors(), buffer, &mut file)
 }
 
-// Replaces a regular file with the image of a disk, or leaves it as it was.
+// Replaces a regular file with the image of a disk, or doesn't change it.
 fn replace<R: std::rt::Files>(
     runtime: &R,
     alloc: Global,
@@ -385,7 +389,7 @@ fn replace<R: std::rt::Files>(
     done
 }
 
-// Creates a file with a new name in the folder of another one. Returns its name and the file.
+// Creates a new file in the folder of the file `target`, and returns its name and the file.
 fn create_beside<R: std::rt::Files>(
     runtime: &R,
     alloc: Global,
@@ -405,7 +409,8 @@ fn create_beside<R: std::rt::Files>(
     Err(io::Error::from(io::ErrorKind::AlreadyExists))
 }
 
-// Writes a new file, and waits until it is on the disk. Pieces of zeroes take no room in it.
+// Writes the image of a disk to a new file, and syncs the file. Pieces of zeroes take no room in
+// the file.
 fn fill_file<R: std::rt::Files>(
     alloc: Global,
     file: R::File,
@@ -417,7 +422,7 @@ fn fill_file<R: std::rt::Files>(
 {
     let mut file = file;
     write_pieces(alloc, &mut file, disk, buffer)?;
-    // This adds the zeroes that were skipped at the end.
+    // If the last pieces are zeroes and were skipped, this adds them.
     file.set_len(disk.sectors().saturating_mul(SECTOR_BYTES))?;
     if let Some(permissions) = permissions {
         let _ = file.set_permissions(permissions);
@@ -425,7 +430,7 @@ fn fill_file<R: std::rt::Files>(
     file.sync_all()
 }
 
-// Writes the image of a disk to a new file, and skips pieces of zeroes.
+// Writes the image of a disk to a new file, but skips pieces of zeroes.
 fn write_pieces<F: Write + Seek>(
     alloc: Global,
     file: &mut F,

@@ -10,12 +10,12 @@ use refusals::{Refusal, RunError};
 use sector_disk::Image;
 use std::alloc::Global;
 
-/// The most bytes of an image: 1,048,576 sectors.
+/// An image has at most this many bytes, which are 1,048,576 sectors.
 pub const MAX_IMAGE_BYTES: u64 = 536_870_912;
 
 /// Reads the image in the file `name`: whole sectors of 512 bytes, at least one and at most 512
-/// MiB. Any other file is refused with `File`, and so is one that can't be read. If the file is
-/// known to hold an image, only lack of memory refuses it.
+/// MiB. A file that holds no image, or can't be read, is refused with `File`. If the file is known
+/// to hold an image, the call fails only if memory runs out.
 #[tactic(auto, using(crate::specs::Images::image_within, crate::specs::Images::image_read))]
 pub fn read_image<F: Files>(alloc: Global, name: &str, files: &mut F) -> Result<Image, RunError>
     ensures contents { IfOk result

@@ -1,9 +1,9 @@
 //! The files and streams of the commands.
 //!
-//! `Files` is a command's access to files by name (`specs/Files`). `HostFiles` is the system's
-//! files; nothing is proved about their contents. `read_text` and `read_image` check the sizes of
-//! scripts and images (`specs/Images`). `Output` is a writer whose reader may go away. A `Session`
-//! has the files and streams of a command.
+//! `Files` is a command's access to files by name (`specs/Files`). `HostFiles` is the files of the
+//! operating system; nothing is proved about their contents. `read_text` and `read_image` read
+//! scripts and images, and check their sizes (`specs/Images`). `Output` is a writer whose reader
+//! may go away. A `Session` has the files and streams of a command.
 #![tactic(auto)]
 
 pub use files::{FileError, FileFailure, Files};

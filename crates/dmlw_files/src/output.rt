@@ -2,8 +2,8 @@
 use std::io;
 use std::io::Write;
 
-/// A writer whose reader may go away, such as a pipe. From then on it drops what is written, and no
-/// call fails because of that. Nothing is proved about what it holds.
+/// A writer whose reader may go away, such as a pipe. After that it drops what is written, and
+/// reports no failure for it. Nothing is proved about what the writer holds.
 #[derive(Drop)]
 pub struct Output<W: Write> {
     writer: W,

@@ -1,5 +1,5 @@
-//! Writes the image of a disk piece by piece, through one buffer, so that no second copy of it is
-//! in memory.
+//! Writes the image of a disk piece by piece through one buffer, so that memory holds no second
+//! copy of the image.
 ghost use Rattle.std.specs.Prelude.{◌≡◌, ◌≤◌, ◌<◌, ◌/◌, ◌%◌, ◌+◌, OnOk, length};
 ghost use Rattle.std.specs.Io.KnownBytes.{Appends};
 ghost use Rattle.bio.specs.Content.{gather};
@@ -14,13 +14,13 @@ use std::io::Write;
 /// The size of a sector in bytes.
 const SECTOR: usize = SECTOR_BYTES as usize;
 
-/// The most sectors of a piece.
+/// A piece has at most this many sectors.
 const PIECE_SECTORS: u64 = 128;
 
 /// The size of the buffer for pieces in bytes.
 pub(crate) const PIECE: usize = PIECE_SECTORS as usize * SECTOR;
 
-// Reads a piece of a disk's image, which is whole sectors.
+// Reads as many sectors of a disk's image as `piece` has, from sector `first` on.
 fn read_piece(disk: &mut SectorDisk, first: u64, piece: &mut [u8])
     requires some { 0 < length piece.old }
     requires whole { length piece.old % 512 ≡ 0 }
@@ -29,7 +29,7 @@ fn read_piece(disk: &mut SectorDisk, first: u64, piece: &mut [u8])
     ensures size { (shown_of disk.new).size ≡ (shown_of disk.old).size }
     ensures content { (shown_of disk.new).content ≡ (shown_of disk.old).content }
 {
-    // A disk in memory fails no read.
+    // A read of a disk in memory can't fail.
     let _ = disk.read(Ms::new(0), first, piece);
 }
 

@@ -6,11 +6,11 @@ ghost use Rattle.dmlw_files.specs.Files.{IsWithin, KeepsFiles, MatchesContents};
 use crate::files::{FileError, Files};
 use std::alloc::Global;
 
-/// The most bytes of a script.
+/// A script has at most this many bytes.
 pub const MAX_SCRIPT_BYTES: u64 = 4_194_304;
 
-/// Returns the bytes of a script's file. A file of more than 4,194,304 bytes is refused, and so is
-/// one that can't be read.
+/// Returns the bytes of a script's file. Refuses a file that has more than 4,194,304 bytes, or
+/// can't be read.
 pub fn read_text<F: Files>(alloc: Global, script: &str, files: &mut F) -> Result<Vec<u8>, FileError>
     ensures contents { IfOk result
         (λ text. MatchesContents (F.contents files.old script.now) text.items) }

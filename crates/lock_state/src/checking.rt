@@ -19,7 +19,7 @@ use pending::laws::list_has_what_is_queued;
 use std::alloc::{AllocError, Global};
 
 impl<R: Run> QueueState<R> {
-    /// Returns whether the seat's list has exactly its events of the history.
+    /// Returns whether the seat's own list has exactly the seat's events of the history.
     pub fn has_list(&self, seat: &SeatPart<R>) -> bool
         ensures { MatchBool result (IsList self.now seat.now) (IsList self.now seat.now → ⊥) }
     {
@@ -31,8 +31,8 @@ impl<R: Run> QueueState<R> {
         )
     }
 
-    /// Returns whether each passed call of the seat found at which event recording ended, and by
-    /// which Stop, if by one.
+    /// Returns whether each passed call of the seat found at which event recording ended, and the
+    /// Stop's cause if a Stop ended it.
     pub fn has_passed(&self, seat: &SeatPart<R>) -> bool
         ensures { MatchBool result (Each (FoundEnd self.now.core.events) seat.now.passed)
             (Fails (FoundEnd self.now.core.events) seat.now.passed) }
@@ -40,8 +40,8 @@ impl<R: Run> QueueState<R> {
         are_passed(&self.end, self.recorded_stop(), seat.passed.as_slice())
     }
 
-    /// Returns whether each cause that was reported to the seat is that of the first stop, or
-    /// `end`.
+    /// Returns whether each cause that was reported to the seat is `end` or the cause of the first
+    /// stop.
     pub fn has_reported_causes(&self, seat: &SeatPart<R>, end: Option<End>) -> bool
         ensures { MatchBool result (AreCauses seat.now.told self.now.stop end)
             (AreCauses seat.now.told self.now.stop end → ⊥) }
@@ -49,7 +49,7 @@ impl<R: Run> QueueState<R> {
         are_causes(&seat.told, self.stop.cause(), end)
     }
 
-    // Returns the size of a sector of the log in bytes.
+    // Returns the size of a log sector in bytes.
     fn sector_bytes(&self) -> u32
         ensures bytes { result ≡ self.now.core.sector_bytes }
         ensures may_be { is_sector_size result ≡ true }
@@ -57,13 +57,13 @@ impl<R: Run> QueueState<R> {
         self.size.bytes()
     }
 
-    // Returns whether this item was taken as number k.
+    // Returns whether `item` is the k-th item that was taken.
     fn is_taken_as(&self, k: usize, item: &Item) -> bool
         requires { k < self.now.core.taken }
         ensures { MatchBool result (slice_get (items_of self.now.core) k ≡ Some (listed item.now))
             (slice_get (items_of self.now.core) k ≢ Some (listed item.now)) }
     {
-        // For the prover.
+        // For the prover: this shows that the completion list has each queued item.
         list_has_what_is_queued();
         let bytes = self.sector_bytes();
         let id = self.taken[k];
@@ -73,7 +73,7 @@ impl<R: Run> QueueState<R> {
         }
     }
 
-    /// Returns whether these items are a prefix of the taken ones.
+    /// Returns whether these items are a prefix of the taken items.
     pub fn has_taken(&self, placed: &[Item]) -> bool
         ensures { MatchBool result (BeginsTaken self.now.core placed.now)
             (BeginsTaken self.now.core placed.now → ⊥) }
@@ -89,21 +89,21 @@ impl<R: Run> QueueState<R> {
         true
     }
 
-    /// Returns the number of items that were taken.
+    /// Returns how many items were taken.
     pub fn taken_count(&self) -> usize
         ensures { result ≡ self.now.core.taken }
     {
         self.taken.len()
     }
 
-    /// Returns the number of events.
+    /// Returns how many events there are.
     pub fn event_count(&self) -> usize
         ensures { result ≡ length self.now.core.events }
     {
         self.core.events().len()
     }
 
-    /// Returns a note for each event, for `is_served`, or `Err` if memory runs out.
+    /// Returns notes for `is_served`, one for each event, or `Err` if memory runs out.
     pub fn notes(&self, alloc: Global) -> Result<Vec<Seen>, AllocError>
         ensures { IfOk result (λ notes. length notes.items ≡ length self.now.core.events) }
     {
@@ -111,8 +111,8 @@ impl<R: Run> QueueState<R> {
     }
 
     /// Returns whether each request that ended Ok is exactly once among these calls, as a call that
-    /// succeeded. The caller passes a note for each event; their values don't matter. Allocates
-    /// nothing.
+    /// succeeded. The caller lends a note for each event; the values of the notes don't matter.
+    /// Allocates nothing.
     pub fn is_served(&self, calls: &[Done], notes: &mut [Seen]) -> bool
         requires { length self.now.core.events ≤ length notes.old }
         ensures { MatchBool result
@@ -122,8 +122,8 @@ impl<R: Run> QueueState<R> {
         is_served(self.core.events(), calls, notes)
     }
 
-    /// Returns the cause of the Stop in the history. Returns None if there is no Stop, even if
-    /// logging stopped after the Close.
+    /// Returns the cause of the Stop in the history. Returns None if the history has no Stop, even
+    /// if logging stopped after the Close.
     pub fn recorded_stop(&self) -> Option<End>
         ensures { result ≡ stop_of self.now.core.events }
     {
@@ -144,8 +144,8 @@ fn stop_at(events: &[CoreEvent], place: Id) -> Option<End>
     }
 }
 
-// Returns whether the item has this id and the entry of `event`, in a log with sectors of `bytes`
-// bytes.
+// Returns whether the item has the id `id`, and the entry that `event` has in a log with sectors of
+// `bytes` bytes.
 fn is_item(item: &Item, id: Id, event: &CoreEvent, bytes: u32) -> bool
     requires { is_sector_size bytes ≡ true }
     ensures { MatchBool result (IsItem bytes item.now id event.now)

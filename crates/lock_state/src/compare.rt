@@ -1,4 +1,4 @@
-// What a recorder compares when it closes, as functions of lists.
+// The comparisons of a recorder that closes, as functions of lists.
 ghost use Rattle.std.specs.Prelude.{◌≡◌, ◌≢◌, ◌⊎◌, ◌&&◌, MatchBool, Option, Some, slice_get};
 ghost use Rattle.std.specs.Prelude.{length};
 ghost use Rattle.bio.specs.declared.request.Bio.TheVariants.{Discard, Flush, Read, Write};
@@ -116,7 +116,7 @@ fn same_event(one: &CoreEvent, other: &CoreEvent) -> bool
     }
 }
 
-// Returns whether the list has this event, with the index `place`, at position `number`.
+// Returns whether the list has at position `number` the event `event` with the index `place`.
 fn is_at(list: &[Own], number: usize, place: u64, event: &CoreEvent) -> bool
     ensures { MatchBool result (slice_get list.now number ≡ Some (own_at place event.now))
         (slice_get list.now number ≢ Some (own_at place event.now)) }
@@ -127,7 +127,7 @@ fn is_at(list: &[Own], number: usize, place: u64, event: &CoreEvent) -> bool
     }
 }
 
-/// Returns whether `list` has exactly the events of the seat, each with its index.
+/// Returns whether `list` has exactly the events of seat `seat`, each with its index.
 pub fn is_list_of(events: &[CoreEvent], by: &[Option<u64>], seat: u64, list: &[Own]) -> bool
     requires { length by.now ≡ length events.now }
     ensures { MatchBool result (of events.now by.now seat ≡ list.now) (of events.now by.now seat ≢ list.now) }
@@ -144,7 +144,7 @@ pub fn is_list_of(events: &[CoreEvent], by: &[Option<u64>], seat: u64, list: &[O
     found == list.len()
 }
 
-// Returns whether the name is that of `seat`.
+// Returns whether the name is the number `seat`.
 fn is_seat(seat: u64, name: Option<u64>) -> bool
     ensures { result ≡ is_of seat name }
 {
@@ -164,14 +164,16 @@ fn is_end(end: &Option<Id>, place: Id) -> bool
     }
 }
 
-// Returns whether a passed call found that recording had ended at event `end`, by this Stop.
+// Returns whether a passed call found that recording had ended at event `end`, and found the Stop's
+// cause `stop`.
 fn has_found(end: &Option<Id>, stop: Option<End>, call: &PassedCall) -> bool
     ensures { MatchBool result (Found end.now stop call.now) (Found end.now stop call.now → ⊥) }
 {
     is_end(end, call.place) && stop == call.stop
 }
 
-/// Returns whether each passed call found that recording had ended at event `end`, by this Stop.
+/// Returns whether each passed call found that recording had ended at event `end`, and found the
+/// Stop's cause `stop`.
 pub fn are_passed(end: &Option<Id>, stop: Option<End>, passed: &[PassedCall]) -> bool
     ensures { MatchBool result (Each (Found end.now stop) passed.now)
         (Fails (Found end.now stop) passed.now) }
@@ -184,7 +186,7 @@ pub fn are_passed(end: &Option<Id>, stop: Option<End>, passed: &[PassedCall]) ->
     true
 }
 
-// Returns whether this cause is `stop` or `end`.
+// Returns whether `cause` is `stop` or `end`.
 fn is_cause(cause: End, stop: Option<End>, end: Option<End>) -> bool
     ensures { MatchBool result ((stop ≡ Some cause) ⊎ (end ≡ Some cause))
         (((stop ≡ Some cause) ⊎ (end ≡ Some cause)) → ⊥) }
@@ -192,7 +194,7 @@ fn is_cause(cause: End, stop: Option<End>, end: Option<End>) -> bool
     stop == Some(cause) || end == Some(cause)
 }
 
-// Returns whether this cause is `stop` or `end`, if it was reported.
+// Returns whether `cause` is `stop` or `end`, or wasn't reported.
 fn may_be_told(told: bool, cause: End, stop: Option<End>, end: Option<End>) -> bool
     ensures { MatchBool result (MayBeReported told cause stop end)
         (MayBeReported told cause stop end → ⊥) }
@@ -217,7 +219,7 @@ fn are_all(one: bool, two: bool, three: bool) -> bool
     one && two && three
 }
 
-/// Returns whether a receipt names a settled item with its id.
+/// Returns whether a receipt names a settled item that has the receipt's id.
 pub fn names<R: Run>(placed: &[Item], settled: u64, receipt: &Receipt<R>) -> bool
     ensures { MatchBool result (Names placed.now settled receipt.now)
         (Names placed.now settled receipt.now → ⊥) }
@@ -231,7 +233,7 @@ pub fn names<R: Run>(placed: &[Item], settled: u64, receipt: &Receipt<R>) -> boo
     }
 }
 
-/// Returns whether each receipt names a settled item with its id.
+/// Returns whether each receipt names a settled item that has the receipt's id.
 pub fn are_named<R: Run>(placed: &[Item], settled: u64, receipts: &[Receipt<R>]) -> bool
     ensures { MatchBool result (Each (Names placed.now settled) receipts.now)
         (Fails (Names placed.now settled) receipts.now) }

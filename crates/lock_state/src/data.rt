@@ -17,8 +17,8 @@ use blockdev::BlockDev;
 use std::alloc::Global;
 use std::marker::{Model, PhantomData};
 
-/// The value under the data lock: the recorded device, and the requests that were passed to it, in
-/// order. Contracts see these two.
+/// The value under the data lock: the recorded device, and the requests that were passed to the
+/// device, in order. Its value in contracts is both.
 #[derive(Drop)]
 pub struct DataState<D: BlockDev + Drop, R: Run> {
     device: D,
@@ -37,7 +37,7 @@ impl<D: BlockDev + Drop, R: Run> Model for DataState<D, R> {
 }
 
 impl<D: BlockDev + Drop, R: Run> DataState<D, R> {
-    /// Returns the value for a device to which no request was passed yet.
+    /// Returns the value for a device that wasn't passed a request yet.
     pub fn new(alloc: Global, device: D) -> DataState<D, R>
         requires { (D.shown device).size ≡ R.sectors }
         ensures { result ≡ record { device = device; calls = [] } }
@@ -50,27 +50,27 @@ impl<D: BlockDev + Drop, R: Run> DataState<D, R> {
     }
 
     /// Passes a request to the device, and notes it. A write with flush is passed as a flush, and
-    /// then as a write if the flush succeeded. If memory for the note runs out, the device isn't
-    /// called, and nothing changes.
+    /// then as a write if the flush succeeds. If memory for the note runs out, the device isn't
+    /// called and nothing changes.
     pub fn apply(&mut self, now: Ms, id: Option<Id>, bio: &Bio) -> Result<(), DevError>
         requires tracked { is_tracked bio.now ≡ true }
         requires checked { check_answer bio.now R.sectors ≡ Ok tt }
 
-        // If the result is Ok, these calls of the device were made, each succeeded, and the request
-        // is noted as one that succeeded.
+        // If the result is Ok, all device calls of the request (`calls_of`) succeeded, and the
+        // request is noted as succeeded.
         ensures done { OnOk result
             (self.new.calls ≡ self.old.calls ++ done_call id bio.now true ∷ []) }
         ensures does { OnOk result
             (DoesInTurn D.does now (calls_of bio.now) self.old.device (Ok tt) self.new.device) }
 
-        // Each sector that the request covers then holds its value, and each other sector is
-        // unchanged, unless the device lied.
+        // Unless the device lied, each sector that the request covers then has the request's value.
+        // Each other sector is unchanged.
         ensures content { OnOk result ((D.shown self.new.device).lies ≡ 0 → (sector : ℕ) →
             (D.shown self.new.device).content sector
             ≡ put (values_of bio.now) (D.shown self.old.device).content sector) }
 
-        // If the result is an error, a call of the device ended by this error, and the request is
-        // noted as one that failed; or memory for the note ran out.
+        // If the result is an error, a device call of the request ended with this error, and the
+        // request is noted as failed. Or memory for the note ran out, and nothing changed.
         ensures failed { IfErr result (λ error. ((error ≡ Memory) × (self.new ≡ self.old))
             ⊎ ((self.new.calls ≡ self.old.calls ++ done_call id bio.now false ∷ [])
             × DoesInTurn D.does now (calls_of bio.now) self.old.device
@@ -87,8 +87,8 @@ impl<D: BlockDev + Drop, R: Run> DataState<D, R> {
         result
     }
 
-    /// Reads whole sectors of the device from `first` on. Makes one call of the device, which isn't
-    /// noted as a request.
+    /// Reads whole sectors of the device from sector `first` on. Makes one call of the device, and
+    /// notes no request.
     pub fn read(&mut self, now: Ms, first: u64, buffer: &mut [u8]) -> Result<(), DevError>
         requires { IsByteRange R.sectors first (length buffer.old) }
         ensures calls { self.new.calls ≡ self.old.calls }
@@ -104,9 +104,9 @@ impl<D: BlockDev + Drop, R: Run> DataState<D, R> {
         Ok(())
     }
 
-    /// Returns the requests that were passed, in order. Unless the device lied, each sector that a
-    /// successful request covers holds the value of a request after which no successful one covers
-    /// it.
+    /// Returns the requests that were passed to the device, in order. Unless the device lied, each
+    /// successfully written sector holds the value of its last successful request, or of a failed
+    /// one after it.
     pub fn done(&self) -> &[Done]
         ensures calls { result.now ≡ self.now.calls }
         ensures holds { (D.shown self.now.device).lies ≡ 0
@@ -115,7 +115,7 @@ impl<D: BlockDev + Drop, R: Run> DataState<D, R> {
         self.done.as_slice()
     }
 
-    /// Returns the device, and the requests that were passed to it.
+    /// Returns the device, and the requests that were passed to the device.
     pub fn into_parts(self) -> (D, Vec<Done>)
         ensures device { result.0 ≡ self.device }
         ensures calls { result.1.items ≡ self.calls }
@@ -132,7 +132,7 @@ impl<D: BlockDev + Drop, R: Run> DataState<D, R> {
 }
 
 // Passes a request to a device. A write with flush is passed as a flush, and then as a write if the
-// flush succeeded.
+// flush succeeds.
 fn do_request<D: BlockDev>(device: &mut D, now: Ms, bio: &Bio) -> Result<(), DevError>
     requires tracked { is_tracked bio.now ≡ true }
     requires checked { check_answer bio.now (D.shown device.old).size ≡ Ok tt }
@@ -174,7 +174,7 @@ fn do_request<D: BlockDev>(device: &mut D, now: Ms, bio: &Bio) -> Result<(), Dev
     }
 }
 
-// Flushes a device, and writes whole sectors if that succeeded.
+// Flushes a device, and then writes whole sectors to it if the flush succeeds.
 fn flush_and_write<D: BlockDev>(
     device: &mut D,
     now: Ms,

@@ -1,10 +1,10 @@
-//! A keeper and its holders, which provably agree on what each holder holds.
+//! A keeper and its holders. It is proved that they agree on what each holder holds.
 //!
-//! The keeper is inside a value that a lock guards; each thread has a holder. A thread that takes
-//! the lock knows nothing of the value under it but its invariant. A call with both shows that the
-//! keeper's list has, at the holder's number, exactly what the holder holds. So what the invariant
-//! states for the keeper's list is known for what the thread itself holds. No call waits, and only
-//! the first allocates.
+//! The keeper is part of a value that a lock guards; each thread has a holder. A thread that takes
+//! the lock knows only the invariant of the value under it. A call with the keeper and the holder
+//! shows that the keeper's list has, at the holder's number, exactly what the holder holds. So the
+//! thread can use what the invariant states for the keeper's list. No call waits, and only
+//! `Fresh::new` allocates.
 ghost use Rattle.std.specs.Prelude.{◌≡◌, ℕ, List, [], ◌∷◌, ◌++◌, length, Option, None, Some};
 ghost use Rattle.std.specs.Prelude.{slice_get, slice_set};
 ghost use Rattle.atomic_table.specs.Seated.{TableId};
@@ -17,8 +17,8 @@ use atomic_table::Seat;
 use std::alloc::{AllocError, Global};
 use std::marker::{Brand, Model, PhantomData};
 
-/// Names the table on which a keeper and its holders agree. Each keeper has a table, so the type of
-/// a holder refuses another keeper.
+/// Names the table on which a keeper and its holders agree. Each keeper has its own table, so a
+/// holder of another keeper has another type.
 pub trait Whose {
     ghost use Rattle.atomic_table.specs.Seated.{TableId};
 
@@ -31,7 +31,7 @@ impl Whose for Brand {
     ghost table = { no_table };
 }
 
-/// A keeper with no holder, which has no name yet. Contracts see it as its table.
+/// A keeper that has no name and no holders yet. Its value in contracts is its table.
 #[derive(Drop)]
 pub struct Fresh {
     board: Board,
@@ -53,8 +53,8 @@ impl Model for Fresh {
         × (f.board.shared.table_id.words ≡ 1) × (f.pass.me ≡ (keeper_of [], [])) };
 }
 
-/// The keeper. It knows what each holder holds, by the holder's number. Contracts see it as the
-/// list of what they hold.
+/// A keeper, which knows what the holder with each number holds. Its value in contracts is the list
+/// of what they hold.
 #[derive(Drop)]
 pub struct Keeper<W: Whose> {
     board: Board,
@@ -75,8 +75,8 @@ impl<W: Whose> Model for Keeper<W> {
         × (k.pass.me ≡ (keeper_of k.pass.me.0.all, [])) };
 }
 
-/// A holder: it holds a number, or nothing. It has no bytes. Contracts see its number among the
-/// holders, and what it holds.
+/// A holder, which holds a number or nothing. It takes no memory. Its value in contracts is its
+/// number among the holders, and what it holds.
 #[derive(Drop)]
 pub struct Holder<W: Whose> {
     pass: Seat<(), Knows>,
@@ -102,7 +102,7 @@ impl Fresh {
         Ok(Fresh { board, pass })
     }
 
-    /// Gives the keeper its name.
+    /// Gives the keeper the name `W`.
     pub fn named<W: Whose>(self) -> Keeper<W>
         requires { self ≡ W.table }
         ensures { result ≡ [] }
@@ -117,7 +117,7 @@ impl Fresh {
 }
 
 impl<W: Whose> Keeper<W> {
-    /// Adds a holder, which holds nothing. It gets the next number.
+    /// Adds a holder with the next number, which holds nothing.
     pub fn enrol(&mut self) -> Holder<W>
         ensures holder { result ≡ record { number = length self.old; held = None } }
         ensures keeper { self.new ≡ self.old ++ None ∷ [] }
@@ -150,8 +150,8 @@ impl<W: Whose> Keeper<W> {
         mine.pass = board.shared.split_seat::<Part>(pass);
     }
 
-    /// Makes the holder hold this number, in place of what it held. The keeper and the holder
-    /// change in one step.
+    /// Makes the holder hold `number` instead of what it held. The keeper and the holder change in
+    /// one step.
     pub fn begin(&mut self, mine: &mut Holder<W>, number: u64)
         ensures knew { slice_get self.old mine.old.number ≡ Some mine.old.held }
         ensures keeper { self.new ≡ slice_set self.old mine.old.number (Some number) }

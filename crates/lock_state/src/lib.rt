@@ -1,9 +1,9 @@
 //! The values under the three locks of a recorder that threads share, and the steps that a thread
-//! takes under each lock. No function of this crate waits or starts a thread.
+//! makes under each lock. No function of this crate waits or starts a thread.
 //!
-//! A thread that takes a lock knows nothing of the value under it but the invariant of its type. So
-//! all that concerns threads is stated here: what holds under each lock, and how each step changes
-//! the value under the lock and the caller's seat.
+//! A thread that takes a lock knows only the invariant of the value under it. So this crate states
+//! all that concerns threads: what holds under each lock, and how each step changes the value under
+//! the lock and the caller's seat.
 #![tactic(auto)]
 
 pub use closing::drain;

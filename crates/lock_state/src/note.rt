@@ -1,4 +1,4 @@
-// The notes of seats, and why a step was refused.
+// What seats note, and why a step is refused.
 use crate::run::{Ends, Run};
 use crate::stop::Shown;
 use bio::{Bio, CoreEvent, End, Id};
@@ -11,15 +11,15 @@ pub struct Own {
     pub event: CoreEvent,
 }
 
-/// An entry of the log, with the index of its submission in the history.
+/// An entry of the log, with the index of the event that submitted it.
 #[derive(Debug, Drop)]
 pub struct Item {
     pub id: Id,
     pub entry: Entry,
 }
 
-/// A request that was passed to the recorded device: its id, if it is recorded, and whether it
-/// succeeded.
+/// A request that was passed to the recorded device, and whether it succeeded. If it isn't
+/// recorded, `id` is None.
 #[derive(Debug, Drop)]
 pub struct Done {
     pub id: Option<Id>,
@@ -27,15 +27,15 @@ pub struct Done {
     pub ok: bool,
 }
 
-/// A call that was passed to the device unrecorded: the index at which recording had ended, and the
-/// cause of the Stop that ended it, or none if a Close ended it.
+/// A call that was passed to the device without being recorded. `place` is the event at which
+/// recording had ended. `stop` is the cause of the Stop, or None if a Close ended recording.
 #[derive(Clone, Copy, Debug, PartialEq, Eq)]
 pub struct PassedCall {
     pub place: Id,
     pub stop: Option<End>,
 }
 
-/// The causes that were reported to a seat as having ended logging.
+/// For each cause, whether it was reported to a seat as the reason for which logging ended.
 #[derive(Clone, Copy, Debug, PartialEq, Eq)]
 pub struct Told {
     pub full: bool,
@@ -43,19 +43,19 @@ pub struct Told {
     pub memory: bool,
 }
 
-/// Why a request wasn't recorded.
+/// Why the submission of a request wasn't recorded.
 #[derive(Clone, Copy, Debug, PartialEq, Eq)]
 pub enum Unrecorded {
-    /// Memory ran out outside the core; nothing has changed.
+    /// Memory ran out outside the core. Nothing changed.
     NoRoom,
-    /// Memory ran out in the core; logging has ended.
+    /// Memory ran out in the core. Logging ended.
     Stopped,
 }
 
 /// Why an item wasn't placed.
 #[derive(Drop)]
 pub enum Unplaced<R: Run> {
-    /// There was no room in the list of items; nothing has changed.
+    /// The list of items has no room. Nothing changed.
     NoRoom,
     /// The log has ended, by this cause.
     Ended(Shown<Ends<R>>),

@@ -1,4 +1,4 @@
-// The part of a seat: the notes of its calls.
+// The part of a seat: what it notes about its calls.
 ghost use Rattle.std.specs.Prelude.{◌≡◌, ◌==◌, None, is_none, length, true, false};
 ghost use Rattle.lock_state.specs.History.{new_part, with_reported_cause, with_calls};
 ghost use Rattle.lock_state.specs.PlacedItems.{awaited_in, settles_hand};
@@ -12,9 +12,8 @@ use std::marker::{Model, PhantomData};
 use std::mem::swap;
 use std::sync::ledger::Share;
 
-/// A seat's part: its number, its recorded events with their indices, and its request that is under
-/// way. It also has what its passed calls found, that is, at which event recording had ended, and
-/// the causes that were reported to it.
+/// The part of a seat: its number, its recorded events with their indices, and its request that is
+/// under way. It also has what its passed calls found, and the causes that were reported to it.
 #[derive(Drop)]
 pub struct SeatPart<R: Run> {
     pub(crate) number: u64,
@@ -46,7 +45,7 @@ impl<R: Run> Model for SeatPart<R> {
 }
 
 impl<R: Run> SeatPart<R> {
-    /// Returns a seat with this number, without a call yet.
+    /// Returns the part of a seat with this number, before its first call.
     pub fn new(alloc: Global, number: u64, share: Share<R>, holder: Holder<R>) -> SeatPart<R>
         requires share { (share.parts ≡ 1) × (share.amount ≡ 0) }
         requires holder { (holder.number ≡ number) × (holder.held ≡ None) }
@@ -67,15 +66,15 @@ impl<R: Run> SeatPart<R> {
         }
     }
 
-    /// Returns the request of the seat that is under way, if there is one.
+    /// Returns the id of the seat's request that is under way, if there is one.
     pub fn under_way(&self) -> Option<Id>
         ensures { result ≡ self.now.under_way }
     {
         self.under_way
     }
 
-    // Exchanges the events and passed calls of two seats, if both have the same number of events;
-    // else nothing changes.
+    // Exchanges the events and passed calls of two seats, if both have equally many events.
+    // Otherwise nothing changes.
     fn exchange_calls<C: Run>(&mut self, other: &mut SeatPart<C>) -> bool
         requires idle { (self.old.under_way ≡ None) × (other.old.under_way ≡ None) }
         ensures why { result ≡ (length self.old.own == length other.old.own) }
@@ -92,7 +91,7 @@ impl<R: Run> SeatPart<R> {
         true
     }
 
-    // Returns an empty share of the seat's ledger, which has no part and counts nothing.
+    // Returns an empty share of the seat's ledger: it has no part, and counts no event.
     pub(crate) fn no_share(&mut self) -> Share<R>
         ensures share { (result.parts ≡ 0) × (result.amount ≡ 0) }
         ensures same { self.new ≡ self.old }
@@ -112,8 +111,8 @@ impl<R: Run> SeatPart<R> {
     }
 }
 
-/// A caller's seat. Between two calls no request of it is under way. Contracts see its part. Code
-/// that borrows the part ensures this again at the end.
+/// A caller's seat, of which no request is under way between two calls. Its value in contracts is
+/// its part. Code that borrows the part must end the request that it begins.
 #[derive(Drop)]
 pub struct Seat<R: Run> {
     pub part: SeatPart<R>,
@@ -131,9 +130,9 @@ impl<R: Run> Model for Seat<R> {
 }
 
 impl<R: Run> Seat<R> {
-    /// Exchanges the events and passed calls of two seats, if both have the same number of events;
-    /// else nothing changes. So a seat may have the list of another recorder, and a recorder that
-    /// closes has to find this.
+    /// Exchanges the events and passed calls of two seats, if both have equally many events.
+    /// Otherwise nothing changes. So a seat can have the list of another recorder's seat, and a
+    /// recorder that closes must detect this.
     pub fn exchange_calls<C: Run>(&mut self, other: &mut Seat<C>) -> bool
         ensures why { result ≡ (length self.old.own == length other.old.own) }
         ensures changed { result ≡ true
@@ -145,8 +144,8 @@ impl<R: Run> Seat<R> {
     }
 }
 
-/// The writer's part: the item that it took and hasn't placed yet, if there is one. Contracts see
-/// this item.
+/// The writer's part: the item that the writer took and hasn't placed yet, if there is one. Its
+/// value in contracts is this item.
 #[derive(Drop)]
 pub struct WriterPart<R: Run> {
     pub(crate) hand: Option<Item>,
@@ -183,7 +182,8 @@ impl<R: Run> WriterPart<R> {
         self.hand.is_none()
     }
 
-    /// Returns whether the item in hand is to be settled at once: a write with FUA, or a mark.
+    /// Returns whether the log must be settled right after the item in hand: it is a write with
+    /// FUA, or a mark.
     pub fn settles(&self) -> bool
         ensures { result ≡ settles_hand self.now }
     {
@@ -193,8 +193,8 @@ impl<R: Run> WriterPart<R> {
         }
     }
 
-    /// Returns the id of the item in hand, if the log is to be settled right after it: its seat
-    /// waits for that.
+    /// Returns the id of the item in hand, if the log must be settled right after this item. Its
+    /// seat waits for that.
     pub fn awaited(&self) -> Option<Id>
         ensures { result ≡ awaited_in self.now }
     {

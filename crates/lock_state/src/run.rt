@@ -3,11 +3,11 @@ use crate::holders::Whose;
 use std::marker::{Brand, PhantomData};
 use std::sync::ledger::Ledger;
 
-/// The name of one shared recorder, with the ledger of its seats, and three tables. On the first,
-/// its queue and its seats agree. On the second, its queue and its log agree about the first stop,
-/// and on the third about the log's end. The name also has the number of 512-byte sectors of the
-/// recorded device, and the number of bytes in a log sector. It has the properties of the log's
-/// device before the log was begun. So a seat of another recorder has another type, and is refused.
+/// The name of one shared recorder, with the ledger of its seats and three tables. On the first
+/// table, the queue and the seats agree. On the second and third, the queue and the log agree about
+/// the first stop and about the log's end. The name has the number of 512-byte sectors of the
+/// recorded device, and the number of bytes of a log sector. It has the properties of the log's
+/// device before the log was begun. A seat of another recorder has another type, so it is refused.
 pub trait Run: Ledger + Whose {
     ghost use Rattle.std.specs.Prelude.{ℕ};
     ghost use Rattle.lock_state.specs.PlacedItems.{Ground};
@@ -25,7 +25,7 @@ pub trait Run: Ledger + Whose {
     ghost ends: { TableId };
 }
 
-/// The name of the table on which the queue and the log of a recorder agree about the first stop.
+/// The name of the table on which a recorder's queue and log agree about the first stop.
 pub struct Stops<R: Run> {
     run: PhantomData<R>,
 }
@@ -34,7 +34,7 @@ impl<R: Run> Whose for Stops<R> {
     ghost table = { R.stops };
 }
 
-/// The name of the table on which the queue and the log of a recorder agree about the log's end.
+/// The name of the table on which a recorder's queue and log agree about the log's end.
 pub struct Ends<R: Run> {
     run: PhantomData<R>,
 }

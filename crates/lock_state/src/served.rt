@@ -1,5 +1,5 @@
-// The test whether each request that ended Ok was done exactly once. It goes over the calls once
-// and over the events once, with a note for each event.
+// The test whether each request that ended Ok was done exactly once. It goes through the calls once
+// and through the events once, with a note for each event.
 ghost use Rattle.std.specs.Prelude.{◌≡◌, ◌≤◌, ℕ, [], MatchBool, Some, length, slice_get};
 ghost use Rattle.lock_state.specs.declared.served.Seen.{Seen as Noted};
 ghost use Rattle.lock_state.specs.Comparison.{AllNotesMatch, Each, Fails, IsDoneOnce, IsNoted};
@@ -13,16 +13,16 @@ use bio::CoreEvent;
 /// How many successful calls of a request were seen.
 #[derive(Clone, Copy, Debug, PartialEq, Eq)]
 pub enum Seen {
-    /// None yet.
+    /// No call was seen yet.
     Never,
-    /// One, at this index of the calls.
+    /// One call was seen, at this index of the calls.
     Once(usize),
-    /// More than once.
+    /// More than one call was seen.
     Again,
 }
 
-/// Returns whether each request that ended Ok was done exactly once, as that request. The caller
-/// passes a note for each event; their values don't matter.
+/// Returns whether each request that ended Ok was passed to the device by exactly one successful
+/// call. The caller lends a note for each event; the values of the notes don't matter.
 pub fn is_served(events: &[CoreEvent], calls: &[Done], notes: &mut [Seen]) -> bool
     requires { length events.now ≤ length notes.old }
     ensures { MatchBool result (Each (IsServed events.now calls.now) events.now)
@@ -37,7 +37,7 @@ pub fn is_served(events: &[CoreEvent], calls: &[Done], notes: &mut [Seen]) -> bo
     true
 }
 
-// Notes for each request how often it was done.
+// Notes for each request how many successful calls passed it.
 fn note_all(calls: &[Done], notes: &mut [Seen])
     ensures told { AllNotesMatch calls.now notes.new }
     ensures size { length notes.new ≡ length notes.old }
@@ -48,7 +48,7 @@ fn note_all(calls: &[Done], notes: &mut [Seen])
     }
 }
 
-// Clears the notes.
+// Sets each note to `Never`.
 fn clear(notes: &mut [Seen])
     ensures told { AllNotesMatch [] notes.new }
     ensures size { length notes.new ≡ length notes.old }
@@ -77,7 +77,7 @@ fn note(notes: &mut [Seen], place: usize, call: &Done)
     notes[id] = more(notes[id], place);
 }
 
-// Returns the note after one more successful call.
+// Returns the note for a request after one more successful call, at index `place`.
 fn more(seen: Seen, place: usize) -> Seen
     ensures { result ≡ seen_more seen place }
 {
@@ -87,8 +87,8 @@ fn more(seen: Seen, place: usize) -> Seen
     }
 }
 
-// Returns whether the event's request was done exactly once, if the event is a completion with
-// success.
+// If the event completes a request with success, returns whether exactly one successful call passed
+// this request. Otherwise returns true.
 fn is_event_served(events: &[CoreEvent], calls: &[Done], notes: &[Seen], event: &CoreEvent) -> bool
     requires told { AllNotesMatch calls.now notes.now }
     requires size { length events.now ≤ length notes.now }
@@ -101,7 +101,7 @@ fn is_event_served(events: &[CoreEvent], calls: &[Done], notes: &[Seen], event: 
     }
 }
 
-// Returns whether the request with this id was done exactly once.
+// Returns whether exactly one successful call passed the request `id`.
 fn is_done_once(events: &[CoreEvent], calls: &[Done], notes: &[Seen], id: u64) -> bool
     requires told { AllNotesMatch calls.now notes.now }
     requires size { length events.now ≤ length notes.now }
@@ -115,7 +115,8 @@ fn is_done_once(events: &[CoreEvent], calls: &[Done], notes: &[Seen], id: u64) -
     is_done_as(&events[at], calls, notes[at], id)
 }
 
-// Returns whether a request with the note `seen` was done exactly once, as `event` submits it.
+// Returns whether exactly one successful call passed the request `id`, as `event` submits it.
+// `seen` is the note for the request.
 fn is_done_as(event: &CoreEvent, calls: &[Done], seen: Seen, id: u64) -> bool
     requires { Tells calls.now id seen }
     ensures { MatchBool result (IsDoneOnce calls.now id (Some event.now))

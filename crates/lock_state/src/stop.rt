@@ -10,8 +10,8 @@ use crate::run::{Ends, Run, Stops};
 use bio::End;
 use std::marker::Model;
 
-/// A cause that was shown to its owner: the cause of the first stop, or of the log's end. Contracts
-/// see the cause. Only `QueueState::show_stop` and `LogState::place` make one.
+/// A cause that was shown: the cause of the first stop, or of the log's end. Its value in contracts
+/// is the cause. Only `QueueState::show_stop` and `LogState::place` return one.
 #[derive(Drop)]
 pub struct Shown<W: Whose> {
     cause: End,
@@ -38,7 +38,7 @@ impl<W: Whose> Shown<W> {
         self.cause
     }
 
-    // Shows this cause to a new holder. The keeper has shown no other.
+    // Shows this cause to a new holder. The keeper hasn't shown another cause.
     pub(crate) fn new(keeper: &mut Keeper<W>, cause: End) -> Shown<W>
         requires { IsShown (Some cause) keeper.old }
         ensures shown { IsShown (Some cause) keeper.new }
@@ -48,7 +48,7 @@ impl<W: Whose> Shown<W> {
         Shown::to(holder, keeper, cause)
     }
 
-    // Shows this cause to the holder. The keeper has shown no other.
+    // Shows this cause to the holder. The keeper hasn't shown another cause.
     fn to(holder: Holder<W>, keeper: &mut Keeper<W>, cause: End) -> Shown<W>
         requires { IsShown (Some cause) keeper.old }
         ensures shown { IsShown (Some cause) keeper.new }
@@ -59,7 +59,7 @@ impl<W: Whose> Shown<W> {
         Shown { cause, holder }
     }
 
-    // Confirms that the cause is the one that the keeper shows, if it shows only one. Nothing
+    // Confirms that the keeper shows this cause, if the keeper shows only one cause. Nothing
     // changes.
     pub(crate) fn confirm(&mut self, keeper: &mut Keeper<W>)
         ensures same { (self.new ≡ self.old) × (keeper.new ≡ keeper.old) }
@@ -70,9 +70,9 @@ impl<W: Whose> Shown<W> {
     }
 }
 
-/// The cause of the first stop, if there was one. Contracts see this cause. A keeper knows whether
-/// it was shown to the writer. Unless the cause is Memory, it is that of the log's end, which the
-/// log has shown.
+/// The cause of the first stop, if there was one; this is also the value in contracts. A keeper
+/// knows whether the cause was shown to the writer. Unless the cause is Memory, it is the cause of
+/// the log's end, which the log has shown.
 #[derive(Drop)]
 pub struct FirstStop<R: Run> {
     cause: Option<End>,
@@ -92,7 +92,8 @@ impl<R: Run> Model for FirstStop<R> {
     ghost invariant = { λ s. IsShown s.cause s.keeper × HasStopCause s.cause s.ended };
 }
 
-/// The writer's right to be shown the first stop, once. Contracts see whether it is unused.
+/// The writer's right to be shown the first stop, once. Its value in contracts is whether the right
+/// is unused.
 #[derive(Drop)]
 pub struct StopPart<R: Run> {
     holder: Option<Holder<Stops<R>>>,
@@ -107,7 +108,7 @@ impl<R: Run> Model for StopPart<R> {
 }
 
 impl<R: Run> FirstStop<R> {
-    /// Returns the value without a stop, and the writer's part.
+    /// Returns the value before the first stop, and the writer's right.
     pub fn new(fresh: Fresh) -> (FirstStop<R>, StopPart<R>)
         requires { fresh ≡ R.stops }
         ensures stop { result.0 ≡ None }
@@ -127,15 +128,15 @@ impl<R: Run> FirstStop<R> {
         )
     }
 
-    /// Returns the cause of the first stop.
+    /// Returns the cause of the first stop, if there was one.
     pub fn cause(&self) -> Option<End>
         ensures { result ≡ self.now }
     {
         self.cause
     }
 
-    // Stores the cause of a stop: Memory, or the cause that was shown for the log's end. An earlier
-    // cause is kept.
+    // Stores the cause of a stop: Memory, or the cause of the log's end, which was shown. If there
+    // was an earlier stop, its cause stays.
     pub(crate) fn keep(&mut self, cause: End, ended: Option<Shown<Ends<R>>>)
         requires { (cause ≡ Memory) ⊎ (ended ≡ Some cause) }
         ensures { self.new ≡ first_cause self.old (Some cause) }
@@ -146,8 +147,8 @@ impl<R: Run> FirstStop<R> {
         }
     }
 
-    /// Shows the first stop to the writer. Returns None if there is no stop, or if it was shown
-    /// before.
+    /// Shows the first stop to the writer. Returns None if there is no stop, or if the stop was
+    /// shown before.
     pub fn show(&mut self, mine: &mut StopPart<R>) -> Option<Shown<Stops<R>>>
         ensures same { self.new ≡ self.old }
         ensures shown { IfSome result (λ cause. self.old ≡ Some cause) }
@@ -164,7 +165,7 @@ impl<R: Run> FirstStop<R> {
         Some(Shown::to(holder, &mut self.keeper, cause))
     }
 
-    /// Confirms that what was shown to the writer is the first stop. Nothing changes.
+    /// Confirms that the stop that was shown to the writer is the first stop. Nothing changes.
     pub fn confirm(&mut self, stopped: &mut Shown<Stops<R>>)
         ensures same { (self.new ≡ self.old) × (stopped.new ≡ stopped.old) }
         ensures shown { self.old ≡ Some stopped.old }
@@ -172,7 +173,7 @@ impl<R: Run> FirstStop<R> {
         stopped.confirm(&mut self.keeper);
     }
 
-    // Confirms that the first stop was because memory ran out, or by the log's end. Nothing
+    // Confirms that the first stop came because memory ran out, or by the log's end. Nothing
     // changes.
     pub(crate) fn confirm_cause(&mut self, ends: &mut Keeper<Ends<R>>)
         ensures same { (self.new ≡ self.old) × (ends.new ≡ ends.old) }
@@ -184,7 +185,7 @@ impl<R: Run> FirstStop<R> {
     }
 }
 
-// Returns a number for each cause.
+// Returns the number of a cause.
 fn number_of(cause: End) -> u64
     ensures { result ≡ end_number cause }
 {

@@ -1,6 +1,6 @@
 //! Tests of `log_format`, `pending`, `log_reader`, `log_store`, `recorder` and `replay`, through
-//! their public functions. They are in their own crate, so that the tested crates aren't proved
-//! again with their tests.
+//! their public functions. They are in their own crate, so that a changed test doesn't make the
+//! prover prove the tested crates again.
 #![tactic(auto)]
 
 #[cfg(test)]

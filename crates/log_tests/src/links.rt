@@ -1,10 +1,10 @@
-//! Tests of how many links the core changes, and that it uses its rows again.
+//! Tests of how many links the core changes, and of whether it uses its rows again.
 use bio::{Bio, Id};
 use pending::*;
 use std::alloc::{AllocError, Global};
 use std::test::Fail;
 
-// Submits a discard of one sector.
+// Submits a discard of one sector, and returns its id.
 fn submit(core: &mut Core, sector: u64) -> Result<u64, AllocError> {
     let answer = core.submit(&Bio::Discard {
         first: sector,
@@ -16,7 +16,7 @@ fn submit(core: &mut Core, sector: u64) -> Result<u64, AllocError> {
     }
 }
 
-// Ends the request with the id `place`, if it is open.
+// Ends the request with the id `place` with success, if it is open.
 fn end(core: &mut Core, place: u64) {
     let id = Id::new(place);
     if core.is_open(id) {
@@ -24,8 +24,8 @@ fn end(core: &mut Core, place: u64) {
     }
 }
 
-// Submits `count` requests with the ids from `from` on. Ends them in steps of seven, modulo
-// `count`.
+// Submits `count` discards; their ids are `from` and the next ones. Then ends them in steps of
+// seven, modulo `count`.
 fn end_all(core: &mut Core, from: u64, count: u64) -> Result<(), AllocError> {
     for sector in 0..count {
         submit(core, sector)?;
@@ -45,7 +45,8 @@ fn next_place(core: &mut Core) -> Option<u64> {
     Some(id.place())
 }
 
-// Takes all entries. Returns how many came in the order of their ends, with the flush at the end.
+// Takes `count` entries and one more. Returns how many of them come in the order of their ends,
+// with `flush` last.
 fn take_all(core: &mut Core, from: u64, count: u64, flush: u64) -> u64 {
     let mut right: u64 = 0;
     for number in 0..count {
@@ -76,7 +77,7 @@ fn a_flush_changes_few_links(rt: HostRuntime) -> Result<(), Fail> {
     Ok(())
 }
 
-// Returns the number of rows in the core's chains, counted in its debug text.
+// Returns how many rows the core's chains have. It counts them in the core's debug text.
 fn rows_shown(alloc: Global, core: &Core) -> Result<usize, AllocError> {
     let shown = format!(in alloc; "{core:?}")?;
     let (_, links) = shown.as_str().split_once("next: [").unwrap_or(("", ""));
@@ -84,8 +85,8 @@ fn rows_shown(alloc: Global, core: &Core) -> Result<usize, AllocError> {
     Ok(rows.split(',').count())
 }
 
-// Does `count` rounds: requests end, a flush ends, and all entries are taken. Returns the number of
-// rows after the second and the last round.
+// In each of `count` rounds, `requests` requests end, a flush ends, and all entries are taken.
+// Returns how many rows there are after the second and after the last round.
 fn rounds(alloc: Global, count: u64, requests: u64) -> Result<(usize, usize), AllocError> {
     let mut core = Core::new(alloc)?;
     let mut second = 0;

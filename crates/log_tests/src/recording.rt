@@ -1,4 +1,4 @@
-//! Tests of the core: events, and their completion list.
+//! Tests of the core: how events make the completion list.
 use bio::{Bio, Bytes, End, Id};
 use pending::*;
 use std::alloc::{AllocError, Global};
@@ -6,7 +6,7 @@ use std::process::Abort;
 use std::test::Fail;
 use test_devices::rows_are_told;
 
-// Returns a write of `length` bytes. `flags` has a bit each for flush, FUA and meta.
+// Returns a write of `length` bytes. Bits 0, 1 and 2 of `flags` are flush, FUA and meta.
 fn write(alloc: Global, first: u64, length: usize, flags: u64) -> Result<Bio, AllocError> {
     Ok(Bio::Write {
         first,
@@ -17,7 +17,7 @@ fn write(alloc: Global, first: u64, length: usize, flags: u64) -> Result<Bio, Al
     })
 }
 
-// Returns the request that a word names.
+// Returns the request that a word names. `both` is a write of two sectors with flush.
 fn request(alloc: Global, word: &str, number: u64) -> Result<Bio, AllocError> {
     match word {
         "write" => write(alloc, number, 512, 0),
@@ -35,7 +35,7 @@ fn request(alloc: Global, word: &str, number: u64) -> Result<Bio, AllocError> {
     }
 }
 
-// Returns the id of a submission; a passed one has none.
+// Returns the id of a submission, or the largest number if the request was passed.
 fn place_of(answer: Submitted) -> u64 {
     match answer {
         Submitted::Tracked(id) => id.place(),
@@ -51,7 +51,7 @@ fn end(core: &mut Core, place: u64, ok: bool) {
     }
 }
 
-// Takes all entries, and returns the id, the sectors and the flags of each.
+// Takes all entries. Returns `id first+count flags;` for each.
 fn taken(alloc: Global, core: &mut Core) -> Result<String, AllocError> {
     let mut shown = String::new(alloc);
     for _ in 0..100 {
@@ -70,7 +70,8 @@ fn taken(alloc: Global, core: &mut Core) -> Result<String, AllocError> {
     Ok(shown)
 }
 
-// Records a mark whose text is `length` times `byte`. Returns a text if the mark isn't queued.
+// Records a mark whose text has `length` bytes `byte`. Returns a text only if the mark isn't
+// queued.
 fn marked(alloc: Global, core: &mut Core, byte: u8, length: u64) -> Result<String, AllocError> {
     match core.mark(&Bytes::from_vec(vec![in alloc; byte; length as usize]?)) {
         Ok(Marked::Queued(_)) => Ok(String::new(alloc)),
@@ -79,7 +80,7 @@ fn marked(alloc: Global, core: &mut Core, byte: u8, length: u64) -> Result<Strin
     }
 }
 
-// Takes a step, given its word and its number.
+// Takes a step: a word and its number. Returns what the step shows, if anything.
 fn play(alloc: Global, core: &mut Core, word: &str, number: u64) -> Result<String, AllocError> {
     match word {
         "end" => end(core, number, true),
@@ -101,7 +102,7 @@ fn play(alloc: Global, core: &mut Core, word: &str, number: u64) -> Result<Strin
     Ok(String::new(alloc))
 }
 
-// Takes these steps, and returns what they show.
+// Takes these steps, which are separated by commas, and returns what they show.
 fn play_all(alloc: Global, core: &mut Core, steps: &str) -> Result<String, AllocError> {
     let mut shown = String::new(alloc);
     for step in steps.split(',') {
@@ -112,17 +113,18 @@ fn play_all(alloc: Global, core: &mut Core, steps: &str) -> Result<String, Alloc
     Ok(shown)
 }
 
-// As above, and returns also the number of recorded events.
+// Takes these steps. Returns what they show, and the number of recorded events.
 fn played(alloc: Global, core: &mut Core, steps: &str) -> Result<String, AllocError> {
     let shown = play_all(alloc, core, steps)?;
     format!(in alloc; "{shown}{}", core.events().len())
 }
 
-// Steps, and after `=` what they show. A flush takes what ended before it. A FUA write is queued
-// when it ends, failed or not. It comes after an older write or discard of its sector, and before
-// those of other sectors. A busy core isn't closed. Nothing is queued after a stop. Of two flushes,
-// the one that ends first takes what ended before it was submitted, also if it has data. Recording
-// goes on after a take. A mark waits for nothing.
+// Rows `steps=what they show`: `take` shows `id first+count flags;` for each entry, and the last
+// number counts events. A flush queues what ended before its submission. A FUA write is queued when
+// it ends, even if it fails. It comes after an older write or discard of its sector, and before
+// those of other sectors. A core with an open request can't be closed. Nothing is queued after a
+// stop. If the later of two flushes ends first, it queues what ended before its submission; this
+// holds for a write with flush too. Recording goes on after a take. A mark waits for nothing.
 const ROWS: &str =
     "write 10,write 20,write 30,end 2,end 1,flush,end 0,end 5,close,take=2 30+1 0;1 20+1 0;5 0+0 1;0 10+1 0;8 0+0 8;9
 fua 5,fail 0,take,take=0 5+1 2;2
@@ -155,15 +157,15 @@ fn next_place(core: &mut Core) -> Option<u64> {
     Some(id.place())
 }
 
-// Submits a write of sector `sector`, and ends it.
+// Submits a write of sector `sector`, and ends it with success.
 fn write_one(alloc: Global, core: &mut Core, sector: u64, flags: u64) -> Result<(), AllocError> {
     let place = place_of(core.submit(&write(alloc, sector, 512, flags)?)?);
     end(core, place, true);
     Ok(())
 }
 
-// When 8,192 writes wait, a FUA write takes the one of the same sector with it, or none if no write
-// of that sector waits.
+// While 8,192 writes wait, a FUA write queues the waiting write of its own sector before itself. It
+// queues no other write.
 fn check_many(rt: &impl Abort, alloc: Global, core: &mut Core) -> Result<(), Fail> {
     for sector in 0..8192 {
         write_one(alloc, core, sector, 0)?;
@@ -182,7 +184,7 @@ fn one_of_many_is_taken(rt: HostRuntime) -> Result<(), Fail> {
     check_many(&rt, rt.alloc(), &mut Core::new(rt.alloc())?)
 }
 
-// Returns a request of the mix. Only with `flushes` it may be a flush, or a write with flush.
+// Returns a random request of the mix. It may be a flush or a write with flush only if `flushes`.
 fn mixed(alloc: Global, random: u64, flushes: bool) -> Result<Bio, AllocError> {
     match random % 4096 {
         0..64 if flushes => Ok(Bio::Flush),
@@ -196,8 +198,7 @@ fn mixed(alloc: Global, random: u64, flushes: bool) -> Result<Bio, AllocError> {
     }
 }
 
-// Submits `count` requests of the mix, and ends some of the open ones, so that at most 200 stay
-// open.
+// Submits `count` requests of the mix, and ends some, so that at most 200 are open.
 fn submit_mixed(
     alloc: Global,
     core: &mut Core,
@@ -220,8 +221,8 @@ fn submit_mixed(
     Ok(())
 }
 
-// Records requests of the mix, some without flushes and some with them, and marks. Ends all of
-// them, and closes.
+// Records requests of the mix: some without flushes, many with flushes, and some without. Then
+// records marks, ends all requests, and closes.
 fn record_mix(alloc: Global, core: &mut Core) -> Result<(), Fail> {
     let mut open = Vec::new(alloc);
     submit_mixed(alloc, core, &mut open, 2_000, false)?;
@@ -244,8 +245,8 @@ fn mark_often(alloc: Global, core: &mut Core) -> Result<(), Fail> {
     Ok(())
 }
 
-// In a long mix, with 200 requests open at a time and many waiting, none is refused, and all
-// entries are taken.
+// Records a long mix, with up to 200 requests open at a time and many waiting. Checks that none is
+// refused, and that all entries are taken.
 fn check_mix(rt: &impl Abort, alloc: Global, core: &mut Core) -> Result<(), Fail> {
     record_mix(alloc, core)?;
     assert!(rt; core.events().len() == 58_001);

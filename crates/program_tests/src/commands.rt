@@ -13,8 +13,8 @@ use test_devices::{Folder, OneFile, holds, is_told};
 // A script of a write, a flush and a close.
 const FIRST: &str = "data 16\nlog 32\nw a 5 1 41\nc a\nf b\nc b\nclose\n";
 
-/// Executes a command line, which is given without the program's name, with these files. Returns
-/// its status, its output and its faults, separated by `|`, with `;` for each line feed.
+/// Runs a command line, without the program's name, on these files. Returns `status|output|errors`,
+/// with `;` for each line feed.
 pub fn output_of<F: Files>(
     rt: &(impl Threads + Wait + Sync),
     alloc: Global,
@@ -42,7 +42,7 @@ fn words_of<'a>(alloc: Global, line: &'a str) -> Result<Vec<&'a str>, AllocError
     Ok(words)
 }
 
-// Returns a status, an output and faults as one text.
+// Returns `status|output|errors`, with `;` for each line feed.
 fn told(alloc: Global, status: u8, out: &[u8], err: &[u8]) -> Result<String, Fail> {
     let out = str::from_utf8(out).unwrap_or_default();
     let err = str::from_utf8(err).unwrap_or_default();
@@ -67,13 +67,13 @@ pub fn folder_of(alloc: Global, script: &str) -> Result<Folder, AllocError> {
     Ok(folder)
 }
 
-// Command lines over a script of a write, a flush and a close, and the output of each.
+// Rows `command line=its output` for the script `FIRST`; `;` is a line feed.
 const OUTPUTS: &str = "record script log=a ok;b ok;3 4;
 list log=super version 1 entries 3 sectorsize 512;0 @1 write 5+1;1 @3 flush;2 @4 mark dm-log-writes-end;
 status log=3 4;";
 
-// Checks that a command line is done and prints this output; or that it fails, and reports nothing,
-// a lack of memory or an unusable file.
+// Checks that the command line prints the output `wanted`, and ends with 0. It may also fail, and
+// print nothing else than a lack of memory or an unusable file.
 fn check_output<F: Files>(
     rt: &(impl Abort + Print + Threads + Wait + Sync),
     alloc: Global,
@@ -93,7 +93,7 @@ fn check_output<F: Files>(
     Ok(())
 }
 
-// As above, for each row of `OUTPUTS`.
+// Runs each row of `OUTPUTS`, and checks it as `check_output` does.
 fn check_outputs<F: Files>(
     rt: &(impl Abort + Print + Threads + Wait + Sync),
     alloc: Global,
@@ -106,15 +106,15 @@ fn check_outputs<F: Files>(
     Ok(())
 }
 
-// If an allocation fails (`rt try --test --fail-alloc N`), the command fails, and no other fault is
-// reported.
+// Even if an allocation fails (`rt try --test --fail-alloc N`), each row passes: the command then
+// fails, and reports no other fault.
 #[test]
 fn shows_want_of_memory(rt: HostRuntime) -> Result<(), Fail> {
     let mut folder = folder_of(rt.alloc(), FIRST)?;
     check_outputs(&rt, rt.alloc(), &mut folder)
 }
 
-// Records the script in a folder, and returns the log.
+// Records the folder's script, and returns the log's bytes.
 fn log_of(
     rt: &(impl Threads + Wait + Sync),
     alloc: Global,
@@ -124,7 +124,7 @@ fn log_of(
     Ok(Vec::from_slice(alloc, folder.bytes("log").unwrap_or_default())?)
 }
 
-// Checks that a command line ends with a status.
+// Checks a command's exit status, given as `0|` or `1|`.
 fn check_status<F: Files>(
     rt: &(impl Abort + Print + Threads + Wait + Sync),
     alloc: Global,
@@ -137,7 +137,8 @@ fn check_status<F: Files>(
     Ok(())
 }
 
-// As above, for an image of `length` bytes.
+// Checks the exit status of a command, as `check_status` does, if its image seems to have `length`
+// bytes.
 fn check_length(
     rt: &(impl Abort + Print + Threads + Wait + Sync),
     alloc: Global,
@@ -151,7 +152,7 @@ fn check_length(
     check_status(rt, alloc, &mut files, line, status)
 }
 
-// An image may have 2^29 bytes, but not more.
+// An image may have 2^29 bytes, but not one more.
 #[test]
 fn refuses_a_longer_image(rt: HostRuntime) -> Result<(), Fail> {
     let alloc = rt.alloc();
@@ -194,7 +195,7 @@ fn tells_a_fault_in_one_write(rt: HostRuntime) {
     assert!(rt; ended.exit.status() == 1 && session.err.writes == 1);
 }
 
-// Rows of the page of the formats: the exit statuses, and numbers and names of refusals.
+// Texts that the page of `dmlw help formats` must contain, one in each line.
 const ROWS: &str = "| 0 | done |
 | 1 | refused: a line on standard error says by which number and name;
 | 2 | the command line isn't one of the program's |
@@ -223,8 +224,8 @@ fn session_of_nothing(alloc: Global) -> Session<OneFile<'static>, Vec<u8>, Vec<u
     }
 }
 
-// The page of the formats is printed unchanged (`bench/outside.py` compares it with
-// docs/FORMATS.md).
+// `dmlw help formats` prints the page. This checks some texts of it; `bench/outside.py` compares
+// all of it with docs/FORMATS.md.
 #[test]
 fn prints_the_formats(rt: HostRuntime) {
     let mut session = session_of_nothing(rt.alloc());
@@ -236,14 +237,14 @@ fn prints_the_formats(rt: HostRuntime) {
     check_page(&rt, page);
 }
 
-// Checks that the page has each of these rows.
+// Checks that the page contains each text of `ROWS`.
 fn check_page(rt: &(impl Abort + Print), page: &str) {
     for row in ROWS.split('\n') {
         assert!(rt; holds(rt, page.contains(row), row));
     }
 }
 
-// A command line without words isn't one of the program's.
+// If the command line has no words, the help goes to standard error, and the status is 2.
 #[test]
 fn shows_help_where_no_word_is_given(rt: HostRuntime) {
     let mut session = session_of_nothing(rt.alloc());
@@ -252,7 +253,7 @@ fn shows_help_where_no_word_is_given(rt: HostRuntime) {
     assert!(rt; ended.exit.status() == 2 && session.out.is_empty() && !session.err.is_empty());
 }
 
-// Returns the exit status if the words can't be read for a reason of this kind.
+// Returns the exit status for command line words that can't be read because of `kind`.
 fn refused(alloc: Global, kind: io::ErrorKind, err: &mut Vec<u8>) -> u8 {
     refuse(alloc, io::Error::from(kind), err)
 }
@@ -268,7 +269,7 @@ fn refuses_unreadable_words(rt: HostRuntime) {
     assert!(rt; err.as_slice() == shown.as_bytes());
 }
 
-// Checks the reasons that `--explain` prints for files that can't be read.
+// Checks what `--explain` prints if a file doesn't exist, and if a log would replace its script.
 fn check_reasons<F: Files>(
     rt: &(impl Abort + Print + Threads + Wait + Sync),
     alloc: Global,
@@ -291,7 +292,7 @@ fn check_reasons<F: Files>(
     Ok(())
 }
 
-// The system's reasons are printed.
+// `--explain` prints the system's reasons.
 #[test]
 fn explains_files(rt: HostRuntime) -> Result<(), Fail> {
     let mut files = HostFiles::new(&rt, rt.alloc());

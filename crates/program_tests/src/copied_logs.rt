@@ -1,5 +1,5 @@
-// Tests on generated scripts: each prefix of a copied log replays to the same content as the same
-// prefix of the old log.
+// Tests on generated scripts. A log with sectors of 512 bytes is copied to one with sectors of
+// 4,096. Each prefix of the copy replays to the same content as the same prefix of the first log.
 use crate::crashed_logs::{SECTORS, Sizes, log_of, script_of};
 use bio::SectorSize;
 use blockdev::BlockDev;
@@ -13,13 +13,13 @@ use std::process::Abort;
 use std::test::Fail;
 use test_devices::is_same;
 
-// Logs with sectors of 512 bytes, in which each request covers whole sectors of 4,096 bytes.
+// The log has sectors of 512 bytes. Each request covers whole units of 4,096 bytes.
 const WIDE: Sizes = Sizes {
     log: SectorSize::B512,
     unit: 8,
 };
 
-// Returns the copy of a log, in sectors of 4,096 bytes, with as many entries as the log has.
+// Returns a copy of a log, with sectors of 4,096 bytes and the same number of entries.
 fn copy_of<L: BlockDev + Drop>(
     rt: &impl Abort,
     alloc: Global,
@@ -38,8 +38,7 @@ fn copy_of<L: BlockDev + Drop>(
     )
 }
 
-// Replays both logs one entry after another, each on a disk of zeroes, and compares the disks after
-// each.
+// Replays both logs, each on its own disk of zeroes. Compares the two disks after each entry.
 fn compare<L: BlockDev + Drop, M: BlockDev + Drop>(
     rt: &impl Abort,
     alloc: Global,
@@ -58,7 +57,7 @@ fn compare<L: BlockDev + Drop, M: BlockDev + Drop>(
     Ok(count)
 }
 
-// Returns the number of prefixes that were compared for the log of a seed.
+// Compares the log of a seed's script with its copy. Returns how many prefixes were compared.
 fn compare_seed(rt: &(impl Abort + Print), alloc: Global, seed: u64) -> Result<u64, Fail> {
     let steps = script_of(alloc, seed)?;
     let mut copied = log_of(rt, alloc, &steps, WIDE)?;

@@ -1,6 +1,6 @@
-// Tests on generated scripts under layers, which crash at each of their lines. The log that is left
-// is listed without a fault. Each prefix of it replays to an image that the judge allows at one
-// moment at least.
+// Tests on generated scripts with layers. Each script is crashed after each of its lines. The log
+// that the crash leaves is listed without a fault. Each prefix of it replays to an image that the
+// judge allows at one moment at least.
 use crate::commands::{folder_of, output_of};
 use std::alloc::{AllocError, Global};
 use std::io::Print;
@@ -10,8 +10,8 @@ use std::test::Fail;
 use std::thread::Threads;
 use test_devices::{Folder, Numbers, holds};
 
-// The heads of scripts: disks, layers that may fail or drop calls, and messages. No layer of a log
-// lies.
+// The heads of scripts: disks, layers that may fail or drop calls, and messages. No layer drops
+// calls of the log.
 const HEADS: [&str; 7] = [
     "data 6\nlog 40\n",
     "data 6\nlog 40\nlog-layer 0 40 fuse disk 0 9\n",
@@ -22,9 +22,10 @@ const HEADS: [&str; 7] = [
     "data 6\nlog 12\nlog-layer 0 12 fuse disk 0 30\nlog-layer 0 11 linear disk 0\n",
 ];
 
-// The number of sectors that a script's requests use, and the number of lines after its head.
+// The requests of a script use only the first `SECTORS` sectors.
 const SECTORS: u64 = 6;
 
+// A script has this many lines after its head.
 const LINES: u64 = 12;
 
 // Returns a line that submits the request with the id `id`.
@@ -46,7 +47,7 @@ fn submission(alloc: Global, numbers: &mut Numbers, id: u64) -> Result<String, A
     }
 }
 
-// Returns the next line of a script, if the requests in `open` are open.
+// Returns the next line of a script. It may end one of the requests in `open`.
 fn next_line(
     alloc: Global,
     numbers: &mut Numbers,
@@ -79,7 +80,7 @@ fn lines_of(alloc: Global, numbers: &mut Numbers) -> Result<Vec<String>, AllocEr
     Ok(lines)
 }
 
-// Returns a script with only its first lines, and a crash after them.
+// Returns a script that has this head and these lines, and then crashes.
 fn crashed(
     alloc: Global,
     numbers: &mut Numbers,
@@ -94,7 +95,7 @@ fn crashed(
     Ok(text)
 }
 
-// Appends a crash with some picks.
+// Appends a `crash` line with at most 7 random picks.
 fn push_crash(alloc: Global, numbers: &mut Numbers, text: &mut String) -> Result<(), AllocError> {
     text.push_str("crash")?;
     for _ in 0..numbers.below(8) {
@@ -104,15 +105,15 @@ fn push_crash(alloc: Global, numbers: &mut Numbers, text: &mut String) -> Result
     Ok(())
 }
 
-// The counts of all cases.
+// The counts over all scripts.
 #[derive(Debug, Drop)]
 struct Seen {
-    // The logs that were found after a crash, and their prefixes.
+    // How many logs were found after a crash, and how many of their prefixes were judged.
     logs: u64,
     beginnings: u64,
 }
 
-// Returns whether the verdict on the image is yes at one of the `moments`.
+// Returns whether `judge` allows the image at one of the moments 0 to `moments`.
 fn is_held(
     rt: &(impl Threads + Wait + Sync),
     alloc: Global,
@@ -128,7 +129,7 @@ fn is_held(
     Ok(false)
 }
 
-// Returns a folder with a script, and an image of zeroes.
+// Returns a folder with the script, and with the file `zeroes`: 6 sectors of zeroes.
 fn folder_with_zeroes(alloc: Global, script: &str) -> Result<Folder, AllocError> {
     let zeroes = vec![in alloc; 0; 3072]?;
     let mut folder = folder_of(alloc, script)?;
@@ -136,7 +137,7 @@ fn folder_with_zeroes(alloc: Global, script: &str) -> Result<Folder, AllocError>
     Ok(folder)
 }
 
-// Replays the first `count` entries of the log, and judges the image.
+// Replays the first `count` entries of the log over zeroes, and checks that the image is allowed.
 fn judge_beginning(
     rt: &(impl Abort + Print + Threads + Wait + Sync),
     alloc: Global,
@@ -151,7 +152,8 @@ fn judge_beginning(
     Ok(())
 }
 
-// Records a script that ends with a crash. Replays and judges each prefix of the log that is left.
+// Records a script that ends with a crash. Replays and judges each prefix of the log that the crash
+// leaves.
 fn force(
     rt: &(impl Abort + Print + Threads + Wait + Sync),
     alloc: Global,
@@ -171,7 +173,7 @@ fn force(
     Ok(())
 }
 
-// Runs the script of a seed, crashed at each of its lines.
+// Crashes the script of a seed after each of its lines, and checks what is left.
 fn force_seed(
     rt: &(impl Abort + Print + Threads + Wait + Sync),
     alloc: Global,

@@ -1,4 +1,4 @@
-// Tests of the system's files.
+// Tests of files of the operating system.
 ghost use Rattle.std.specs.Prelude.{◌<◌, ◌≤◌};
 
 use bio::Ms;
@@ -56,7 +56,7 @@ pub(crate) fn has_bytes(alloc: Global, image: &Image, bytes: &[u8]) -> bool {
     }
 }
 
-// Checks that a file is replaced by a shorter one, and that it is read unless it is too long.
+// Checks that a shorter file replaces a longer one, and that a file that is too long isn't read.
 fn check_lengths<F: Files>(
     rt: &impl Abort,
     alloc: Global,
@@ -71,8 +71,8 @@ fn check_lengths<F: Files>(
     Ok(())
 }
 
-// Checks that the image of a disk is written, and reads back the same. It has several pieces. All
-// bytes are zeroes, except for one sector that is filled with `byte`.
+// Writes a disk's image and reads it again. The disk's bytes are zeroes, except for sector
+// `sector`, which is filled with `byte`. The image is written in several pieces.
 fn check_written<F: Files>(
     rt: &impl Abort,
     alloc: Global,
@@ -91,8 +91,8 @@ fn check_written<F: Files>(
     Ok(())
 }
 
-// Checks that an image has its zeroes before, between and after other bytes, though zeroes aren't
-// written.
+// Checks that an image reads back with its zeroes before, between and after other bytes, though a
+// write skips zeroes.
 fn check_zeroes<F: Files>(
     rt: &impl Abort,
     alloc: Global,
@@ -106,8 +106,8 @@ fn check_zeroes<F: Files>(
     check_written(rt, alloc, files, name, 1499, 7)
 }
 
-// Checks that a write leaves no other file in the folder. A file that doesn't exist, or whose
-// folder doesn't exist, is refused.
+// Checks that a write leaves no temporary file. A read fails if the file or its folder doesn't
+// exist.
 fn check_gone<R: std::rt::Files + Abort, F: Files>(
     rt: &R,
     alloc: Global,
@@ -143,7 +143,7 @@ fn files_are_read_as_they_were_written(rt: HostRuntime) -> Result<(), Fail> {
     )
 }
 
-// Makes a file with a mode that isn't the default, and a link to it.
+// Makes the file `name` with the mode 640, and a link to it.
 fn link_to<R: std::rt::Files>(runtime: &R, name: &str, link: &str) -> io::Result<()> {
     fs::write(runtime, name, b"old".as_slice())?;
     let mut mode = fs::metadata(runtime, name)?.permissions();
@@ -157,7 +157,8 @@ fn mode_of<R: std::rt::Files>(runtime: &R, name: &str) -> io::Result<u32> {
     Ok(fs::metadata(runtime, name)?.permissions().mode() % 0o1000)
 }
 
-// Checks that a link stays, and that its target is replaced and keeps its mode.
+// Writes to a link. Checks that it is still a link, and that its target has the new bytes and the
+// old mode.
 fn check_link<R: std::rt::Files + Abort, F: Files>(
     rt: &R,
     alloc: Global,
@@ -173,7 +174,7 @@ fn check_link<R: std::rt::Files + Abort, F: Files>(
     Ok(())
 }
 
-// Checks that a link that leads to no file is refused, and that a device is written directly.
+// Checks writes through a link. A link to no file is refused, and a device is written directly.
 fn check_links<R: std::rt::Files + Abort, F: Files>(
     rt: &R,
     alloc: Global,
@@ -202,7 +203,8 @@ fn links_and_modes_are_kept(rt: HostRuntime) -> Result<(), Fail> {
     )
 }
 
-// Checks that a write doesn't change another program's file in the same folder.
+// Checks that a write leaves another program's file alone, though that file has the temporary
+// file's usual name.
 fn check_beside<R: std::rt::Files + Abort, F: Files>(
     rt: &R,
     alloc: Global,
@@ -223,8 +225,7 @@ fn files_beside_are_kept(rt: HostRuntime) -> Result<(), Fail> {
     check_beside(&rt, rt.alloc(), &mut HostFiles::new(&rt, rt.alloc()))
 }
 
-// A file of a file system in memory is a regular file: it is replaced, though its name begins with
-// /dev/.
+// A file under /dev/shm is a regular file, so it is replaced, though its name begins with /dev/.
 #[test]
 fn files_in_memory_are_replaced(rt: HostRuntime) -> Result<(), Fail> {
     let alloc = rt.alloc();

@@ -9,7 +9,7 @@ use std::test::Fail;
 use std::thread::Threads;
 use test_devices::holds;
 
-// The entries of the log that a whole run of the script below leaves, as they are listed.
+// How `list` prints all entries of the script in `layered`, if no layer fails a call.
 const WHOLE: &str = "0 @1 write 5+1;1 @3 flush;2 @4 mark dm-log-writes-end;";
 
 const LOWER: [&str; 4] = [
@@ -19,14 +19,15 @@ const LOWER: [&str; 4] = [
     "0 32 fuse disk 0 7",
 ];
 
-// Returns a script with the log's disk under two layers and a fuse of `calls` calls.
+// Returns a script whose log has three layers: the two layers `first` and `second`, and a fuse of
+// `calls` calls over both.
 fn layered(alloc: Global, first: &str, second: &str, calls: u64) -> Result<String, Fail> {
     Ok(format!(in alloc;
         "data 16\nlog 32\nlog-layer {first}\nlog-layer {second}\nlog-layer 0 32 fuse disk 0 {calls}\nw a 5 1 41\nc a\nf b\nc b\nclose\n"
     )?)
 }
 
-// Returns whether a listing has its first line and then a prefix of the whole list.
+// Returns whether a listing has a first line, and after it a prefix of `WHOLE`.
 fn is_beginning(listed: &str) -> bool {
     match listed.split_once(';') {
         Some((_super, entries)) => WHOLE.starts_with(entries),
@@ -34,7 +35,7 @@ fn is_beginning(listed: &str) -> bool {
     }
 }
 
-// Checks that the log under these two layers and a fuse of `calls` calls lists a prefix.
+// Checks that the log under these two layers and a fuse of `calls` calls lists a prefix of `WHOLE`.
 fn check_layers(
     rt: &(impl Abort + Print + Threads + Wait + Sync),
     alloc: Global,
@@ -48,8 +49,8 @@ fn check_layers(
     Ok(())
 }
 
-// Each layer over each other layer, and a fuse of 0 to 6 calls over both: if the log could be made,
-// its entries are a prefix of the whole list.
+// Any two layers lie under a fuse of 0 to 6 calls. If the log could be made, its entries are a
+// prefix of `WHOLE`.
 #[test]
 fn layers_leave_beginnings(rt: HostRuntime) -> Result<(), Fail> {
     let alloc = rt.alloc();
@@ -63,8 +64,8 @@ fn layers_leave_beginnings(rt: HostRuntime) -> Result<(), Fail> {
     Ok(())
 }
 
-// Records a script, and returns the listing of its log. If the log couldn't be made, returns the
-// whole list.
+// Records a script, and returns the listing of its log. If the log's device refused the log,
+// returns a listing of all entries.
 fn listed_of(
     rt: &(impl Threads + Wait + Sync),
     alloc: Global,
@@ -73,7 +74,7 @@ fn listed_of(
     list_after(rt, alloc, &mut folder_of(alloc, script)?)
 }
 
-// As above, for the script of some files.
+// Records the file `script` among `files`, and lists its log, as `listed_of` does.
 fn list_after<F: Files>(
     rt: &(impl Threads + Wait + Sync),
     alloc: Global,

@@ -1,7 +1,7 @@
-//! Tests of the program that only code can make: with the system's files, with lack of memory, with
-//! sizes that no file of a test has, and with generated scripts. Also tests of public functions
-//! whose results no command shows as a whole. Transcripts (`transcripts`) test what a command
-//! prints and writes.
+//! Tests of the program that a transcript can't make: with the system's files, with lack of memory,
+//! with long images, and with generated scripts. Also tests of public functions whose results no
+//! command shows as a whole. Transcripts (crate `transcripts`) test what a command prints and
+//! writes.
 #![tactic(auto)]
 
 #[cfg(test)]

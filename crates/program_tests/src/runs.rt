@@ -9,7 +9,7 @@ use std::process::Abort;
 use std::test::Fail;
 use test_devices::rows_are_told;
 
-// Returns the text of a script with these lines after its first line.
+// Returns a script's text: the line `data 16`, and then `lines`, which are separated by commas.
 fn text_of(alloc: Global, lines: &str) -> Result<String, AllocError> {
     let mut text = String::from_str(alloc, "data 16\n")?;
     for line in lines.split(",") {
@@ -19,13 +19,13 @@ fn text_of(alloc: Global, lines: &str) -> Result<String, AllocError> {
     Ok(text)
 }
 
-// Records the script of a text. Returns what it prints, and how it ended.
+// Records the script of a text. Returns what is printed, and then the result of the run.
 fn run_text(rt: &impl Abort, alloc: Global, text: &str) -> Result<String, Fail> {
     let script = read_script(alloc, text.as_bytes())?;
     told(rt, alloc, text, &script)
 }
 
-// As above, for a parsed script.
+// Records a parsed script, and returns what `run_text` returns.
 fn told(rt: &impl Abort, alloc: Global, text: &str, script: &Script) -> Result<String, Fail> {
     let mut out = Vec::new(alloc);
     let done = record(alloc, text.as_bytes(), script, &mut out);
@@ -34,7 +34,8 @@ fn told(rt: &impl Abort, alloc: Global, text: &str, script: &Script) -> Result<S
     Ok(format!(in alloc; "{out}{ended}")?)
 }
 
-// Returns the result of a run, whose log has `sectors` sectors, as text: the status or the fault.
+// Returns the result of a run as text: the status or the fault. The log's disk must have `sectors`
+// sectors.
 fn ended_text(
     rt: &impl Abort,
     alloc: Global,
@@ -50,7 +51,7 @@ fn ended_text(
     }
 }
 
-// Scripts are recorded: the image has the size of the log's disk, and the status is returned.
+// `record` returns a disk of the log's size, and the status.
 #[test]
 fn scripts_are_run(rt: HostRuntime) -> Result<(), Fail> {
     let alloc = rt.alloc();
@@ -62,8 +63,8 @@ fn scripts_are_run(rt: HostRuntime) -> Result<(), Fail> {
     Ok(())
 }
 
-// Scripts of the same form, and after `=` the number of events that they leave, or the fault. A
-// Close ends recording and a Stop ends logging; later lines leave no event.
+// Rows `lines of a script=the number of its events`, or its fault after `=`; commas separate lines.
+// A Close ends recording and a Stop ends logging; later lines make no event.
 const REHEARSALS: &str = "log 32,r 5 1,turn,at 7=0
 log 32,w a 5 1 41,c a,f b,c b,close=5
 log 32,w a 5 1 41,c a,d b 4 1,mark here,c b=5
@@ -73,7 +74,8 @@ log 32,close,close,mark late=1
 log 32,w a 5 1 41,c a,w b 6 1 42,close=line 6: 24 Busy
 log 32,log-layer 0 32 error,w a 5 1 41=19 Device";
 
-// Rehearses the script of a text. Returns the number of its events, or the fault, as text.
+// Runs a script only for its events (`events_of_run`). Returns how many there are, or the fault, as
+// text.
 fn rehearsed(alloc: Global, text: &str) -> Result<String, Fail> {
     match count_events(alloc, text)? {
         Ok(count) => Ok(count.to_string(alloc)?),
@@ -81,7 +83,7 @@ fn rehearsed(alloc: Global, text: &str) -> Result<String, Fail> {
     }
 }
 
-// As above, but returns a number or an error.
+// Parses and runs a script for its events, and returns their number or the error.
 fn count_events(alloc: Global, text: &str) -> Result<Result<usize, RunError>, Fail> {
     let script = read_script(alloc, text.as_bytes())?;
     let rehearsed = events_of_run(alloc, text.as_bytes(), &script);
@@ -101,7 +103,7 @@ fn scripts_are_rehearsed(rt: HostRuntime) -> Result<(), Fail> {
     Ok(())
 }
 
-// A long script can be rehearsed.
+// A script of 6,000 lines gives all of its 6,000 events.
 #[test]
 fn long_scripts_are_rehearsed(rt: HostRuntime) -> Result<(), Fail> {
     let alloc = rt.alloc();

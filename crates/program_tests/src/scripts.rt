@@ -1,5 +1,4 @@
-//! Tests of what a script and a table line are parsed as, field by field, and of texts of any
-//! length.
+//! Tests of how scripts and table lines are parsed, field by field, and of texts of any length.
 use dmlw_script::{print_script, *};
 use layer_table::{TableError, parse_line};
 use std::alloc::{AllocError, Global};
@@ -8,7 +7,7 @@ use std::process::Abort;
 use std::test::Fail;
 use test_devices::{is_told, rows_are_told};
 
-// Returns the result of parsing a text: the printed script, or the fault.
+// Parses a text as a script. Returns the script's canonical text, or the fault.
 fn answer(alloc: Global, text: &[u8]) -> Result<String, AllocError> {
     match read_script(alloc, text) {
         Ok(script) => printed(alloc, &script),
@@ -24,8 +23,8 @@ fn printed(alloc: Global, script: &Script) -> Result<String, AllocError> {
     }
 }
 
-// Returns the sizes of a script's disks, its names and its number of commands, as text; also the
-// numbers of the lines that have command 4 and command 5, counted from 0.
+// Returns the sizes of the two disks, each name with its length, and the number of commands. The
+// last two values are the line numbers of the commands with the indexes 4 and 5.
 fn parts_of(alloc: Global, text: &[u8], script: &Script) -> Result<String, AllocError> {
     let mut names = String::new(alloc);
     for name in script.names() {
@@ -41,7 +40,7 @@ fn parts_of(alloc: Global, text: &[u8], script: &Script) -> Result<String, Alloc
     )
 }
 
-// Checks that a script without a crash has these parts.
+// Checks that a script has no crash, and that `parts_of` returns `wanted`.
 fn check_parts(
     rt: &(impl Abort + Print),
     alloc: Global,
@@ -63,7 +62,7 @@ fn first_run(rt: HostRuntime) -> Result<(), Fail> {
     check_parts(&rt, alloc, text, &script, "16 32 a1 b1 5 Some(10) None")
 }
 
-// A crash has picks. Its line is no command.
+// The picks of a crash are parsed. The crash isn't one of the script's commands.
 #[test]
 fn crashes_end_scripts(rt: HostRuntime) -> Result<(), Fail> {
     let alloc = rt.alloc();
@@ -73,13 +72,13 @@ fn crashes_end_scripts(rt: HostRuntime) -> Result<(), Fail> {
     Ok(())
 }
 
-// Checks that a script has one command, and ends with a crash with these picks.
+// Checks that a script has one command, and a crash with the picks `wanted`.
 fn check_crash(rt: &impl Abort, script: &Script, wanted: &[u64]) {
     let picks = script.crash().expect(rt, "a crash");
     assert!(rt; picks == wanted && script.commands().len() == 1);
 }
 
-// Returns a script of many requests, and of a crash with many picks.
+// Returns a script with 20,000 flushes, and a crash with 3,000 picks.
 fn long_script(alloc: Global) -> Result<String, AllocError> {
     let mut text = String::from_str(alloc, "data 16\nlog 32\n")?;
     for number in 0..20_000 {
@@ -111,13 +110,13 @@ fn count_marked(script: &Script) -> usize {
     total
 }
 
-// As above, for the script of a text.
+// Parses a text as a script, and returns the total length of its marks' texts.
 fn marked_in(alloc: Global, text: &[u8]) -> Result<usize, Fail> {
     let script = read_script(alloc, text)?;
     Ok(count_marked(&script))
 }
 
-// Returns a script of marks of these lengths.
+// Returns a script with marks of 0 to 70,000 letters.
 fn script_of_marks(alloc: Global) -> Result<String, AllocError> {
     let mut text = String::from_str(alloc, "data 16\nlog 32\n")?;
     for length in [0, 1, 479, 480, 600, 70_000] {
@@ -128,7 +127,7 @@ fn script_of_marks(alloc: Global) -> Result<String, AllocError> {
     Ok(text)
 }
 
-// Appends `count` letters x.
+// Appends `count` times the letter x.
 fn push_often(text: &mut String, count: usize) -> Result<(), AllocError> {
     for _ in 0..count {
         text.push_str("x")?;
@@ -136,7 +135,7 @@ fn push_often(text: &mut String, count: usize) -> Result<(), AllocError> {
     Ok(())
 }
 
-// Marks of any length are parsed, each with its text.
+// A mark of any length is parsed with its whole text, and printed again unchanged.
 #[test]
 fn marks_keep_their_texts(rt: HostRuntime) -> Result<(), Fail> {
     let alloc = rt.alloc();
@@ -146,7 +145,7 @@ fn marks_keep_their_texts(rt: HostRuntime) -> Result<(), Fail> {
     Ok(())
 }
 
-// Returns each message of a script: its disk, its layer, and the length of its text.
+// Returns for each message of a script: its device, its layer, and the length of its text.
 fn messages_of(alloc: Global, script: &Script) -> Result<String, Fail> {
     let mut shown = String::new(alloc);
     for command in script.commands() {
@@ -157,12 +156,12 @@ fn messages_of(alloc: Global, script: &Script) -> Result<String, Fail> {
     Ok(shown)
 }
 
-// As above, for the script of a text.
+// Parses a text as a script, and returns what `messages_of` returns.
 fn messages_read(alloc: Global, text: &[u8]) -> Result<String, Fail> {
     messages_of(alloc, &read_script(alloc, text)?)
 }
 
-// Returns a script of a short message and of a long one.
+// Returns a script with a short message and a message of 70,000 letters.
 fn script_of_messages(alloc: Global) -> Result<String, AllocError> {
     let begun = "data 16\nlog 32\nmessage log 4  up \nmessage data 0 ";
     let mut text = String::from_str(alloc, begun)?;
@@ -170,7 +169,7 @@ fn script_of_messages(alloc: Global) -> Result<String, AllocError> {
     Ok(text)
 }
 
-// A message keeps its disk, its layer and its text, of any length.
+// A message is parsed with its device, its layer and its whole text.
 #[test]
 fn messages_keep_their_words(rt: HostRuntime) -> Result<(), Fail> {
     let text = script_of_messages(rt.alloc())?;
@@ -179,7 +178,8 @@ fn messages_keep_their_words(rt: HostRuntime) -> Result<(), Fail> {
     Ok(())
 }
 
-// Returns the number of lines of a script's head, and the sizes of its disks.
+// Returns how many lines a script's head has; the data disk's sectors, and those of its topmost
+// layer; the number of its layers; and the sectors of the log's topmost layer.
 fn disks_of(alloc: Global, script: &Script) -> Result<String, Fail> {
     let (data, log) = (script.data(), script.log());
     Ok(format!(in alloc;
@@ -192,12 +192,12 @@ fn disks_of(alloc: Global, script: &Script) -> Result<String, Fail> {
     )?)
 }
 
-// As above, for the script of a text.
+// Parses a text as a script, and returns what `disks_of` returns.
 fn disks_read(alloc: Global, text: &[u8]) -> Result<String, Fail> {
     disks_of(alloc, &read_script(alloc, text)?)
 }
 
-// A script may have a layer over each disk.
+// Each disk of a script may have a layer.
 #[test]
 fn disks_have_layers(rt: HostRuntime) -> Result<(), Fail> {
     let text = b"data 16\nlog 32\n\ndata-layer 0 8 linear disk 4\nlog-layer 0 9 error\nat 7\nf a\n";
@@ -207,8 +207,7 @@ fn disks_have_layers(rt: HostRuntime) -> Result<(), Fail> {
     Ok(())
 }
 
-// Table lines, and after `=` the fields that each is parsed as: the target's name is followed by
-// its fields.
+// Rows `table line=the value that it is parsed as`. The value's target has its own fields.
 const VALUES: &str = "0 16 linear a 8=LayerSpec { length: 16, offset: 8, target: Linear }
 0 7 error=LayerSpec { length: 7, offset: 0, target: Error }
 0 9 fuse b 2 3=LayerSpec { length: 9, offset: 2, target: Fuse { calls: 3 } }
@@ -216,7 +215,7 @@ const VALUES: &str = "0 16 linear a 8=LayerSpec { length: 16, offset: 8, target:
 0 9 dust b 2 1024=LayerSpec { length: 9, offset: 2, target: Dust { block_bytes: 1024 } }
 0 9 delay b 2 10 b 2 20 b 2 30=LayerSpec { length: 9, offset: 2, target: Delay { read: 10, write: 20, flush: 30 } }";
 
-// Returns what a line is parsed as.
+// Parses a table line, and returns its value as text.
 fn value_of(alloc: Global, line: &str) -> Result<String, Fail> {
     let spec = parse_line(line.as_bytes())?;
     Ok(format!(in alloc; "{spec:?}")?)
@@ -232,7 +231,7 @@ fn values(rt: HostRuntime) -> Result<(), Fail> {
 const ERRORS: &str =
     "no target of this name\ntoo many words, or too few\na word that is no number\na value out of its range\nno such feature";
 
-// Each error is printed in different words.
+// Each error has its own text.
 #[test]
 fn errors_are_shown(rt: HostRuntime) -> Result<(), Fail> {
     let shown = format!(in rt.alloc();

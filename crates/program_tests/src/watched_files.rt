@@ -1,5 +1,5 @@
-// Tests of the system's files: the bytes that are written, the order of the calls, and files that
-// give their bytes only once, or a few at a time.
+// Tests of files of the operating system: which bytes are written, and in which order calls are
+// made. Some files give their bytes only once, or at most 1,000 at a time.
 use crate::host::{disk_with, has_bytes, holds};
 use dmlw_files::{FileError, FileFailure, Files, HostFiles};
 use sector_disk::Image;
@@ -12,7 +12,7 @@ use std::process::Abort;
 use std::test::Fail;
 use std::{fs, io};
 
-// The kind of call that a runtime fails.
+// The kind of call that a `Watched` runtime fails.
 #[derive(Clone, Copy, PartialEq, Eq)]
 enum Failing {
     Nothing,
@@ -23,16 +23,16 @@ enum Failing {
     Rename,
 }
 
-// What a runtime notes about the calls of its files.
+// What a `Watched` runtime notes about calls of its files.
 #[derive(Drop)]
 struct Noted {
     failing: Failing,
-    // Whether a file was changed since it was synced.
+    // Whether a file was changed after its last sync.
     is_changed: Cell<bool>,
-    // Whether a file was renamed before it was synced.
+    // Whether a file was renamed while it was changed and not synced.
     is_early: Cell<bool>,
     renames: Cell<u64>,
-    // The number of bytes that were written.
+    // How many bytes were written.
     written: Cell<u64>,
 }
 
@@ -47,7 +47,7 @@ impl Noted {
         }
     }
 
-    // Fails a call, if it is of the kind that has to fail.
+    // Fails a call of the kind `failing`.
     fn passes(&self, call: Failing) -> io::Result<()> {
         if self.failing == call {
             return Err(io::Error::from(io::ErrorKind::Other));
@@ -56,18 +56,18 @@ impl Noted {
     }
 }
 
-// The most bytes that a file of the runtime below gives in one read.
+// A read of a `WatchedFile` returns at most this many bytes.
 const SHORT: usize = 1000;
 
 // A runtime that notes the calls of its files. A file whose name ends with `-pipe` isn't a regular
-// file, and is empty after it was opened.
+// file, and gives its bytes only to the first that opens it.
 #[derive(Drop)]
 struct Watched<'a, R: std::rt::Files> {
     runtime: &'a R,
     noted: &'a Noted,
 }
 
-// A file of this runtime.
+// A file of a `Watched` runtime.
 #[derive(Drop)]
 struct WatchedFile<'a, F: Drop> {
     file: F,
@@ -198,9 +198,9 @@ impl<'a, R: std::rt::Files> std::rt::Files for Watched<'a, R> {
     }
 }
 
-// Writes the image of a disk over an older file, and returns whether that succeeded. The image has
-// three pieces; the first and the last are zeroes. If it fails, the older file must stay. No
-// temporary file may be left.
+// Writes the image of a disk over an older file, and returns whether the write succeeded. The image
+// has three pieces; the first and the last are zeroes. If the write fails, the older file must
+// stay. No temporary file may be left.
 fn check_written<R: std::rt::Files + Abort>(
     rt: &R,
     alloc: Global,
@@ -225,8 +225,8 @@ fn check_written<R: std::rt::Files + Abort>(
     Ok(written.is_ok())
 }
 
-// The new file is synced before it is renamed, and is renamed once. Pieces of zeroes aren't
-// written.
+// The new file is synced before it is renamed, and is renamed once. Only the piece that isn't
+// zeroes is written.
 #[test]
 fn files_are_synced_before_they_are_renamed(rt: HostRuntime) -> Result<(), Fail> {
     let noted = Noted::new(Failing::Nothing);
@@ -272,8 +272,8 @@ fn pipes_that_fail_are_reported(rt: HostRuntime) -> Result<(), Fail> {
     check_failing_pipe(&rt, rt.alloc())
 }
 
-// Checks that the old bytes are still found by another name of the old file: the file was replaced,
-// and not truncated or overwritten.
+// Checks that another link to the old file still has the old bytes. So the write replaced the file,
+// and didn't change it in place.
 fn check_replaced<R: std::rt::Files + Abort>(
     rt: &R,
     alloc: Global,
@@ -303,7 +303,8 @@ fn is_read(alloc: Global, found: Result<Image, FileError>, bytes: &[u8]) -> bool
     }
 }
 
-// Checks that the bytes of two pipes can be read again, though both pipes are empty then.
+// Checks that the bytes of two pipes can be read twice, though each pipe is empty after the first
+// read.
 fn check_pipes<R: std::rt::Files + Abort>(rt: &R, alloc: Global) -> Result<(), Fail> {
     let (one, other) = ("dmlw-test-one-pipe", "dmlw-test-one-pipe-other-pipe");
     fs::write(rt, one, b"first".as_slice())?;
@@ -345,8 +346,8 @@ fn regular_files_are_read_anew(rt: HostRuntime) -> Result<(), Fail> {
     Ok(())
 }
 
-// Checks that a pipe of 4 MiB can be read again. A longer pipe can't, and neither can one that was
-// too long for its first read.
+// Checks that a pipe of 4 MiB can be read twice, and a longer pipe only once. If the first read
+// refused a pipe as too long, no later read gets its bytes.
 fn check_long_pipes<R: std::rt::Files + Abort>(rt: &R, alloc: Global) -> Result<(), Fail> {
     let most = "dmlw-test-most-pipe";
     let long = "dmlw-test-long-pipe";
@@ -385,7 +386,7 @@ fn long_pipes_are_read_once(rt: HostRuntime) -> Result<(), Fail> {
     check_long_pipes(&rt, rt.alloc())
 }
 
-// Returns whether a read failed because its file can be read only once.
+// Returns whether a read failed because the file can be read only once.
 fn is_unseekable(failure: Option<&FileFailure>) -> bool {
     match failure {
         Some(FileFailure::Read(error)) => error.kind() == io::ErrorKind::NotSeekable,

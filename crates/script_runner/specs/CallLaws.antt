@@ -1,10 +1,10 @@
--- Laws about what a writer holds after several calls, and about the error of a failed call.
+-- Laws about what a writer holds after two calls, and about the error of a failed call.
 use Rattle.std.proofs.Common.{◌∙◌, ℕ, List, ◌++◌, Option, None, Some, Result, Ok, Err, IfErr}
 use Rattle.std.proofs.Common.{append_assoc, ap, refl}
 use Rattle.std.specs.Result.{IsErrAnd}
 use Rattle.std.specs.Io.KnownBytes.{Appends, Keeps}
 
--- A writer keeps what it holds if that stays the same.
+-- If a writer holds the same as before, it keeps what it held (`Keeps`).
 pub keeps_same : (known : Option (List ℕ)) → Keeps known known
 keeps_same None = tt
 keeps_same (Some bytes) = refl
@@ -18,7 +18,7 @@ appends_twice (Some a) (Some b) None x y first second = absurd second
 appends_twice (Some a) (Some b) (Some c) x y first second =
     second ∙ ap (λ (z : List ℕ). z ++ y) first ∙ append_assoc a x y
 
--- If a writer appends `x`, and then keeps what it holds, it appended `x`.
+-- If a writer appends `x`, and then keeps what it holds, it appended `x` in both calls together.
 pub appends_kept : (a b c : Option (List ℕ)) (x : List ℕ) → Appends a b x → Keeps b c
     → Appends a c x
 appends_kept None b c x first second = tt
@@ -26,14 +26,15 @@ appends_kept (Some a) None c x first second = absurd first
 appends_kept (Some a) (Some b) None x first second = absurd second
 appends_kept (Some a) (Some b) (Some c) x first second = second ∙ first
 
--- If a writer keeps what it holds in two calls, it keeps that in both together.
+-- If a writer keeps what it holds in each of two calls, it does so in both together.
 pub keeps_twice : (a b c : Option (List ℕ)) → Keeps a b → Keeps b c → Keeps a c
 keeps_twice None b c first second = tt
 keeps_twice (Some a) None c first second = absurd first
 keeps_twice (Some a) (Some b) None first second = absurd second
 keeps_twice (Some a) (Some b) (Some c) first second = second ∙ first
 
--- If a call failed with an error that has `Q`, and `Q` implies `P`, its error has `P`.
+-- If a call failed with an error for which `Q` holds, and `Q` implies `P`, then `P` holds for the
+-- error.
 pub on_error : {T E : Type 0} {Q P : E → Type 0} (r : Result T E) → IsErrAnd r Q
     → ((e : E) → Q e → P e) → IfErr r P
 on_error (Ok x) fails follows = absurd fails

@@ -1,4 +1,5 @@
--- The result of recording a script on two disks in memory, each under its layers.
+-- The result of recording a script on two disks in memory, each under the layers that the script
+-- names.
 use Rattle.std.specs.Prelude.{◌≡◌, ℕ, ◌*◌, ◌+◌, ◌<◌, false, List, [], length, replicate, Option}
 use Rattle.std.specs.Prelude.{None, Some}
 use Rattle.std.specs.Io.KnownBytes.{Keeps}
@@ -33,15 +34,15 @@ use Rattle.layer_table.specs.StackMessages.{StackAnswers}
 use Rattle.script_runner.specs.Lines.{answering, Answering}
 use Rattle.script_runner.specs.Runs.{EndsRun, RunsLines}
 
--- A recorder whose log is on a stack: layers over a disk in memory.
+-- A recorder whose log is on a stack, that is, on a disk in memory under layers.
 abbrev pub DiskRecorder : Type 0
 DiskRecorder = Recorder Stack on_stack
 
--- A script's run over two stacks, one for the data and one for the log.
+-- The run of a script on two stacks: one for the data, and one for the log.
 abbrev pub DiskRun : Type 0
 DiskRun = Running Stack Stack on_stack on_stack
 
--- What both stacks of a run answer to messages.
+-- How the two stacks of a run answer messages.
 abbrev pub stack_answering : Answering Stack Stack
 stack_answering = answering StackAnswers StackAnswers
 
@@ -49,29 +50,30 @@ stack_answering = answering StackAnswers StackAnswers
 abbrev pub zeroes : Content
 zeroes sector = replicate 512 0
 
--- `stack` is what `disk` asks for: a new disk of zeroes under its layers. The first layer is the
--- lowest. Each is loaded at time 0 and wasn't called yet.
+-- `stack` is as `disk` asks: a new disk of zeroes under the layers of `disk`, the first of which is
+-- the lowest. Each layer is loaded at time 0, and wasn't called yet.
 pub record IsStackOf (disk : Disk) (stack : Stack) : Type 0 where
   pub blank : Begins disk.sectors zeroes (shown_of (disk_of stack))
   pub layers : layers_of stack ≡ layers_under disk.layers 0 []
   pub over : AreOver disk.layers (shown_of (disk_of stack)) (stack_shown stack)
 
--- `recorder` has recorded nothing yet. Its log was made on the stack that `disk` asks for. The log
--- is empty, and its sectors have `bytes` bytes.
+-- `recorder` has recorded nothing yet. Its log is on a stack as `disk` asks. The log is empty, and
+-- has sectors of `bytes` bytes.
 pub record IsNew (bytes : ℕ) (disk : Disk) (recorder : DiskRecorder) : Type 0 where
   pub stack : Stack
   pub blank : IsStackOf disk stack
   pub begun : IsNewOn bytes stack recorder
 
--- No log with sectors of `bytes` bytes could be made on the stack that `disk` asks for, and `fault`
--- is the reason.
+-- No log with sectors of `bytes` bytes could be made on a stack as `disk` asks, and `fault` says
+-- why.
 pub record IsUnmade (bytes : ℕ) (disk : Disk) (fault : RunError) : Type 0 where
   pub stack : Stack
   pub blank : IsStackOf disk stack
   pub refused : IsUnmadeOn on_stack bytes stack fault
 
--- `run` is a run of `plan` before its first line, at time 0. The data disk, and the new log's disk,
--- are as `plan` asks for them. The log's sectors have the size that `plan` names.
+-- `run` is a run of `plan` before its first line, at time 0. Its data device is a stack as
+-- `plan.data_disk` asks. Its recorder has a new log on a stack as `plan.log_disk` asks, with
+-- sectors of the size that `plan` names.
 pub record Starts (plan : ScriptValue) (run : DiskRun) : Type 0 where
   pub data_disk : IsStackOf plan.data_disk run.disk
   pub log_disk : IsNew (bytes_of plan.log_size) plan.log_disk run.recorder
@@ -79,13 +81,14 @@ pub record Starts (plan : ScriptValue) (run : DiskRun) : Type 0 where
   pub moment : run.moment ≡ 0
   pub short : run.short ≡ false
 
--- What is on `disk`: its content if no picks are given, else what a crash leaves by these picks.
+-- The content that is left on `disk`. Without picks, that is its content; with picks, it is what a
+-- crash with these picks leaves.
 abbrev pub left_on : Option (List ℕ) → SectorDisk → Content
 left_on None disk = (shown_of disk).content
 left_on (Some picks) disk = left_by (cache_of disk) picks
 
--- `status` has the number of placed entries, and the highest sector of 512 bytes that they use (0
--- if there are none). It has the cause that ended logging, if it ended.
+-- `status` counts the placed entries, and has the cause by which logging ended, if it ended. Its
+-- sector is the highest sector of 512 bytes that the entries use, or 0 if there are none.
 pub record IsCounted (status : Status) (recorder : DiskRecorder) : Type 0 where
   pub entries : status.entries ≡ recorder.store.placed
   pub end : status.end ≡ recorder.end
@@ -93,13 +96,13 @@ pub record IsCounted (status : Status) (recorder : DiskRecorder) : Type 0 where
   pub last : 0 < recorder.store.placed
       → status.sector + 1 ≡ recorder.store.next * sectors_per (core_of recorder).sector_bytes
 
--- The content of the top layer of `disk`, if the disk below its layers has the bytes `image`.
+-- The content of the topmost layer of `disk`, if the disk below the layers has the bytes `image`.
 abbrev pub seen_on : Disk → List ℕ → Content
 seen_on disk image = moved (top_origin 0 disk.layers) (sector_of image)
 
--- `plan` was recorded. Its lines ran and printed `text`, and the log has the status `status`. The
--- layers dropped as many calls as `lies` counts, and reported them as done. `image` has the bytes
--- of the log's disk; if the script ends with a crash, it has what the picks leave.
+-- `plan` was recorded. Its lines printed `text`, and the log has the status `status`. `lies` counts
+-- the calls that each disk's layers dropped and reported as done. `image` has the bytes of the
+-- log's disk; if the script ends with a crash, they are what the crash leaves.
 pub record IsRecorded (plan : ScriptValue) (text : List ℕ) (status : Status) (lies : Lies)
     (image : List ℕ) : Type 0 where
   pub start : DiskRun
@@ -116,26 +119,26 @@ pub record IsRecorded (plan : ScriptValue) (text : List ℕ) (status : Status) (
   pub size : length image ≡ 512 * plan.log_disk.sectors
   pub bytes : AgreeBelow plan.log_disk.sectors
       (left_on plan.ending (disk_of last.recorder.store.device)) (sector_of image)
-  -- if none of the log's layers may drop writes, none of them lied
+  -- if no layer of the log may drop writes, no layer of the log lied
   pub honest : some_drops plan.log_disk.layers ≡ false → lies.log_disk ≡ 0
-  -- unless the log's device lied, the status is that of a log of the placed entries
+  -- unless a layer of the log lied, `status` is that of a log of the placed entries
   pub tells : lies.log_disk ≡ 0
       → status ≡ status_of (bytes_of plan.log_size)
       (entries_of (store_of last.recorder.store)) last.recorder.end
-  -- unless the log's device lied, `image` has a log, as seen through the layers. It is a prefix of
-  -- the completion list of the recorder's events, with all entries that were settled and all that
-  -- were acknowledged. Each prefix of it replays to what the recorded device could hold
+  -- unless a layer of the log lied, `image` has a log, seen through the layers. It is a prefix of
+  -- the completion list of the recorder's events. It has all entries that were settled, and all
+  -- that were acknowledged. Each prefix of it replays to what the recorded device could hold
   pub beginning : lies.log_disk ≡ 0 →
       ReplaysToWhatCouldBe (recorder_view last.recorder) (recorder_view last.recorder)
       (seen_on plan.log_disk image)
-  -- if the script closed recording and logging didn't end, the log is the whole list
+  -- if recording was closed and logging didn't end, the log is the whole completion list
   pub whole : lies.log_disk ≡ 0 → has_no_close (core_of last.recorder).events ≡ false
       → last.recorder.end ≡ None →
       IsLogOf (top_of plan.log_disk) (seen_on plan.log_disk image) (bytes_of plan.log_size)
       (log_of (core_of last.recorder))
 
--- Why recording `plan`, which was read from `text`, fails.
--- - `file`: there is no memory, or the output can't be written.
+-- Why recording `plan` fails; `plan` was parsed from `text`.
+-- - `file`: memory ran out, or the output can't be written.
 -- - `unmade`: no log could be made, and nothing was printed.
 -- - `run`: the run ends before its last line.
 pub data FailsOnDisks (text : List ℕ) (plan : ScriptValue)

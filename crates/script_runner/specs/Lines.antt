@@ -1,4 +1,5 @@
--- What each line of a script does to the run (`old` before it, `new` after it), and what it prints.
+-- What each line of a script does to the run, which is `old` before it and `new` after it, and what
+-- the line prints.
 use Rattle.recorder.specs.declared.reply.Turn.{Turn}
 use Rattle.recorder.specs.declared.reply.Turn.TheVariants as turns
 use Rattle.std.specs.Prelude.{◌≡◌, ◌⊎◌, ℕ, ◌<◌, Bool, true, false, List, [], ◌∷◌, ◌++◌, Option}
@@ -44,24 +45,24 @@ use Rattle.script_runner.specs.HandOver.{ReadsSectors, HandsOver}
 use Rattle.script_runner.specs.Submissions.{bio_of, is_asked}
 use Rattle.script_runner.specs.Texts.{mark_failed, read_line, outcome_line}
 
--- The recorder's reply to a submission that it doesn't refuse: the request is tracked by `id`, or
--- passed.
+-- The recorder's reply to a submission that it doesn't refuse. With an id, it tracks the request by
+-- this id. With None, it passes the request.
 abbrev pub reply_of : Option ℕ → Reply
 reply_of (Some id) = replies.Tracked id
 reply_of None = replies.Passed
 
 -- ---- memory
 
--- A run is `short` from the first line on in which memory ran out for what the line asks for. There
--- are two exceptions: a request without memory for its submission is kept as `NotAsked`, and a read
--- without memory prints that it failed.
+-- A run is `short` once memory ran out for what a line asks. There are two exceptions. If memory
+-- runs out for a submission, its request is `NotAsked` instead. If memory runs out for a read, the
+-- read prints that it failed.
 
--- The data device answered that it had no memory.
+-- The data device answered that its memory ran out.
 abbrev pub is_starved : Result ℕ DevError → Bool
 is_starved (Err errors.Memory) = true
 is_starved _ = false
 
--- The turn reports that logging ended for lack of memory.
+-- The turn reports that logging ended because memory ran out.
 abbrev pub is_memory_end : Turn → Bool
 is_memory_end (turns.Ended ends.Memory) = true
 is_memory_end _ = false
@@ -71,26 +72,26 @@ abbrev pub is_refusal : Reply → Bool
 is_refusal (replies.Refused refusal) = true
 is_refusal _ = false
 
--- Memory sufficed for all that the lines asked for, except reads.
+-- Memory sufficed for everything that the lines asked, except perhaps for reads.
 abbrev pub is_ample : {D L : Type 0} {d : Ghosts D} {l : Ghosts L} → Running D L d l → Bool
 is_ample run = not run.short && list_all is_asked run.requests.items
 
 -- ---- lines
 
 -- `request` is what became of a submission of `bio`. If it is `Asked`, the recorder tracks it by an
--- id, or passed it. If it is `NotAsked`, there was no memory: for the bytes of `bio`, and the
--- recorder wasn't called; or the recorder refused it.
+-- id or passes it. If it is `NotAsked`, memory ran out: either for the bytes of `bio`, and the
+-- recorder wasn't called, or in the recorder, which refused it.
 abbrev pub Asks : {L : Type 0} {l : Ghosts L} → Bio → Request → Recorder L l → Recorder L l → Type 0
 Asks bio (requests.Asked kept id) old new = (kept ≡ bio) × Submits bio (reply_of id) old new
 Asks bio requests.NotAsked old new =
     ((has_data bio ≡ true) × (new ≡ old)) ⊎ Submits bio (replies.Refused refusals.Memory) old new
 
--- What a submission prints: nothing, or that the request failed if there was no memory for it.
+-- What a submission prints: nothing, or that the request failed because memory ran out.
 abbrev pub submission_text : ScriptId → Request → List ℕ
 submission_text name (requests.Asked bio id) = []
 submission_text name requests.NotAsked = outcome_line name false
 
--- A line submits the next request. The data device isn't called.
+-- A line submits the next request of the run. The data device isn't called.
 pub record SubmitsNext {D L : Type 0} {d : Ghosts D} {l : Ghosts L} (names : List ScriptId)
     (bio : Bio) (text : List ℕ) (old new : Running D L d l) : Type 0 where
   pub device : new.disk ≡ old.disk
@@ -100,15 +101,15 @@ pub record SubmitsNext {D L : Type 0} {d : Ghosts D} {l : Ghosts L} (names : Lis
   pub short : new.short ≡ old.short
   pub prints : text ≡ submission_text (name_at names (length old.requests.items)) request
 
--- The end of a request is recorded if the recorder tracks the request by an id; else nothing
+-- If the recorder tracks a request by an id, the request's end is recorded. Otherwise nothing
 -- happens.
 abbrev pub RecordsEnd : {L : Type 0} {l : Ghosts L} → Option ℕ → Bool → Recorder L l → Recorder L l
     → Type 0
 RecordsEnd (Some id) ok old new = (reply : Reply) × Completes id ok reply old new
 RecordsEnd None ok old new = new ≡ old
 
--- A request that was submitted is passed to the data device, and ends with its result, which is
--- printed. The run is short if the device had no memory.
+-- A request that was submitted is passed to the data device. The result is recorded and printed.
+-- The run gets short if the device's memory ran out.
 pub record EndsAsked {D L : Type 0} {d : Ghosts D} {l : Ghosts L} (bio : Bio) (id : Option ℕ)
     (name : ScriptId) (text : List ℕ) (old new : Running D L d l) : Type 0 where
   pub answer : Result ℕ DevError
@@ -118,14 +119,15 @@ pub record EndsAsked {D L : Type 0} {d : Ghosts D} {l : Ghosts L} (bio : Bio) (i
   pub short : new.short ≡ (old.short || is_starved answer)
   pub prints : text ≡ outcome_line name (is_ok answer)
 
--- A line leaves the data device and the requests as they were, and prints nothing.
+-- A line doesn't change the data device or the list of requests, and prints nothing.
 pub record KeepsData {D L : Type 0} {d : Ghosts D} {l : Ghosts L} (text : List ℕ)
     (old new : Running D L d l) : Type 0 where
   pub device : new.disk ≡ old.disk
   pub kept : new.requests.items ≡ old.requests.items
   pub prints : text ≡ []
 
--- A line ends a request. If the request failed at its submission, the line does and prints nothing.
+-- A line ends a request. If memory ran out at the request's submission, the line does nothing and
+-- prints nothing.
 abbrev pub EndsRequest : {D L : Type 0} {d : Ghosts D} {l : Ghosts L} → Option Request → ScriptId
     → List ℕ → Running D L d l → Running D L d l → Type 0
 EndsRequest (Some (requests.Asked bio id)) name text old new = EndsAsked bio id name text old new
@@ -133,8 +135,8 @@ EndsRequest (Some requests.NotAsked) name text old new =
     KeepsData text old new × (new.recorder ≡ old.recorder) × (new.short ≡ old.short)
 EndsRequest None name text old new = ⊥
 
--- A line closes recording. Then the writer takes turns until the log is complete, or logging ends.
--- The run is short if logging ended for lack of memory.
+-- A line closes recording. Then the writer takes turns until the log is complete or logging ends.
+-- The run gets short if logging ended because memory ran out.
 pub record EndsRecording {D L : Type 0} {d : Ghosts D} {l : Ghosts L} (text : List ℕ)
     (old new : Running D L d l) : Type 0 where
   pub keeps : KeepsData text old new
@@ -144,8 +146,8 @@ pub record EndsRecording {D L : Type 0} {d : Ghosts D} {l : Ghosts L} (text : Li
   pub drains : Drains answer closed new.recorder
   pub short : new.short ≡ (old.short || is_memory_end (last_turn answer))
 
--- A line reads from the data device; the recorder isn't called. If there is no memory for the read,
--- it prints that it failed, and the run isn't short.
+-- A line reads from the data device. The recorder isn't called. If memory for the read runs out,
+-- the line prints that the read failed, and the run doesn't get short.
 pub record ReadsData {D L : Type 0} {d : Ghosts D} {l : Ghosts L} (first count : ℕ) (text : List ℕ)
     (old new : Running D L d l) : Type 0 where
   pub log : new.recorder ≡ old.recorder
@@ -155,7 +157,8 @@ pub record ReadsData {D L : Type 0} {d : Ghosts D} {l : Ghosts L} (first count :
   pub reads : ReadsSectors d.does old.moment first count bytes old.disk new.disk
   pub prints : text ≡ read_line first count bytes
 
--- A line gives the writer a turn. The run is short if logging ended in it for lack of memory.
+-- A line gives the writer a turn. The run gets short if logging ends in this turn because memory
+-- ran out.
 pub record GivesTurn {D L : Type 0} {d : Ghosts D} {l : Ghosts L} (text : List ℕ)
     (old new : Running D L d l) : Type 0 where
   pub keeps : KeepsData text old new
@@ -163,15 +166,16 @@ pub record GivesTurn {D L : Type 0} {d : Ghosts D} {l : Ghosts L} (text : List �
   pub turns : Turns turn old.recorder new.recorder
   pub short : new.short ≡ (old.short || is_memory_end turn)
 
--- What a mark's line prints, given the recorder's reply: nothing if the mark is queued or passed,
--- and `mark failed` if it is refused. It is refused only for lack of memory.
+-- What the line of a mark prints, given the recorder's reply. If the mark is queued or passed, it
+-- prints nothing. If the mark is refused, it prints `mark failed`. A mark is refused only because
+-- memory ran out.
 abbrev pub PrintsMark : Reply → List ℕ → Type 0
 PrintsMark (replies.Queued id) printed = printed ≡ []
 PrintsMark replies.Passed printed = printed ≡ []
 PrintsMark (replies.Refused refusal) printed = (refusal ≡ refusals.Memory) × (printed ≡ mark_failed)
 PrintsMark _ printed = ⊥
 
--- A line sets the time at which later calls of both devices begin. Nothing is recorded.
+-- A line sets the time of the later calls of both devices. No event is recorded.
 pub record SetsTime {D L : Type 0} {d : Ghosts D} {l : Ghosts L} (moment : ℕ) (text : List ℕ)
     (old new : Running D L d l) : Type 0 where
   pub keeps : KeepsData text old new
@@ -182,8 +186,8 @@ pub record SetsTime {D L : Type 0} {d : Ghosts D} {l : Ghosts L} (moment : ℕ) 
   pub log_moment : new.recorder.store.moment ≡ moment
   pub short : new.short ≡ old.short
 
--- A line passes a mark to the recorder; the data device isn't called. The mark is refused only for
--- lack of memory, and then the run is short.
+-- A line passes a mark to the recorder. The data device isn't called. The recorder refuses the mark
+-- only because memory ran out, and then the run gets short.
 pub record RecordsMark {D L : Type 0} {d : Ghosts D} {l : Ghosts L} (mark text : List ℕ)
     (old new : Running D L d l) : Type 0 where
   pub device : new.disk ≡ old.disk
@@ -193,8 +197,9 @@ pub record RecordsMark {D L : Type 0} {d : Ghosts D} {l : Ghosts L} (mark text :
   pub short : new.short ≡ (old.short || is_refusal reply)
   pub prints : PrintsMark reply text
 
--- How the two devices of a run answer messages. `old layer text answer new` says: a device in state
--- `old` can answer a message for `layer` with `answer`, and is then in state `new`.
+-- How the two devices of a run answer messages. `old layer text answer new`: if a device in the
+-- state `old` gets the message `text` for `layer`, it can answer `answer` and change to the state
+-- `new`.
 pub record Answering (D L : Type 0) : Type 1 where
   pub data_device : D → ℕ → List ℕ → Result (Unit {0}) MessageError → D → Type 0
   pub log_device : L → ℕ → List ℕ → Result (Unit {0}) MessageError → L → Type 0
@@ -205,8 +210,8 @@ abbrev pub answering : {D L : Type 0}
     → (L → ℕ → List ℕ → Result (Unit {0}) MessageError → L → Type 0) → Answering D L
 answering data_device log_device = record { data_device = data_device; log_device = log_device }
 
--- A line sends the message `asked` to a layer of the data device, which accepts it. What contracts
--- see of the device stays the same.
+-- A line sends the message `asked` to a layer of the data device, and the layer accepts it. What
+-- contracts see of the device doesn't change.
 pub record SendsToData {D L : Type 0} {d : Ghosts D} {l : Ghosts L} (m : Answering D L) (layer : ℕ)
     (asked text : List ℕ) (old new : Running D L d l) : Type 0 where
   pub log : new.recorder ≡ old.recorder
@@ -216,8 +221,8 @@ pub record SendsToData {D L : Type 0} {d : Ghosts D} {l : Ghosts L} (m : Answeri
   pub unchanged : Unchanged (d.shown old.disk) (d.shown new.disk)
   pub prints : text ≡ []
 
--- A line sends the message `asked` to a layer of the log's device, which accepts it. What contracts
--- see of the device stays the same, and so do the recorder's core and its log.
+-- A line sends the message `asked` to a layer of the log's device, and the layer accepts it. What
+-- contracts see of the device doesn't change, and neither do the recorder's core and its log.
 pub record SendsToLog {D L : Type 0} {d : Ghosts D} {l : Ghosts L} (m : Answering D L) (layer : ℕ)
     (asked text : List ℕ) (old new : Running D L d l) : Type 0 where
   pub keeps : KeepsData text old new
@@ -229,7 +234,7 @@ pub record SendsToLog {D L : Type 0} {d : Ghosts D} {l : Ghosts L} (m : Answerin
   pub store : Same (recorder_view old.recorder).store (recorder_view new.recorder).store
   pub log_moment : new.recorder.store.moment ≡ old.recorder.store.moment
 
--- A line sends the message `asked` to a layer of a disk, which accepts it.
+-- A line sends the message `asked` to a layer of a disk, and the layer accepts it.
 abbrev pub SendsToLayer : {D L : Type 0} {d : Ghosts D} {l : Ghosts L} → Answering D L
     → DiskName → ℕ
     → List ℕ → List ℕ → Running D L d l → Running D L d l → Type 0
@@ -244,7 +249,7 @@ RefusesMessage {D} m disks.Data layer asked error old =
 RefusesMessage {L = L} m disks.Log layer asked error old =
     (last : L) × m.log_device old.recorder.store.device layer asked (Err error) last
 
--- What a line does that neither submits nor ends a request.
+-- What a line does that neither submits a request nor ends one.
 abbrev pub TakesStep : {D L : Type 0} {d : Ghosts D} {l : Ghosts L} → Answering D L → Step → List ℕ
     → Running D L d l → Running D L d l → Type 0
 TakesStep m steps.Close text old new = EndsRecording text old new
@@ -255,7 +260,7 @@ TakesStep m (steps.At moment) text old new = SetsTime moment text old new
 TakesStep m (steps.Message over layer asked) text old new =
     SendsToLayer m over layer asked text old new
 
--- What a line does, given its kind.
+-- What the line with the command `command` does, and what it prints (`text`).
 abbrev pub Does : {D L : Type 0} {d : Ghosts D} {l : Ghosts L} → Answering D L → List ScriptId
     → Command → List ℕ → Running D L d l → Running D L d l → Type 0
 Does m names (commands.Submit submission) text old new =
@@ -264,8 +269,9 @@ Does m names (commands.Complete request) text old new =
     EndsRequest (slice_get old.requests.items request) (name_at names request) text old new
 Does m names (commands.Step step) text old new = TakesStep m step text old new
 
--- A line is run: it does what `Does` says. If it is an `at`, it sets the time of both devices; else
--- the times stay. The recorder changes at most as in calls of it.
+-- What a line does to a run (`Does`), and to the times of both devices. An `at` sets both times;
+-- any other line changes neither. The recorder changes only as its calls can change it
+-- (`RecorderFrame`).
 pub record RunsLine {D L : Type 0} {d : Ghosts D} {l : Ghosts L} (m : Answering D L)
     (names : List ScriptId) (command : Command) (text : List ℕ)
     (old new : Running D L d l) : Type 0 where
@@ -274,7 +280,7 @@ pub record RunsLine {D L : Type 0} {d : Ghosts D} {l : Ghosts L} (m : Answering 
   pub log_moment : new.recorder.store.moment ≡ time_at old.recorder.store.moment command
   pub goes : RecorderFrame (recorder_view old.recorder) (recorder_view new.recorder)
 
--- A line is run, and what it prints is appended to the output.
+-- A line is run, and the output gets what the line prints.
 abbrev pub PrintsLine : {D L : Type 0} {d : Ghosts D} {l : Ghosts L} → Answering D L → List ScriptId
     → Command → Option (List ℕ) → Option (List ℕ) → Running D L d l → Running D L d l → Type 0
 PrintsLine m names command before after old new =
@@ -284,26 +290,27 @@ PrintsLine m names command before after old new =
 abbrev pub count_of : Command → ℕ
 count_of command = if is_submission command then 1 else 0
 
--- The sectors that a line names are within a data device of `sectors` sectors, and aligned to log
--- sectors of `bytes` bytes.
+-- The sectors that a line names are within a data device of `sectors` sectors. They are aligned to
+-- log sectors of `bytes` bytes.
 abbrev pub FitsDevice : (bytes sectors : ℕ) → Command → Type 0
 FitsDevice bytes sectors (commands.Submit submission) =
     submission_answer bytes sectors submission ≡ Ok tt
 FitsDevice bytes sectors (commands.Complete request) = Unit {0}
 FitsDevice bytes sectors (commands.Step step) = step_answer bytes sectors step ≡ Ok tt
 
--- The values in a line can be written in a script: a text, a time and the number of a layer.
+-- The values of a line can be written in a script: the text of a mark or message, a time, the
+-- number of a layer.
 abbrev pub HasScriptText : Command → Type 0
 HasScriptText (commands.Submit submission) = Unit {0}
 HasScriptText (commands.Complete request) = Unit {0}
 HasScriptText (commands.Step step) = HasLineText step
 
--- A line stops because the output can't be written or there is no memory.
+-- A line stops the run because the output can't be written or memory ran out.
 abbrev pub StopsForFile : StepError → Type 0
 StopsForFile (AtLine refusal) = ⊥
 StopsForFile (Whole fault) = IsFileError fault
 
--- A line stops because it is a close that the recorder refuses. Nothing is printed.
+-- A line stops the run because it is a close, and the recorder refuses it. Nothing is printed.
 pub record StopsAtClose {L : Type 0} {l : Ghosts L} (command : Command)
     (before after : Option (List ℕ)) (stop : StepError) (old : Recorder L l) : Type 0 where
   pub is_close : command ≡ commands.Step steps.Close
@@ -313,7 +320,7 @@ pub record StopsAtClose {L : Type 0} {l : Ghosts L} (command : Command)
   pub closes : Closes (replies.Refused refusal) old last
   pub printed : Keeps before after
 
--- A line stops because it is a message that a device refuses. Nothing is printed.
+-- A line stops the run because it is a message, and the device refuses it. Nothing is printed.
 pub record StopsAtMessage {D L : Type 0} {d : Ghosts D} {l : Ghosts L} (m : Answering D L)
     (command : Command) (before after : Option (List ℕ)) (stop : StepError)
     (old : Running D L d l) : Type 0 where
@@ -333,7 +340,7 @@ StopsLine m command before after old stop =
     StopsForFile stop ⊎ (StopsAtClose command before after stop old.recorder
     ⊎ StopsAtMessage m command before after stop old)
 
--- If a line ends a request, it is one of the first `requests`.
+-- If a line ends a request, the request is one of the first `requests` requests.
 abbrev pub EndsSubmitted : ℕ → Command → Type 0
 EndsSubmitted requests (commands.Submit submission) = Unit {0}
 EndsSubmitted requests (commands.Complete request) = request < requests

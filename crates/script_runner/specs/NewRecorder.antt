@@ -1,4 +1,4 @@
--- A recorder over a new log on a device, and why none can be made.
+-- A recorder with a new log on a device, and why no such recorder can be made.
 use Rattle.std.specs.Prelude.{◌≡◌, ℕ, true, Err, [], None}
 use Rattle.bio.specs.Causes.{end_cause}
 use Rattle.bio.specs.declared.outcome.DevError.{DevError}
@@ -16,8 +16,8 @@ use Rattle.refusals.specs.declared.run_error.RunError.{RunError}
 use Rattle.refusals.specs.declared.run_error.RunError.TheVariants.{LoggingEnded}
 use Rattle.recorder.specs.Fields.{core_of}
 
--- `recorder` has recorded nothing yet. Its log was made on `device`, is empty, and its sectors have
--- `bytes` bytes. Unless the device lied, whatever a crash leaves has this empty log.
+-- `recorder` has recorded nothing yet. Its log is on `device`, is empty, and has sectors of `bytes`
+-- bytes. Unless the device lied, each content that a crash may leave has this empty log.
 pub record IsNewOn {L : Type 0} {l : Ghosts L} (bytes : ℕ) (device : L)
     (recorder : Recorder L l) : Type 0 where
   pub core : core_of recorder ≡ sized_state bytes
@@ -30,9 +30,9 @@ pub record IsNewOn {L : Type 0} {l : Ghosts L} (bytes : ℕ) (device : L)
       → (l.shown recorder.store.device).crash left →
       IsLogOf (l.shown recorder.store.device).size left bytes []
 
--- No log with sectors of `bytes` bytes could be made on `device`: the write of its super block
+-- No log with sectors of `bytes` bytes could be made on `device`. The write of the super block
 -- failed with `error`, which is Io only if the device failed. `fault` says that logging ended by
--- that error.
+-- the cause of `error`.
 pub record IsUnmadeOn {L : Type 0} (l : Ghosts L) (bytes : ℕ) (device : L)
     (fault : RunError) : Type 0 where
   pub last : L

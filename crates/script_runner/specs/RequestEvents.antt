@@ -1,4 +1,4 @@
--- Which events the requests of a script's run have.
+-- Which events of the recorder belong to the requests of a script's run.
 use Rattle.std.specs.Prelude.{◌≡◌, ℕ, List, [], ◌∷◌, Some, slice_get}
 use Rattle.bio.specs.declared.event.CoreEvent.TheVariants as core_events
 use Rattle.bio.specs.declared.request.Bio.{Bio}
@@ -12,14 +12,14 @@ use Rattle.script_runner.specs.declared.running.Running.{Running}
 use Rattle.script_runner.specs.Submissions.{bio_of}
 use Rattle.recorder.specs.Fields.{core_of}
 
--- For each request that the recorder tracks, the event at its id is its Submit.
+-- If the recorder tracks a request by an id, the event at this id is the request's Submit.
 abbrev pub IsFollowed : {D L : Type 0} {d : Ghosts D} {l : Ghosts L} → Running D L d l → Type 0
 IsFollowed run =
     (place : ℕ) (bio : Bio) (id : ℕ)
     → slice_get run.requests.items place ≡ Some (requests.Asked bio (Some id))
     → slice_get (core_of run.recorder).events id ≡ Some (core_events.Submit bio)
 
--- A line's request, if it was asked, is the one that the line submits.
+-- If the request was submitted, it is the request of this submission.
 abbrev pub IsRequestOf : Submission → Request → Type 0
 IsRequestOf submission (requests.Asked bio id) = bio ≡ bio_of submission
 IsRequestOf submission requests.NotAsked = Unit {0}

@@ -1,4 +1,4 @@
--- What all lines of a script do, one after another.
+-- What the lines of a script do together.
 use Rattle.std.specs.Prelude.{◌≡◌, ◌+◌, ℕ, List, [], ◌∷◌, ◌++◌, Option, length}
 use Rattle.std.specs.Io.KnownBytes.{Appends}
 use Rattle.blockdev.specs.declared.device.BlockDev.{Ghosts}
@@ -21,7 +21,8 @@ use Rattle.script_runner.specs.declared.running.Running.{Running}
 use Rattle.refusals.specs.Errors.{IsFileError}
 use Rattle.script_runner.specs.Lines.{Answering, RefusesMessage, RunsLine}
 
--- Steps from state `old` to state `new`, one after another. `text` is all that they print.
+-- Steps, one for each element of a list, lead from the state `old` to the state `new`. `text` is
+-- all that they print.
 abbrev pub Chain : {C S : Type 0} → (C → List ℕ → S → S → Type 0) → List C → List ℕ → S → S → Type 0
 Chain Step [] text old new = (text ≡ []) × (new ≡ old)
 Chain {S = S} Step (c ∷ cs) text old new =
@@ -33,15 +34,15 @@ abbrev pub RunsLines : {D L : Type 0} {d : Ghosts D} {l : Ghosts L} → Answerin
     → List Command → List ℕ → Running D L d l → Running D L d l → Type 0
 RunsLines m names body text old new = Chain (RunsLine m names) body text old new
 
--- The lines `body` are run, and what they print is appended to the output.
+-- The lines `body` are run, and the output gets what they print.
 abbrev pub PrintsLines : {D L : Type 0} {d : Ghosts D} {l : Ghosts L} → Answering D L
     → List ScriptId → List Command → Option (List ℕ) → Option (List ℕ) → Running D L d l
     → Running D L d l → Type 0
 PrintsLines m names body before after old new =
     (text : List ℕ) × RunsLines m names body text old new × Appends before after text
 
--- The command at index `place` is a close, and it is refused. `text` is what the lines before it
--- print.
+-- The command at index `place` is a close, and the recorder refuses it. `text` is what the lines
+-- before it print.
 pub record RefusesClose {D L : Type 0} {d : Ghosts D} {l : Ghosts L} (m : Answering D L)
     (plan : ScriptValue) (place : ℕ) (refusal : Refusal) (text : List ℕ)
     (old : Running D L d l) : Type 0 where
@@ -54,8 +55,8 @@ pub record RefusesClose {D L : Type 0} {d : Ghosts D} {l : Ghosts L} (m : Answer
   pub ran : RunsLines m plan.names before text old mid
   pub refused : Closes (replies.Refused refusal) mid.recorder last
 
--- The command at index `place` is a message, and it is refused. `text` is what the lines before it
--- print.
+-- The command at index `place` is a message, and the device refuses it. `text` is what the lines
+-- before it print.
 pub record RefusesLine {D L : Type 0} {d : Ghosts D} {l : Ghosts L} (m : Answering D L)
     (plan : ScriptValue) (place : ℕ) (error : MessageError) (text : List ℕ)
     (old : Running D L d l) : Type 0 where
@@ -70,9 +71,9 @@ pub record RefusesLine {D L : Type 0} {d : Ghosts D} {l : Ghosts L} (m : Answeri
   pub ran : RunsLines m plan.names before text old mid
   pub refused : RefusesMessage m over layer asked error mid
 
--- Why a run of `plan`, which was read from `text`, ends before its last line.
--- - `close`, `message`: a line is refused, and the lines before it printed all that was printed.
--- - `file`: the output can't be written, or there is no memory.
+-- Why a run of `plan` ends before its last line; `plan` was parsed from `text`.
+-- - `close`, `message`: a line is refused. Only what the lines before it print was printed.
+-- - `file`: the output can't be written, or memory ran out.
 pub data EndsRun {D L : Type 0} {d : Ghosts D} {l : Ghosts L} (m : Answering D L) (text : List ℕ)
     (plan : ScriptValue) (before after : Option (List ℕ)) (old : Running D L d l) : RunError
     → Type 0 where

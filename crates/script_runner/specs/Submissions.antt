@@ -1,4 +1,4 @@
--- What a script's line submits.
+-- Which request a line of a script submits.
 use Rattle.std.specs.Prelude.{ℕ, ◌*◌, Bool, true, false, is_ok, replicate}
 use Rattle.bio.specs.declared.request.Bio.{Bio}
 use Rattle.bio.specs.declared.request.Bio.TheVariants as bios
@@ -8,19 +8,19 @@ use Rattle.dmlw_script.specs.declared.command.Submission.TheVariants as submits
 use Rattle.script_runner.specs.declared.request.Request.{Request}
 use Rattle.script_runner.specs.declared.request.Request.TheVariants as requests
 
--- The request that a line submits. All bytes of a write are its byte.
+-- The request that a line submits. Each byte of a write is the line's byte.
 abbrev pub bio_of : Submission → Bio
 bio_of (submits.Write first count byte options) =
     bios.Write first (replicate (count * 512) byte) options.flush options.fua options.meta
 bio_of submits.Flush = bios.Flush
 bio_of (submits.Discard first count) = bios.Discard first count
 
--- If the request was asked, it passes the test of a device of `sectors` sectors.
+-- If the request was submitted, it passes the check of a device of `sectors` sectors.
 abbrev pub fits_device : ℕ → Request → Bool
 fits_device sectors (requests.Asked bio id) = is_ok (check_answer bio sectors)
 fits_device sectors requests.NotAsked = true
 
--- The request was passed to the recorder: there was memory for it.
+-- The request was submitted to the recorder, and memory sufficed for it.
 abbrev pub is_asked : Request → Bool
 is_asked (requests.Asked bio id) = true
 is_asked requests.NotAsked = false

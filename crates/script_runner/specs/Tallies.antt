@@ -12,7 +12,7 @@ use Rattle.shared.specs.declared.answer.Answer.TheVariants as answers
 use Rattle.shared.specs.declared.answer.MarkAnswer.{MarkAnswer}
 use Rattle.shared.specs.declared.answer.MarkAnswer.TheVariants as marks
 
--- The outcome of a request, given the recorder's answer. No line of such a script reads.
+-- The outcome of a request, given the recorder's answer. A script of seats has no reads.
 abbrev pub outcome_of : Answer Receipt → Outcome
 outcome_of answers.Done = Done
 outcome_of (answers.Read bytes) = Done
@@ -47,7 +47,7 @@ pub record CallResult : Type 0 where
   pub outcome : Outcome
   pub receipt : Option Receipt
 
--- The receipts, with one more at the end if there is one.
+-- The receipts, and after them one more if there is one.
 abbrev pub and_kept : List Receipt → Option Receipt → List Receipt
 and_kept receipts None = receipts
 and_kept receipts (Some receipt) = receipts ++ receipt ∷ []
@@ -83,12 +83,12 @@ abbrev pub is_refused : Outcome → Bool
 is_refused Refused = true
 is_refused _ = false
 
--- How many of the calls have an outcome for which `comes` holds.
+-- How many of the calls have an outcome for which `comes` is true.
 abbrev pub how_many : (Outcome → Bool) → List CallResult → ℕ
 how_many comes [] = 0
 how_many comes (came ∷ others) = one_if (comes came.outcome) + how_many comes others
 
--- The number of calls with each outcome.
+-- How many of the calls have each outcome.
 abbrev pub tally_of : List CallResult → Tally
 tally_of calls = record {
   done = how_many is_done calls;
@@ -98,11 +98,11 @@ tally_of calls = record {
   refused = how_many is_refused calls;
 }
 
--- the tally of no calls
+-- The tally if no call was made.
 abbrev pub no_calls : Tally
 no_calls = record { done = 0; logged = 0; failed = 0; not_logged = 0; refused = 0 }
 
--- The tally with one more call that has this outcome.
+-- The tally after one more call with this outcome.
 abbrev pub counted : Tally → Outcome → Tally
 counted tally Done = record tally { done = tally.done + 1 }
 counted tally Logged = record tally { logged = tally.logged + 1 }

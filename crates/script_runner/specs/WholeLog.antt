@@ -6,7 +6,7 @@ use Rattle.recorder.specs.declared.recorder.Recorder.{Recorder}
 use Rattle.recorder.specs.RecorderView.{log_of}
 use Rattle.recorder.specs.Fields.{core_of}
 
--- If recording is closed and logging hasn't ended, the whole completion list is placed.
+-- If recording is closed and logging hasn't ended, the store has placed the whole completion list.
 abbrev pub IsWritten : {L : Type 0} {l : Ghosts L} → Recorder L l → Type 0
 IsWritten recorder =
     has_no_close (core_of recorder).events ≡ false → recorder.end ≡ None

@@ -1,4 +1,4 @@
-//! Calls the recorder for a line: to submit a request, or to record its end.
+//! Calls the recorder for a line: submits a request, or records its end.
 ghost use Rattle.std.specs.Prelude.{◌≡◌, Ok};
 ghost use Rattle.dmlw_script.specs.Plans.{submission_answer};
 ghost use Rattle.recorder.specs.Growth.{RecorderFrame};
@@ -13,7 +13,8 @@ use blockdev::BlockDev;
 use dmlw_script::Submission;
 use recorder::{Recorder, Reply};
 
-// Submits the request of a line to the recorder. The request is aligned to the log's sectors.
+// Submits the request of a line to the recorder. The line was checked, so the request is aligned to
+// the log's sectors.
 pub(crate) fn ask<L: BlockDev + Drop>(
     recorder: &mut Recorder<L>,
     data: &mut WriteData,
@@ -37,7 +38,7 @@ pub(crate) fn ask<L: BlockDev + Drop>(
     }
 }
 
-// Records the end of a request, if the recorder tracks it by an id.
+// Records the end of a request, if the recorder tracks the request by an id.
 pub(crate) fn complete_request<L: BlockDev + Drop>(
     recorder: &mut Recorder<L>,
     id: Option<Id>,

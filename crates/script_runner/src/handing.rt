@@ -11,8 +11,8 @@ use std::alloc::Global;
 // The size of a sector in bytes.
 const SECTOR: usize = SECTOR_BYTES as usize;
 
-// Passes a request to a device. A write with flush is a flush, and then the write if the flush
-// succeeded. Returns the device's answer to the last call. A read calls nothing and returns
+// Passes a request to a device, and returns the answer to the last call. A write with flush is
+// passed as a flush, and then as a write if the flush succeeds. A read makes no call, and returns
 // `Ok(now)`.
 pub(crate) fn do_request<D: BlockDev>(device: &mut D, now: Ms, bio: &Bio) -> Result<Ms, DevError>
     requires { IsTrue (is_ok (check_answer bio.now (D.shown device.old).size)) }
@@ -65,7 +65,8 @@ fn write<D: BlockDev>(
     device.write(now, first, bytes, fua)
 }
 
-// Reads sectors from a device. Returns None if there is no memory for them or the read fails.
+// Reads sectors of a device. Returns None if memory for them runs out, or if the device fails the
+// read.
 pub(crate) fn read_sectors<D: BlockDev>(
     device: &mut D,
     alloc: Global,

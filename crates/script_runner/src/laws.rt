@@ -1,4 +1,5 @@
-//! The headline for a recorder over a stack of layers, and laws about the runs of scripts.
+//! The headline for a recorder whose log is on a stack of layers, and laws about the runs of
+//! scripts.
 ghost use Rattle.std.specs.Prelude.{◌++◌, ◌≡◌, ◌≤◌, [], List, None, Some, false, length, slice_get};
 ghost use Rattle.std.specs.Prelude.{take, ℕ};
 ghost use Rattle.bio.specs.declared.event.CoreEvent.TheVariants.{Mark};
@@ -30,22 +31,22 @@ use crate::Running;
 use blockdev::Message;
 use layer_table::Stack;
 
-/// This is the headline, for a recorder whose log is on a stack of layers. The recorder may get any
-/// list of submissions, completions, marks and writer's turns. The layers may fail any calls. A
-/// crash may come at any moment, inside a log write too. Then the reopened log is a prefix of the
-/// completion list. It holds every mark and FUA write acknowledged as logged. Replaying any prefix
-/// of it gives a content that the recorded device could hold had power failed there.
+/// The headline, for a recorder whose log is on a stack of layers. The recorder gets any list of
+/// submissions, completions, marks and writer's turns. The layers fail any calls. A crash comes at
+/// any moment, inside a log write too. Then the reopened log is a prefix of the completion list,
+/// with every mark and FUA write acknowledged as logged. Replaying any prefix of the log gives a
+/// content that the recorded device could hold, had power failed there.
 ///
-/// `old` is the recorder before some of its calls, and `new` after them: `RecorderFrame` holds for
-/// each call and for several (`recorder::laws::several_calls_go_as_one`). `left` is what a crash at
-/// any moment since `old` may have left of the log's device. The only premise is that no layer of
-/// the log lied. Four others aren't needed:
-/// - The log was created: a `Recorder` has no other log.
-/// - The log's device keeps the law of a device: this is proved for each stack.
-/// - The recorded device is blank at first: its first content may be any.
-/// - The devices answer when the log is reopened and replayed: both are definitions here.
-///   `log_reader::LogReader` and `replay::replay` compute them if the devices answer Ok without a
-///   new lie, and memory suffices.
+/// `old` is the recorder before some of its calls, and `new` after them. `RecorderFrame` holds for
+/// each call, and for several (`recorder::laws::several_calls_go_as_one`). `left` is what a crash
+/// at any moment since `old` may have left on the log's device. The only premise is that no layer
+/// of the log lied. Four other premises aren't needed:
+/// - The log was created. A `Recorder` always has a created log.
+/// - The log's device keeps the law of devices. This is proved for each stack.
+/// - The recorded device is blank at first. Its first content may be any.
+/// - The devices answer when the log is reopened and replayed. Both are definitions here, which
+///   `log_reader::LogReader` and `replay::replay` compute. For that, the devices must answer Ok
+///   without a new lie, and memory must suffice.
 pub fn headline()
     ensures { (old new : DiskRecorder) (left : Content)
         → RecorderFrame (recorder_view old) (recorder_view new) →
@@ -56,8 +57,8 @@ pub fn headline()
     recorder::laws::crashed_logs_replay_to_what_could_be::<Stack>();
 }
 
-/// A log on a disk without layers can be made unless memory runs out, with log sectors of either
-/// size.
+/// On a disk without layers, a log can be made unless memory runs out. This holds for log sectors
+/// of either size.
 pub fn bare_logs_fail_only_by_memory()
     ensures { (bytes : ℕ) (disk : Disk) (fault : RunError) → disk.layers ≡ []
         → IsUnmade bytes disk fault → fault ≡ LoggingEnded ends.Memory }
@@ -65,8 +66,8 @@ pub fn bare_logs_fail_only_by_memory()
     layer_table::laws::stacks_do_what_their_layers_do();
 }
 
-/// The lines of a script change the recorder as one call may: its events only grow, and placed and
-/// settled entries stay so.
+/// The lines of a script change the recorder only as its calls can. Its events only grow, and what
+/// was placed or settled before is placed or settled after them.
 pub fn lines_go_as_one_call<D: Message + Drop, L: Message + Drop>()
     ensures { (names : List ScriptId) (body : List Command) (text : List ℕ)
         (old new : Running D L D.BlockDev L.BlockDev) →
@@ -76,9 +77,9 @@ pub fn lines_go_as_one_call<D: Message + Drop, L: Message + Drop>()
     recorder::laws::several_calls_go_as_one::<L>();
 }
 
-/// The calls of both devices begin at the same time. At the start of a script it is 0 for both. If
-/// it is the same before some lines, it is the same after them. So each line calls its device at
-/// the time that the last `at` set.
+/// Calls of both devices begin at the same time. At the start of a script this time is 0. If both
+/// devices have the same time before some lines, they have the same time after the lines. So each
+/// line calls its device at the time that the last `at` set.
 pub fn both_devices_are_called_at_one_time<D: Message + Drop, L: Message + Drop>()
     ensures start { (plan : ScriptValue) (run : DiskRun) → Starts plan run
         → run.recorder.store.moment ≡ run.moment }
@@ -89,9 +90,9 @@ pub fn both_devices_are_called_at_one_time<D: Message + Drop, L: Message + Drop>
         new.recorder.store.moment ≡ new.moment }
 {}
 
-/// Each line that submits has one request in the run, in the order of the lines. It was asked as
-/// the line says, or there was no memory for it. And for each request that the recorder tracks, the
-/// event at its id is its Submit, if this was so before the lines.
+/// Each line that submits adds one request to the run, in the order of the lines. It is the request
+/// that the line asks for, unless memory ran out for it. If the recorder tracks a request by an id,
+/// the event at this id is its Submit, provided that this was so before the lines.
 pub fn requests_are_in_the_events<D: Message + Drop, L: Message + Drop>()
     ensures asked { (names : List ScriptId) (body : List Command) (text : List ℕ)
         (old new : Running D L D.BlockDev L.BlockDev) →
@@ -104,8 +105,8 @@ pub fn requests_are_in_the_events<D: Message + Drop, L: Message + Drop>()
         → IsFollowed new }
 {}
 
-/// A mark that a line queued is in the recorder's events, at its id and with its text, whatever
-/// lines run after it.
+/// If a line queued a mark, the recorder's event at its id is the mark with its text. Lines that
+/// run later don't change this.
 pub fn marks_are_in_the_events<D: Message + Drop, L: Message + Drop>()
     ensures { (names : List ScriptId) (body : List Command) (mark text more : List ℕ) (id : ℕ)
         (old mid new : Running D L D.BlockDev L.BlockDev) →
@@ -116,8 +117,8 @@ pub fn marks_are_in_the_events<D: Message + Drop, L: Message + Drop>()
     lines_go_as_one_call::<D, L>();
 }
 
-/// If the log's device didn't lie, whatever a crash at any moment of a script's run may have left
-/// has a log. This log is a prefix of the completion list of the recorder's events. It holds all
+/// If the log's device didn't lie, each content that a crash during a script's run may have left
+/// has a log. This log is a prefix of the completion list of the recorder's events. It has all
 /// entries that were settled when the run began.
 pub fn crashes_of_a_run_leave_prefixes<D: Message + Drop, L: Message + Drop>()
     ensures { (names : List ScriptId) (body : List Command) (text : List ℕ)
@@ -136,8 +137,9 @@ pub fn crashes_of_a_run_leave_prefixes<D: Message + Drop, L: Message + Drop>()
 }
 
 /// If recording is closed and logging hasn't ended, the whole completion list of the recorder's
-/// events is placed: the lines of a script keep this, also lines after the Close. If the log's
-/// device didn't lie either, its content has the whole log, and so has whatever a crash leaves now.
+/// events is placed. If this holds before some lines, it holds after them, even for lines after the
+/// Close. Unless the log's device lied, its content then has the whole log, and so has whatever a
+/// crash leaves.
 pub fn closed_runs_leave_whole_logs<D: Message + Drop, L: Message + Drop>()
     ensures placed { (names : List ScriptId) (body : List Command) (text : List ℕ)
         (old new : Running D L D.BlockDev L.BlockDev) →

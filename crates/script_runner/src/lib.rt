@@ -1,13 +1,14 @@
-//! Runs the scripts of `dmlw record` and `dmlw run`, over disks in memory.
+//! Runs the scripts of `dmlw record` and `dmlw run`, on disks in memory.
 //!
-//! `record`: requests go to the recorder and to the data device, and a line says how each ended.
-//! `Running` is a script's run so far: the recorder, the data device, and the requests that were
-//! submitted. `run` runs the lines of a script one after another. `specs/Lines` says what each kind
-//! of line does and prints, and `specs/Runs` what all lines do.
+//! `record` runs a script with one thread. Requests go to the recorder and to the data device, and
+//! a line is printed for the end of each. `Running` is a script's run so far: the recorder, the
+//! data device, and the submitted requests. `run` runs the lines of a script in order.
+//! `specs/Lines` says what each kind of line does and prints, and `specs/Runs` what all lines do
+//! together.
 //!
-//! `run_seats`: a thread for each seat makes the calls of its lines in order, and another thread
-//! writes the log. Then the recorder is closed. `specs/SeatRuns` says what a run returns: each
-//! seat's tally and the log's disk.
+//! `run_seats` runs a script of seats. A thread for each seat makes the calls of its lines in
+//! order, and another thread writes the log. Then the recorder is closed. `specs/SeatRuns` says
+//! what a run returns: each seat's tally, and the log's disk.
 #![tactic(auto)]
 
 pub use playing::new_stack;

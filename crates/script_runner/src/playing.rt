@@ -1,4 +1,4 @@
-//! Runs a script on two disks in memory, each under its layers, over a new log.
+//! Runs a script on two disks in memory, each under its layers, with a new log.
 ghost use Rattle.std.specs.Prelude.{◌≡◌, ◌≤◌, ◌/◌, ◌⊎◌, IfErr, IfOk};
 ghost use Rattle.bio.specs.Sizes.{bytes_of};
 ghost use Rattle.dmlw_script.specs.Plans.{IsDisk, top_of};
@@ -22,18 +22,19 @@ use sector_disk::SectorDisk;
 use std::alloc::Global;
 use std::io::Write;
 
-// What a script's run left, besides its output.
+// What a script's run leaves, besides its output.
 #[derive(Drop)]
 pub(crate) struct Played<L: BlockDev + Drop> {
     // The recorder after the last line.
     pub(crate) recorder: Recorder<L>,
     // How many calls the layers of the data device dropped and reported as done.
     pub(crate) data_lies: u64,
-    // Whether memory sufficed for all that the lines asked of the recorder and the data device.
+    // Whether memory sufficed for everything that the lines asked, except perhaps for reads.
     pub(crate) ample: bool,
 }
 
-// Runs a script, which was read from `text`, on two disks in memory under the layers that it names.
+// Runs `script` on two disks in memory, each under the layers that the script names. `text` is the
+// script's text.
 pub(crate) fn play_on_disks<O: Write>(
     alloc: Global,
     text: &[u8],
@@ -50,7 +51,7 @@ pub(crate) fn play_on_disks<O: Write>(
     play_beside(alloc, text, script, log, out)
 }
 
-// As above, with the log on the device `log`.
+// Runs `script` with the data disk that it names, and with a new log on the device `log`.
 fn play_beside<L: Message + Drop, O: Write>(
     alloc: Global,
     text: &[u8],
@@ -73,8 +74,8 @@ fn play_beside<L: Message + Drop, O: Write>(
     play(alloc, text, script, log, data, out)
 }
 
-// Runs a script on the data device `disk`, with a new log on the device `log`. At least one log
-// sector fits on `log`.
+// Runs a script with the data device `disk` and a new log on the device `log`. `log` has room for
+// at least one log sector.
 fn play<D: Message + Drop, L: Message + Drop, O: Write>(
     alloc: Global,
     text: &[u8],
@@ -108,7 +109,7 @@ fn play<D: Message + Drop, L: Message + Drop, O: Write>(
     })
 }
 
-// Makes the run of a script before its first line: on the data device `disk`, with a new log on
+// Returns the run of a script before its first line: with the data device `disk`, with a new log on
 // `log`, and with room for `requests` requests.
 fn start_on<D: BlockDev + Drop, L: BlockDev + Drop>(
     alloc: Global,
@@ -126,7 +127,7 @@ fn start_on<D: BlockDev + Drop, L: BlockDev + Drop>(
     Ok(Running::new(alloc, recorder, disk, requests)?)
 }
 
-// Makes a recorder over a new log on a device, with log sectors of size `size`.
+// Returns a recorder with a new log on a device, with log sectors of size `size`.
 fn new_recorder<L: BlockDev + Drop>(
     alloc: Global,
     device: L,
@@ -146,14 +147,14 @@ fn new_recorder<L: BlockDev + Drop>(
     }
 }
 
-// Drops a device, and returns why no log could be made on it.
+// Drops the device, and returns the cause for which no log could be made on it.
 fn end_of<D: Drop>(refused: (D, End)) -> End
     ensures { result ≡ refused.1 }
 {
     refused.1
 }
 
-/// Makes a new disk of zeroes under the layers that `disk` names.
+/// Returns a new disk of zeroes under the layers that `disk` names.
 pub fn new_stack(alloc: Global, disk: &DiskSpec) -> Result<Stack, RunError>
     requires { IsDisk disk.now }
     ensures stack { IfOk result (IsStackOf disk.now) }
@@ -166,7 +167,7 @@ pub fn new_stack(alloc: Global, disk: &DiskSpec) -> Result<Stack, RunError>
     }
 }
 
-// Drops a stack, and returns why a layer over it was refused.
+// Drops the stack, and returns the refusal of the layer over it.
 fn refusal_of<D: Drop>(back: (D, Refusal)) -> Refusal
     ensures { result ≡ back.1 }
 {

@@ -1,4 +1,4 @@
-//! Prints what a line prints.
+//! Prints the results of lines.
 ghost use Rattle.std.specs.Prelude.{◌≡◌, ◌*◌, ◌<◌, IfErr, IfSome, OnOk, length, option_map};
 ghost use Rattle.std.specs.List.{AllByRecursion};
 ghost use Rattle.std.specs.Io.KnownBytes.{Appends};
@@ -18,7 +18,7 @@ use std::io::Write;
 // The size of a sector in bytes.
 const SECTOR: usize = SECTOR_BYTES as usize;
 
-// Prints that a request failed, if there was no memory to submit it.
+// Prints that a request failed, if memory ran out at its submission.
 pub(crate) fn print_submission<O: Write>(
     name: &ScriptId,
     request: &Request,
@@ -35,7 +35,7 @@ pub(crate) fn print_submission<O: Write>(
     }
 }
 
-// Prints how a request ended.
+// Prints whether a request succeeded.
 pub(crate) fn print_outcome<O: Write>(
     name: &ScriptId,
     ok: bool,
@@ -50,7 +50,7 @@ pub(crate) fn print_outcome<O: Write>(
     Ok(writeln!(out, "{name} {word}")?)
 }
 
-// Prints that there was no memory for a mark, if the recorder refused it.
+// Prints that a mark failed, if the recorder refused it because memory ran out.
 pub(crate) fn print_mark<O: Write>(reply: Reply, out: &mut O) -> Result<(), StepError>
     ensures output { OnOk result
         (Appends (O.contents out.old) (O.contents out.new) (mark_outcome reply)) }
@@ -62,7 +62,7 @@ pub(crate) fn print_mark<O: Write>(reply: Reply, out: &mut O) -> Result<(), Step
     }
 }
 
-// Prints the line of a read: the first byte of each sector, or that it failed.
+// Prints the line of a read: the first byte of each sector, or that the read failed.
 pub(crate) fn print_read<O: Write>(
     first: u64,
     count: u64,
@@ -112,14 +112,14 @@ fn hex_digit(half: u8) -> u8
     }
 }
 
-// Returns the word for how a request ended.
+// Returns the word that says whether a request succeeded.
 fn outcome_word(ok: bool) -> &'static str
     ensures { result.now ≡ outcome_word ok }
 {
     if ok { "ok" } else { "failed" }
 }
 
-// Returns the name of a request, given its index.
+// Returns the name of the request at index `request`.
 pub(crate) fn name_of(names: &[ScriptId], request: usize) -> &ScriptId
     requires named { request < length names.now }
     requires ids { AllByRecursion IsName names.now }

@@ -1,4 +1,4 @@
-//! Records a script: `record` runs it, and returns the log's disk, the status and the lies.
+//! Records a script, and returns the log's disk, its status, and the counts of lies.
 ghost use Rattle.std.specs.Prelude.{◌≡◌, IfErr, IfOk, List, option_copied, ℕ};
 ghost use Rattle.std.specs.Io.KnownBytes.{Appends};
 ghost use Rattle.bio.specs.Content.{AgreeBelow, gather};
@@ -18,34 +18,35 @@ use sector_disk::SectorDisk;
 use std::alloc::Global;
 use std::io::Write;
 
-/// How many calls the layers of each disk dropped and reported as done. A count stops at 2^64 - 1.
+/// How many calls the layers of each disk dropped and reported as done. Each count stops at 2^64 -
+/// 1.
 #[derive(Clone, Copy, Debug, PartialEq, Eq)]
 pub struct Lies {
-    /// The lies of the data disk's layers.
+    /// The lies of the layers over the data disk.
     pub data_disk: u64,
-    /// The lies of the log disk's layers.
+    /// The lies of the layers over the log's disk.
     pub log_disk: u64,
 }
 
-/// What recording a script left.
+/// What recording a script leaves.
 #[derive(Debug, Drop)]
 pub struct RunResult {
     /// The log's disk, below its layers.
     pub disk: SectorDisk,
-    /// The number of placed entries, the highest sector that they use, and why logging ended, if it
-    /// did.
+    /// The number of placed entries, the highest sector that they use, and the cause by which
+    /// logging ended, if it ended.
     pub status: Status,
     /// The lies of the layers.
     pub lies: Lies,
 }
 
-/// Records a script, which was read from `text`. It runs on two disks in memory, with the sizes and
-/// layers that it names, and what its lines print is written to `out`. If the script ends with a
-/// crash, the log's disk loses power at the end, with the script's picks.
+/// Records `script` on two disks in memory, with the sizes and layers that the script names. `text`
+/// is the script's text. What the lines print is written to `out`. If the script ends with a crash,
+/// the log's disk is crashed at the end, with the script's picks.
 ///
 /// The log is returned even if logging ended before the script did. If no log can be made, the
-/// fault is the cause. If a close or a message is refused, the fault names its line. If memory runs
-/// out or the output can't be written, the fault names no line.
+/// fault says why. If a close or a message is refused, the fault names its line. If memory runs out
+/// or the output can't be written, the fault names no line.
 pub fn record<O: Write>(
     alloc: Global,
     text: &[u8],
@@ -59,12 +60,13 @@ pub fn record<O: Write>(
     ensures faults { IfErr result
         (FailsOnDisks text.now script.now (O.contents out.old) (O.contents out.new)) }
 {
-    // For the prover.
+    // For the prover: what a crash leaves replays to what could be held, the lines change the
+    // recorder as its calls do, and closed runs leave whole logs.
     crashed_logs_replay_to_what_could_be::<Stack>();
     lines_go_as_one_call::<Stack, Stack>();
     closed_runs_leave_whole_logs::<Stack, Stack>();
     let played = play_on_disks(alloc, text, script, out)?;
-    // For the prover: what always holds of the recorder and its core.
+    // For the prover: this shows what always holds for the recorder and its core.
     let _events = played.recorder.events();
     let status = played.recorder.status();
     let data_lies = played.data_lies;
@@ -77,7 +79,7 @@ pub fn record<O: Write>(
     Ok(RunResult { disk, status, lies })
 }
 
-// Returns the log's disk below its layers. With picks, its power fails first.
+// Returns the log's disk without its layers. With picks, it is crashed first.
 fn left_disk(log: Stack, picks: Option<&[u64]>) -> SectorDisk
     ensures size { (shown_of result).size ≡ (shown_of (disk_of log)).size }
     ensures content { AgreeBelow (shown_of (disk_of log)).size

@@ -1,4 +1,4 @@
-//! Runs a script only for its events, which a judge needs.
+//! Runs a script to get only the recorder's events, which the command `judge` needs.
 ghost use Rattle.std.specs.Prelude.{◌≡◌, ◌&&◌, IfErr, IfOk, false, not, true};
 ghost use Rattle.std.specs.List.{list_any};
 ghost use Rattle.bio.specs.Lawful.{all_aligned, is_lawful};
@@ -18,7 +18,8 @@ use std::alloc::Global;
 use std::io;
 use std::marker::Model;
 
-/// The result of rehearsing a script. Its value in contracts is the list of the recorder's events.
+/// The recorder after a script ran for its events. Its value in contracts is the list of these
+/// events.
 #[derive(Drop)]
 pub struct Rehearsed {
     recorder: Recorder<Stack>,
@@ -36,7 +37,7 @@ impl Model for Rehearsed {
 }
 
 impl Rehearsed {
-    /// Returns the recorder's events, in their order.
+    /// Returns the recorder's events, in order.
     pub fn events(&self) -> &[CoreEvent]
         ensures { result.now ≡ self.now }
     {
@@ -44,25 +45,25 @@ impl Rehearsed {
     }
 }
 
-/// Runs a script, which was read from `text`, as `record` does, and keeps only the recorder's
-/// events. The log, and what the lines print, are dropped. If logging ends before the script does,
-/// the run goes on. It fails if `record` would.
+/// Runs `script` as `record` does, and keeps only the recorder's events. `text` is the script's
+/// text. The log and what the lines print are dropped. If logging ends before the script does, the
+/// run goes on. The call fails if `record` would fail.
 ///
-/// If memory ran out, but the run went on, the events may differ from those with enough memory.
-/// Then it fails with Memory, without a line. A read without memory doesn't count, since what it
+/// If memory runs out in a run that goes on, the events may differ from those with enough memory.
+/// Then the call fails with Memory, without a line. This doesn't apply to a read, since what it
 /// prints is dropped.
 pub fn events_of_run(alloc: Global, text: &[u8], script: &Script) -> Result<Rehearsed, RunError>
     ensures rehearsed { IfOk result (IsRehearsed script.now) }
-    // They are lawful for a device of the size of the data disk's top.
+    // The events are lawful for a device of the size of the data disk's topmost layer.
     ensures lawful { IfOk result (λ events. is_lawful (top_of script.now.data_disk) events ≡ true) }
-    // Each request among them is aligned to the log's sectors.
+    // Each request in the events is aligned to the log's sectors.
     ensures aligned { IfOk result
         (λ events. all_aligned (bytes_of script.now.log_size) events ≡ true) }
     ensures faults { IfErr result (FailsRehearsal text.now script.now) }
 {
-    // For the prover.
+    // For the prover: the lines change the recorder as its calls do.
     lines_go_as_one_call::<Stack, Stack>();
-    // For the prover: what always holds of a script (`IsPlan`).
+    // For the prover: the script satisfies `IsPlan`, as every script does.
     let _commands = script.commands();
     let played = play_on_disks(alloc, text, script, &mut io::sink())?;
     let ample = is_ample(played.ample, played.recorder.events());
@@ -74,15 +75,15 @@ pub fn events_of_run(alloc: Global, text: &[u8], script: &Script) -> Result<Rehe
     )
 }
 
-// Whether memory sufficed: `asked` says it for the lines, and the events for logging.
+// Returns whether memory sufficed: `asked` says it for the script's lines, `events` for logging.
 fn is_ample(asked: bool, events: &[CoreEvent]) -> bool
     ensures { result ≡ (asked && not (list_any is_memory_stop events.now)) }
 {
     asked && !has_memory_stop(events)
 }
 
-// Returns `made` if memory sufficed, else a fault. For the prover: a generic function keeps it from
-// looking into the drop of `made`.
+// Returns `made` if memory sufficed, otherwise the fault Memory. For the prover: `T` is a type
+// parameter here, so the prover doesn't look into the drop of `made`.
 fn kept_if<T: Drop>(ample: bool, made: T) -> Result<T, RunError>
     ensures kept { IfOk result (λ it. (it ≡ made) × (ample ≡ true)) }
     ensures refused { IfErr result (λ fault. (fault ≡ memory_error) × (ample ≡ false)) }
@@ -93,14 +94,14 @@ fn kept_if<T: Drop>(ample: bool, made: T) -> Result<T, RunError>
     Ok(made)
 }
 
-// Whether one of the events says that logging ended for lack of memory.
+// Returns whether one of the events is a Stop because memory ran out.
 fn has_memory_stop(events: &[CoreEvent]) -> bool
     ensures { result ≡ list_any is_memory_stop events.now }
 {
     events.iter().any(|event| is_memory_stop(event))
 }
 
-// Whether an event says that logging ended for lack of memory.
+// Returns whether an event is a Stop because memory ran out.
 fn is_memory_stop(event: &CoreEvent) -> bool
     ensures { result ≡ is_memory_stop event.now }
 {

@@ -1,4 +1,4 @@
-//! The requests that lines submit, and what became of each.
+//! The requests of a run, and what became of each at its submission.
 ghost use Rattle.std.specs.Prelude.{◌≡◌, IfOk, IsOk, Ok, false, ℕ};
 ghost use Rattle.std.specs.List.{list_all};
 ghost use Rattle.bio.specs.Check.{check_sized_answer};
@@ -14,19 +14,19 @@ use std::alloc::AllocError;
 /// What became of a script's request at its submission.
 #[derive(Debug, Drop)]
 pub enum Request {
-    /// The recorder tracks the request by `id`, or passed it, if `id` is None.
+    /// The recorder tracks the request by `id`; if `id` is None, it passed the request.
     Asked { bio: Bio, id: Option<Id> },
-    /// There was no memory for the request, so the data device won't be called for it.
+    /// Memory for the request ran out, so the data device won't be called for it.
     NotAsked,
 }
 
-/// Makes the request that a line submits. Writes of the same byte share their data.
+/// Returns the request that a line submits. Writes of the same byte share their data.
 #[tactic(auto, using(crate::proofs::SubmitLines::bio_suits))]
 pub fn bio_of(data: &mut WriteData, submission: Submission) -> Result<Bio, AllocError>
     requires { (bytes sectors : ℕ) × (submission_answer bytes sectors submission ≡ Ok tt) }
     ensures made { IfOk result (λ bio. bio ≡ bio_of submission) }
     ensures no_data { has_data (bio_of submission) ≡ false → IsOk result }
-    // The request passes the test that its line passes.
+    // If the line passes its check, the request passes the recorder's check.
     ensures suits { (bytes sectors : ℕ) → submission_answer bytes sectors submission ≡ Ok tt
         → check_sized_answer bytes (bio_of submission) sectors ≡ Ok tt }
 {
@@ -48,14 +48,14 @@ pub fn bio_of(data: &mut WriteData, submission: Submission) -> Result<Bio, Alloc
     }
 }
 
-// Whether there was memory for each request.
+// Returns whether memory sufficed for each request.
 pub(crate) fn are_asked(requests: &[Request]) -> bool
     ensures { result ≡ list_all is_asked requests.now }
 {
     requests.iter().all(|request| is_asked(request))
 }
 
-// Whether there was memory for a request.
+// Returns whether memory sufficed for a request.
 fn is_asked(request: &Request) -> bool
     ensures { result ≡ is_asked request.now }
 {

@@ -1,4 +1,4 @@
-//! Runs all lines of a script, or those before the first that is refused.
+//! Runs the lines of a script, up to the first line that is refused.
 ghost use Rattle.bio.specs.Sizes.{bytes_of};
 ghost use Rattle.dmlw_script.specs.Plans.{top_of};
 ghost use Rattle.recorder.specs.Fields.{core_of};
@@ -13,13 +13,13 @@ use dmlw_script::{Script, laws, line_of};
 use refusals::{Fault, RunError};
 use std::io::Write;
 
-/// Runs a script, which was read from `text`, from its first line on. `running` has no requests
-/// yet. Its data device has the size of the data disk's top, and its log has the sectors that the
-/// script names. What the lines print is written to `out`.
+/// Runs the lines of `script` from the first one on; `text` is the script's text. `running` has no
+/// requests yet. Its data device has the size of the data disk's topmost layer, and its log has the
+/// sectors that the script names. What the lines print is written to `out`.
 ///
-/// The run ends early in three cases. If a close or a message is refused, the fault names its line.
-/// If the output can't be written, or memory runs out for what the run itself keeps, it names no
-/// line.
+/// If a close or a message is refused, the run ends, and the fault names its line. If the output
+/// can't be written, or memory runs out for the run itself, the run ends too, and the fault names
+/// no line.
 pub fn run<D: Message + Drop, L: Message + Drop, O: Write>(
     text: &[u8],
     script: &Script,
@@ -37,7 +37,8 @@ pub fn run<D: Message + Drop, L: Message + Drop, O: Write>(
         (EndsRun (answering D.answers L.answers) text.now script.now (O.contents out.old)
         (O.contents out.new) running.old) }
 {
-    // For the prover.
+    // For the prover: each line of a script may follow the lines before it, and no request ends
+    // twice.
     laws::requests_end_once();
     for (place, command) in script.commands().iter().enumerate() {
         match running.run_line(command, script.names(), out) {

@@ -1,5 +1,4 @@
-//! Runs a script line by line: `Running` has the recorder, the data device and the script's
-//! requests.
+//! The run of a script so far (`Running`), and what each line does to it.
 ghost use Rattle.std.specs.Prelude.{IsTrue};
 ghost use Rattle.std.specs.List.{list_all};
 ghost use Rattle.script_runner.specs.Submissions.{fits_device};
@@ -19,8 +18,8 @@ use refusals::{Refusal, ascii_text};
 use std::alloc::{AllocError, Global};
 use std::io::Write;
 
-/// A script's run so far: the recorder, the data device, and the submitted requests. A request's
-/// number is its index in the list.
+/// A script's run so far: the recorder, the data device, and the submitted requests. The number of
+/// a request is its index in the list.
 #[derive(Drop)]
 pub struct Running<D: BlockDev + Drop, L: BlockDev + Drop> {
     alloc: Global,
@@ -28,10 +27,10 @@ pub struct Running<D: BlockDev + Drop, L: BlockDev + Drop> {
     disk: D,
     write_data: WriteData,
     requests: Vec<Request>,
-    // The time at which the calls of both devices begin.
+    // The time of the next calls of both devices.
     moment: Ms,
-    // True once memory ran out for a mark, for the log's writer, or for a data device's call other
-    // than a read. A request without memory for its submission is `NotAsked` instead.
+    // Whether memory ran out for a mark, for the log's writer, or for a data device's call other
+    // than a read. If memory runs out for a submission, its request is `NotAsked` instead.
     short: bool,
     ghost fits: { IsTrue (list_all (fits_device (D.shown disk).size) requests.items) },
 }
@@ -40,7 +39,7 @@ impl<D: BlockDev + Drop, L: BlockDev + Drop> Running<D, L> {
     ghost use Rattle.std.specs.Prelude.{◌≡◌, IfOk, [], false};
     ghost use Rattle.script_runner.specs.Lines.{is_ample};
 
-    /// Makes the run of a script before its first line, at time 0, with room for `requests`
+    /// Returns the run of a script before its first line, at time 0, with room for `requests`
     /// requests.
     pub fn new(
         alloc: Global,
@@ -70,14 +69,14 @@ impl<D: BlockDev + Drop, L: BlockDev + Drop> Running<D, L> {
         &self.recorder
     }
 
-    /// Whether memory sufficed for all lines, except reads.
+    /// Returns whether memory sufficed for all lines, except perhaps for reads.
     pub fn is_ample(&self) -> bool
         ensures { result ≡ is_ample self.now }
     {
         !self.short && are_asked(self.requests.as_slice())
     }
 
-    /// Returns the recorder and the data device as they are.
+    /// Returns the recorder and the data device, unchanged.
     pub fn into_parts(self) -> (Recorder<L>, D)
         ensures recorder { result.0 ≡ self.recorder }
         ensures device { result.1 ≡ self.disk }
@@ -109,7 +108,7 @@ impl<D: Message + Drop, L: Message + Drop> Running<D, L> {
     ghost use Rattle.script_runner.specs.Lines.{count_of};
     ghost use Rattle.script_runner.specs.inside.Steps.{StepKeeps};
 
-    // Submits the next request.
+    // Submits the next request, and prints that it failed if memory ran out.
     fn submit<O: Write>(
         &mut self,
         submission: Submission,
@@ -134,7 +133,7 @@ impl<D: Message + Drop, L: Message + Drop> Running<D, L> {
         Ok(())
     }
 
-    // Passes a request to the data device, and records and prints the result.
+    // Passes a request to the data device, and records and prints its result.
     fn complete<O: Write>(
         &mut self,
         request: usize,
@@ -152,7 +151,8 @@ impl<D: Message + Drop, L: Message + Drop> Running<D, L> {
         ensures count { OnOk result
             (length self.new.requests.items ≡ length self.old.requests.items) }
     {
-        // For the prover.
+        // For the prover: `RecorderFrame` holds for no call of the recorder, and for two if it
+        // holds for each.
         laws::several_calls_go_as_one::<L>();
         match &self.requests[request] {
             Request::NotAsked => Ok(()),
@@ -166,8 +166,8 @@ impl<D: Message + Drop, L: Message + Drop> Running<D, L> {
         }
     }
 
-    // Reads `count` sectors of the data device, from sector `first` on. Prints the first byte of
-    // each, or that the read failed.
+    // Reads `count` sectors of the data device from sector `first` on. Prints the first byte of
+    // each sector, or that the read failed.
     fn read<O: Write>(&mut self, first: u64, count: u64, out: &mut O) -> Result<(), StepError>
         requires { range_answer first count (D.shown self.old.disk).size ≡ Ok tt }
         ensures keeps { StepKeeps self.old self.new }
@@ -177,7 +177,8 @@ impl<D: Message + Drop, L: Message + Drop> Running<D, L> {
         ensures goes { RecorderFrame (recorder_view self.old.recorder)
             (recorder_view self.new.recorder) }
     {
-        // For the prover.
+        // For the prover: `RecorderFrame` holds for no call of the recorder, and for two if it
+        // holds for each.
         laws::several_calls_go_as_one::<L>();
         let bytes = read_sectors(&mut self.disk, self.alloc, self.moment, first, count);
         print_read(first, count, &bytes, out)
@@ -194,7 +195,7 @@ impl<D: Message + Drop, L: Message + Drop> Running<D, L> {
         self.short |= is_memory_end(&turn);
     }
 
-    // Passes a mark to the recorder, and prints `mark failed` if there is no memory for it.
+    // Passes a mark to the recorder. Prints `mark failed` if memory ran out.
     fn mark<O: Write>(&mut self, text: &Bytes, out: &mut O) -> Result<(), StepError>
         requires { is_line_text text.now ≡ true }
         ensures keeps { StepKeeps self.old self.new }
@@ -210,7 +211,7 @@ impl<D: Message + Drop, L: Message + Drop> Running<D, L> {
         print_mark(reply, out)
     }
 
-    // Sets the time at which later calls of both devices begin.
+    // Sets the time of the later calls of both devices.
     fn set_moment(&mut self, moment: Ms)
         ensures sets { SetsTime moment [] self.old self.new }
         ensures moment { self.new.moment ≡ moment }
@@ -224,7 +225,7 @@ impl<D: Message + Drop, L: Message + Drop> Running<D, L> {
         self.moment = moment;
     }
 
-    // Closes recording. Then the writer takes turns until the log is complete, or logging ends.
+    // Closes recording. Then the writer takes turns until the log is complete or logging ends.
     fn close(&mut self) -> Result<(), StepError>
         ensures keeps { StepKeeps self.old self.new }
         ensures ends { OnOk result (EndsRecording [] self.old self.new) }
@@ -233,7 +234,8 @@ impl<D: Message + Drop, L: Message + Drop> Running<D, L> {
         ensures refused { IfErr result (λ stop. (refusal : Refusal) × (stop ≡ AtLine refusal)
             × Closes (replies.Refused refusal) self.old.recorder self.new.recorder) }
     {
-        // For the prover.
+        // For the prover: `RecorderFrame` holds for no call of the recorder, and for two if it
+        // holds for each.
         laws::several_calls_go_as_one::<L>();
         if let Reply::Refused(refusal) = self.recorder.event(Event::Close) {
             return Err(StepError::AtLine(refusal));
@@ -243,7 +245,7 @@ impl<D: Message + Drop, L: Message + Drop> Running<D, L> {
         Ok(())
     }
 
-    // Passes a message to a layer of a disk.
+    // Sends a message to a layer of a disk.
     #[tactic(auto, using(crate::proofs::LineSteps::line_ascii))]
     fn message(&mut self, over: DiskName, layer: u64, text: &Bytes) -> Result<(), StepError>
         requires { is_line_text text.now ≡ true }
@@ -257,7 +259,8 @@ impl<D: Message + Drop, L: Message + Drop> Running<D, L> {
         ensures goes { RecorderFrame (recorder_view self.old.recorder)
             (recorder_view self.new.recorder) }
     {
-        // For the prover.
+        // For the prover: `RecorderFrame` holds for no call of the recorder, and for two if it
+        // holds for each.
         laws::several_calls_go_as_one::<L>();
         let text = ascii_text(text.as_slice());
         let answer = match over {

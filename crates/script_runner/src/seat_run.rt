@@ -1,4 +1,5 @@
-//! Runs a script of seats: makes the disks, runs the seats, and closes the recorder.
+//! Runs a script of seats: makes the disks and the recorder, runs the seats, and closes the
+//! recorder.
 ghost use Rattle.std.specs.Prelude.{◌≡◌, ◌<◌, IfErr, IfOk, length, map};
 ghost use Rattle.lock_state.specs.PlacedItems.{ground_of};
 ghost use Rattle.script_runner.specs.Tallies.{joined};
@@ -31,24 +32,24 @@ use std::marker::Brand;
 use std::sync::Wait;
 use std::thread::Threads;
 
-/// The result of a script's run.
+/// What a run of a script of seats returns.
 #[derive(Debug, Drop)]
 pub struct Ran {
-    /// The tally of each seat, in the order of the seats.
+    /// The tally of each seat, in their order.
     pub tallies: Vec<Tally>,
     /// The log's disk, below its layers.
     pub disk: SectorDisk,
-    /// The number of placed entries, the highest sector that they use, and why logging ended, if it
-    /// did.
+    /// The number of placed entries, the highest sector that they use, and the cause by which
+    /// logging ended, if it ended.
     pub status: Status,
     /// The lies of the layers.
     pub lies: Lies,
 }
 
-/// Runs a script on two disks in memory, with the sizes and layers that it names. Each seat makes
-/// the calls of its lines in its own thread, and then the recorder is closed. The log is returned
-/// even if logging ended before the script did. If no log can be made, the fault is the cause. No
-/// fault names a line.
+/// Runs a script on two disks in memory, with the sizes and layers that the script names. Each seat
+/// makes the calls of its lines in its own thread; then the recorder is closed. The log is returned
+/// even if logging ended before the script did. If no log can be made, the fault says why. No fault
+/// names a line.
 pub fn run_seats<H: Threads + Wait + Sync>(
     rt: &H,
     alloc: Global,
@@ -65,8 +66,8 @@ pub fn run_seats<H: Threads + Wait + Sync>(
     run_on::<Brand, H>(rt, alloc, unnamed, device, log, script)
 }
 
-// Runs a script on a data device, with a new log on the device `log`. `unnamed` has the ledger, the
-// table and the board that `R` names.
+// Runs a script with a data device, and with a new log on the device `log`. `unnamed` has the
+// ledger, the table and the board that `R` names.
 fn run_on<R: Run + Names + Send + Sync, H: Threads + Wait + Sync>(
     rt: &H,
     alloc: Global,
@@ -108,7 +109,7 @@ fn run_on<R: Run + Names + Send + Sync, H: Threads + Wait + Sync>(
     Ok(ran_of(tallies, closed))
 }
 
-// Makes a recorder over a new log, with the seats of the script.
+// Returns a recorder with a new log, and with the seats that the script asks for.
 fn start<R: Run + Names>(
     alloc: Global,
     unnamed: Unnamed,
@@ -135,14 +136,14 @@ fn start<R: Run + Names>(
     }
 }
 
-// Drops both devices, and returns why no log could be made.
+// Drops both devices, and returns the cause for which no log could be made.
 fn end_of(refused: (Stack, Stack, End)) -> End
     ensures { result ≡ refused.2 }
 {
     refused.2
 }
 
-// Makes the `Work` of each seat, before its first call.
+// Returns the `Work` of each seat, before its first call.
 fn works_of<R: Run + Names>(
     alloc: Global,
     seats: Vec<Seat<R>>,
@@ -159,14 +160,14 @@ fn works_of<R: Run + Names>(
     Ok(works)
 }
 
-// What the seats leave for the close.
+// What the seats leave: their parts for the close, and their tallies.
 struct Parts<R: Run + Names> {
     seats: Vec<Seat<R>>,
     tallies: Vec<Tally>,
     receipts: Vec<Receipt<R>>,
 }
 
-// Splits the works into the seats, their tallies in the same order, and all receipts.
+// Splits the works into their seats, their tallies in the same order, and their receipts.
 #[tactic(auto, using(crate::proofs::SeatRunSteps::map_push, crate::proofs::SeatRunSteps::joined_next))]
 fn parts_of<R: Run + Names>(alloc: Global, works: Vec<Work<R>>) -> Result<Parts<R>, AllocError>
     ensures seats { IfOk result
@@ -192,7 +193,7 @@ fn parts_of<R: Run + Names>(alloc: Global, works: Vec<Work<R>>) -> Result<Parts<
     })
 }
 
-// Closes the recorder with all its seats and receipts.
+// Closes the recorder with all seats and all receipts.
 fn close<R: Run + Names>(
     recorder: Shared<Stack, Stack, R>,
     writer: WriterSeat<R>,
@@ -219,7 +220,7 @@ fn close<R: Run + Names>(
     }
 }
 
-// Makes the result of a run from the tallies and the closed recorder.
+// Returns the result of a run, from the tallies and the closed recorder.
 fn ran_of(tallies: Vec<Tally>, closed: Closed<Stack, Stack>) -> Ran
     ensures tallies { result.tallies.items ≡ tallies.items }
     ensures status { result.status ≡ closed.status }

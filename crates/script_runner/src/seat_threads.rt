@@ -1,4 +1,4 @@
-//! The threads of a run: one for each seat, and one for the writer.
+//! The threads of a run: one for each seat, and one that writes the log.
 ghost use Rattle.std.specs.Prelude.{◌≡◌, ◌⊎◌, IfErr, IfOk};
 ghost use Rattle.refusals.specs.declared.refusal.Refusal.TheVariants as refusals;
 ghost use Rattle.script_runner.specs.inside.SeatWork.{AreNewPlayers, DoesLines, FitsRecorder};
@@ -16,9 +16,9 @@ use std::sync::Wait;
 use std::thread;
 use std::thread::Threads;
 
-// Starts the writer, makes all calls in a thread for each seat, and asks to close. If a seat's
-// thread can't be started, its calls are made on this thread. If the writer's thread can't be
-// started, no call is made.
+// Starts the writer's thread, makes each seat's calls in a thread, and asks the recorder to close.
+// If a seat's thread can't be started, this thread makes the seat's calls. If the writer's thread
+// can't be started, no call is made.
 pub(crate) fn run_all<
     D: BlockDev + Drop + Send,
     L: BlockDev + Drop + Send,
@@ -85,8 +85,8 @@ fn play<
     works
 }
 
-// Asks the recorder to close. If it refuses, logging is ended, so that the writer doesn't wait for
-// more.
+// Asks the recorder to close. If the recorder refuses, ends logging, since otherwise the writer
+// would wait for more entries.
 fn ask_close<D: BlockDev + Drop, L: BlockDev + Drop, R: Run + Names, H: Wait>(
     rt: &H,
     recorder: &Shared<D, L, R>,

@@ -1,4 +1,4 @@
-//! The calls that one thread makes at its seat.
+//! The calls that a thread makes at its seat.
 ghost use Rattle.std.specs.Prelude.{◌≡◌, ◌==◌, ◌<◌, Ok, true, vec_capacity, vec_len};
 ghost use Rattle.dmlw_script.specs.declared.seat_call.Call.TheVariants.{Mark, Submit};
 ghost use Rattle.dmlw_script.specs.Plans.{submission_answer};
@@ -21,13 +21,14 @@ use std::alloc::Global;
 use std::marker::Model;
 use std::sync::Wait;
 
-/// A seat, with the counts of its outcomes and its receipts so far. Contracts see it as a `Player`.
+/// A seat, with the counts of its outcomes and its receipts so far. Its value in contracts is a
+/// `Player`.
 #[derive(Drop)]
 pub struct Work<R: Run + Names> {
     pub(crate) number: u64,
     pub(crate) seat: Seat<R>,
     pub(crate) tally: Tally,
-    // The receipts in the answers to its calls, in their order.
+    // The receipts in the answers to the seat's calls, in order.
     pub(crate) receipts: Vec<Receipt<R>>,
     write_data: WriteData,
 }
@@ -46,7 +47,7 @@ impl<R: Run + Names> Model for Work<R> {
 }
 
 impl<R: Run + Names> Work<R> {
-    /// Makes the work of seat `number`, before its first call.
+    /// Returns the work of seat `number`, before its first call.
     pub fn new(alloc: Global, number: u64, seat: Seat<R>) -> Work<R>
         requires { seat ≡ new_part number }
         ensures { result ≡ new_player number }
@@ -60,7 +61,7 @@ impl<R: Run + Names> Work<R> {
         }
     }
 
-    /// Makes the calls of the seat's own lines in their order, at time 0.
+    /// Makes the calls of the seat's own lines in order, at time 0.
     pub fn run<D: BlockDev + Drop, L: BlockDev + Drop, H: Wait>(
         &mut self,
         rt: &H,
@@ -76,7 +77,7 @@ impl<R: Run + Names> Work<R> {
         }
     }
 
-    // Makes the call of a line, if it is the seat's own.
+    // Makes the call of a line, if the line belongs to this seat.
     fn run_line<D: BlockDev + Drop, L: BlockDev + Drop, H: Wait>(
         &mut self,
         rt: &H,
@@ -93,8 +94,8 @@ impl<R: Run + Names> Work<R> {
         self.tally.count(outcome);
     }
 
-    // Makes a call. It reserves memory for the receipt first. If there is none, a request fails and
-    // a mark is refused, and the recorder isn't called.
+    // Makes a call. Memory for its receipt is reserved first. If that fails, a request counts as
+    // failed and a mark as refused, and the recorder isn't called.
     fn make<D: BlockDev + Drop, L: BlockDev + Drop, H: Wait>(
         &mut self,
         rt: &H,
@@ -110,8 +111,8 @@ impl<R: Run + Names> Work<R> {
         }
     }
 
-    // Submits a request. If there is no memory for its receipt or its data, it fails, and the
-    // recorder isn't called.
+    // Submits a request. If memory for its receipt or its data runs out, the request counts as
+    // failed, and the recorder isn't called.
     #[tactic(auto, using(crate::proofs::Seats::makes_request, crate::proofs::Seats::fails))]
     fn submit<D: BlockDev + Drop, L: BlockDev + Drop, H: Wait>(
         &mut self,
@@ -155,14 +156,14 @@ impl<R: Run + Names> Work<R> {
     }
 }
 
-// Whether the line belongs to seat `number`.
+// Returns whether the line belongs to seat `number`.
 fn is_own(line: &SeatCall, number: u64) -> bool
     ensures { result ≡ (line.now.seat == number) }
 {
     line.seat == number
 }
 
-// Keeps a receipt, if there is one, for the close. There is room for it.
+// Stores a receipt for the close, if there is one. `receipts` has room for it.
 fn keep<R: Run>(receipts: &mut Vec<Receipt<R>>, receipt: Option<Receipt<R>>)
     requires { vec_len receipts.old < vec_capacity receipts.old }
     ensures { receipts.new.items ≡ and_kept receipts.old.items receipt }
@@ -172,7 +173,7 @@ fn keep<R: Run>(receipts: &mut Vec<Receipt<R>>, receipt: Option<Receipt<R>>)
     }
 }
 
-// Returns the receipt of a request, if it was logged.
+// Returns the receipt in the answer to a request, if there is one.
 fn receipt_of<C: Drop>(answer: Answer<C>) -> Option<C>
     ensures { result ≡ receipt_in answer }
 {
@@ -187,7 +188,7 @@ fn receipt_of<C: Drop>(answer: Answer<C>) -> Option<C>
     }
 }
 
-// Returns the receipt of a mark, if it was logged.
+// Returns the receipt in the answer to a mark, if there is one.
 fn mark_receipt<C: Drop>(answer: MarkAnswer<C>) -> Option<C>
     ensures { result ≡ mark_receipt_in answer }
 {

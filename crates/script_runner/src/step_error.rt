@@ -1,4 +1,4 @@
-//! Why a line stops the run of its script.
+//! Why a line stops the run of a script.
 ghost use Rattle.std.specs.Prelude.{◌≡◌};
 ghost use Rattle.std.specs.IoError.{error_kind};
 ghost use Rattle.refusals.specs.Errors.{io_refusal, memory_error, refused_by};
@@ -9,13 +9,13 @@ use std::alloc::{AllocError, AllocFailed};
 use std::io;
 use thiserror::Error;
 
-/// The reason why a line stops the run of its script.
+/// The reason for which a line stops the run of a script.
 #[derive(Clone, Copy, Debug, PartialEq, Eq, Error)]
 pub enum StepError {
-    /// The line is refused, and the fault will name it.
+    /// The line is refused. The fault will name this line.
     #[error("the line is refused: {0}")]
     AtLine(Refusal),
-    /// The fault names no line.
+    /// The run ends with this fault, which names no line.
     #[error("{0}")]
     Whole(RunError),
 }

@@ -8,19 +8,19 @@ use shared::{Answer, MarkAnswer};
 /// The outcome of a call.
 #[derive(Clone, Copy, Debug, PartialEq, Eq)]
 pub enum Outcome {
-    /// It succeeded.
+    /// The call succeeded.
     Done,
-    /// It succeeded, and its entry is in each log that a crash leaves.
+    /// The call succeeded, and each log that a crash leaves has its entry.
     Logged,
-    /// The device failed, or there was no memory.
+    /// The device failed, or memory ran out.
     Failed,
-    /// Logging ended before its entry was durable.
+    /// Logging ended before the call's entry was durable.
     NotLogged,
-    /// It was refused.
+    /// The recorder refused the call.
     Refused,
 }
 
-/// The number of calls with each outcome.
+/// How many calls had each outcome.
 #[derive(Clone, Copy, Debug, PartialEq, Eq)]
 pub struct Tally {
     pub done: u64,
@@ -31,7 +31,7 @@ pub struct Tally {
 }
 
 impl Outcome {
-    // Returns the outcome of a request, given its answer.
+    // Returns the outcome of a request, given the recorder's answer.
     pub(crate) fn of_request<R: Run>(answer: &Answer<Receipt<R>>) -> Outcome
         ensures { result ≡ outcome_of answer.now }
     {
@@ -44,7 +44,7 @@ impl Outcome {
         }
     }
 
-    // Returns the outcome of a mark, given its answer.
+    // Returns the outcome of a mark, given the recorder's answer.
     pub(crate) fn of_mark<R: Run>(answer: &MarkAnswer<Receipt<R>>) -> Outcome
         ensures { result ≡ mark_outcome answer.now }
     {
@@ -57,7 +57,7 @@ impl Outcome {
 }
 
 impl Tally {
-    // Returns the tally of no calls.
+    // Returns the tally before the first call.
     pub(crate) fn none() -> Tally
         ensures { result ≡ no_calls }
     {
@@ -70,7 +70,7 @@ impl Tally {
         }
     }
 
-    // Counts one more call. A count stops at 2^64 - 1.
+    // Counts one more call. Each count stops at 2^64 - 1.
     pub(crate) fn count(&mut self, outcome: Outcome)
         ensures { HasRoom self.old → self.new ≡ counted self.old outcome }
     {

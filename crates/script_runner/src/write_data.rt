@@ -1,5 +1,5 @@
-// The data of a script's writes. Each write has one byte in all its sectors, and writes of the same
-// byte share their data.
+// The data of a script's writes. All bytes of a write are the same, and writes of the same byte
+// share their data.
 ghost use Rattle.std.specs.Prelude.{◌≡◌, ◌≤◌, IfOk, OnErr, OnOk, length, replicate};
 ghost use Rattle.script_runner.specs.inside.WriteData.{AreFilled, HasRow};
 
@@ -9,18 +9,18 @@ use std::alloc::{AllocError, Global};
 // The size of a sector in bytes.
 const SECTOR: usize = SECTOR_BYTES as usize;
 
-// The largest size of a write in bytes.
+// A write has at most this many bytes.
 const MOST: usize = 2048 * SECTOR;
 
-// The number of rows, one for each value of a byte.
+// There is one row for each value of a byte.
 const ROWS: usize = 256;
 
-/// The data that a script's writes share: for each byte a row of at most 1 MiB.
+/// The data that a script's writes share: a row of at most 1 MiB for each value of a byte.
 #[derive(Debug, Drop)]
 pub struct WriteData {
     alloc: Global,
-    // For each byte, the longest data that was made of it. There are no rows before the first
-    // write.
+    // For each byte, the longest data that was made of it so far. There are no rows before the
+    // first write.
     rows: Vec<Bytes>,
     ghost filled: { AreFilled rows.items },
 }
@@ -28,7 +28,7 @@ pub struct WriteData {
 impl WriteData {
     ghost use Rattle.std.specs.Prelude.{◌≡◌, ◌*◌, ◌≤◌, IfOk, replicate};
 
-    /// Makes an empty table.
+    /// Returns a table without rows.
     pub fn none(alloc: Global) -> WriteData {
         WriteData {
             alloc,
@@ -36,7 +36,7 @@ impl WriteData {
         }
     }
 
-    /// Returns the data of a write of `count` sectors: all bytes are `byte`.
+    /// Returns the data of a write of `count` sectors, in which each byte is `byte`.
     pub fn sectors_of(&mut self, count: u64, byte: u8) -> Result<Bytes, AllocError>
         requires { count ≤ 2048 }
         ensures { IfOk result (λ bytes. bytes ≡ replicate (count * 512) byte) }
@@ -62,7 +62,7 @@ impl WriteData {
     }
 }
 
-// Returns the first `count` bytes of a row.
+// Returns the first `count` bytes of the row of `byte`.
 fn first_of(rows: &[Bytes], byte: u8, count: usize) -> Result<Bytes, AllocError>
     requires filled { AreFilled rows.now }
     requires row { HasRow count byte rows.now }
@@ -71,7 +71,7 @@ fn first_of(rows: &[Bytes], byte: u8, count: usize) -> Result<Bytes, AllocError>
     rows[byte as usize].prefix(count)
 }
 
-// Makes an empty row for each byte, if there are none yet.
+// Makes an empty row for each byte, unless there are rows already.
 fn make_rows(alloc: Global, rows: &mut Vec<Bytes>) -> Result<(), AllocError>
     requires { AreFilled rows.old.items }
     ensures filled { AreFilled rows.new.items }
@@ -83,7 +83,7 @@ fn make_rows(alloc: Global, rows: &mut Vec<Bytes>) -> Result<(), AllocError>
     Ok(())
 }
 
-// Makes `length` bytes, all of them `byte`. Clones share them.
+// Returns `length` bytes, each of which is `byte`. Clones share them.
 fn filled(alloc: Global, byte: u8, length: usize) -> Result<Bytes, AllocError>
     ensures { IfOk result (λ bytes. bytes ≡ replicate length byte) }
 {

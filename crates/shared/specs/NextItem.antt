@@ -1,4 +1,4 @@
--- What the writer finds at the queue, and what it has in hand afterwards.
+-- What the writer finds in the queue, and which item it then has in hand.
 use Rattle.std.specs.Prelude.{◌≡◌, ◌≤◌, IsSome, None, Option, Some, false, is_some, length, true}
 use Rattle.bio.specs.Lawful.{has_no_close}
 use Rattle.pending.specs.CoreState.{items_of, next_item}
@@ -7,23 +7,24 @@ use Rattle.lock_state.specs.declared.note.Item.{Item as Placing}
 use Rattle.shared.specs.declared.writing.Next.{Next}
 use Rattle.shared.specs.declared.writing.Next.TheVariants.{Finished, Item, NoRoom, Stopped}
 
--- if the writer took an item, it has one in hand
+-- If the writer took an item, it has an item in hand.
 abbrev pub InHand : Next → Option Placing → Type 0
 InHand Item hand = IsSome hand
 InHand _ hand = Unit {0}
 
--- the queue gives no item, and nothing changes
+-- The queue has no next item, and nothing changes.
 abbrev pub GivesNone : Queue → Queue → Option Placing → Type 0
 GivesNone old new hand = (next_item old.core ≡ None) × ((new ≡ old) × (hand ≡ None))
 
--- the queue gives no item because all of the list was taken, and logging goes on
+-- The queue has no next item, because the whole completion list was taken. Logging goes on, and
+-- nothing changes.
 abbrev pub AllTaken : Queue → Queue → Option Placing → Type 0
 AllTaken old new hand =
     (old.stop ≡ None) × ((length (items_of old.core) ≤ old.core.taken) × GivesNone old new hand)
 
--- What the writer finds if it has nothing in hand. It takes the next item, or memory to take it
--- runs out. If the queue gives none, the writer finds that logging stopped, that recording is
--- closed, or that it has to wait (None).
+-- What a writer with nothing in hand finds. It takes the next item, unless memory for that runs
+-- out. If there is no next item, the writer finds that logging stopped or that recording is closed.
+-- Otherwise it must wait (None).
 abbrev pub FindsNext : Queue → Option Next → Queue → Option Placing → Type 0
 FindsNext old (Some Item) new hand =
     (is_some (next_item old.core) ≡ true)

@@ -5,9 +5,9 @@ use Rattle.lock_state.specs.History.{first_cause}
 use Rattle.lock_state.specs.PlacedItems.{IsNoneFrom, IsSettledAt, Log}
 use Rattle.lock_state.specs.Comparison.{Receipt}
 
--- A receipt if a settled item from number `from` on has this id. If there is none, the cause of the
--- store's end, or else the cause by which the waiting threads were released. None if logging goes
--- on.
+-- If a settled item with a number from `from` on has the id, the result is a receipt. Otherwise it
+-- is the cause of the store's end, or if there is none, the cause by which waiting threads were
+-- released. It is None if logging goes on.
 abbrev pub Finds : Log → ℕ → ℕ → Option (Result Receipt End) → Type 0
 Finds log id from (Some (Ok receipt)) =
     (receipt.id ≡ id) × ((from ≤ receipt.number) × IsSettledAt log id receipt.number)

@@ -5,13 +5,13 @@ use Rattle.bio.specs.declared.outcome.Status.{Status}
 use Rattle.board.specs.Posts.{opening}
 use Rattle.lock_state.specs.History.{Part, new_part}
 
--- There are `many` seats, numbered from 0, and none has made a call.
+-- `seats` are `many` seats, numbered from 0, that haven't made a call.
 pub record AreNewSeats (many : ℕ) (seats : List Part) : Type 0 where
   pub count : length seats ≡ many
   pub each : (number : ℕ) (seat : Part) → slice_get seats number ≡ Some seat → seat
       ≡ new_part number
 
--- There are `many` status seats, and each has seen only the status of an empty log.
+-- `readers` are `many` status seats that have seen only the status of an empty log.
 pub record AreNewReaders (many : ℕ) (readers : List (List Status)) : Type 0 where
   pub count : length readers ≡ many
   pub each : AllByRecursion (λ seen. seen ≡ opening ∷ []) readers

@@ -1,49 +1,49 @@
-// The answers to the calls of a seat.
+// The answers to the requests and marks of a seat.
 use bio::{BadBio, DevError, End};
 use refusals::Refusal;
 use thiserror::Error;
 
-/// The answer to a request. `C` is the `Receipt` of its recorder.
+/// The answer to a request. `C` is the `Receipt` of the seat's recorder.
 #[derive(Debug, Drop)]
 pub enum Answer<C> {
-    /// It succeeded.
+    /// The request succeeded.
     Done,
-    /// A read: the bytes of its sectors.
+    /// The request is a read that succeeded; these are the bytes.
     Read(Vec<u8>),
-    /// A write with FUA: it succeeded, and this is the receipt of its entry. A close to which the
-    /// receipt is passed finds that the entry is in each log that a crash leaves.
+    /// The request is a write with FUA that succeeded; this is the receipt of its entry. A close
+    /// that gets the receipt finds that each log that a crash leaves has the entry.
     Logged(C),
-    /// The device failed it, or memory ran out.
+    /// The device failed the request, or memory ran out.
     Failed(DevError),
-    /// A write with FUA: it succeeded, and logging ended by this cause before its entry was
-    /// durable. The entry may be in the log.
+    /// The request is a write with FUA that succeeded, but logging ended by this cause before its
+    /// entry was durable. The log may have the entry.
     NotLogged(End),
-    /// It may not be sent to the device. Nothing was recorded, and the device wasn't called.
+    /// The request doesn't pass its check. Nothing was recorded, and the device wasn't called.
     Refused(BadBio),
 }
 
-/// The answer to a mark. `C` is the `Receipt` of its recorder.
+/// The answer to a mark. `C` is the `Receipt` of the seat's recorder.
 #[derive(Debug, Drop)]
 pub enum MarkAnswer<C> {
-    /// This is the receipt of its entry. A close to which the receipt is passed finds that the
-    /// entry is in each log that a crash leaves.
+    /// This is the receipt of the mark's entry. A close that gets the receipt finds that each log
+    /// that a crash leaves has the entry.
     Logged(C),
-    /// Logging ended by this cause before its entry was durable. The entry may be in the log.
+    /// Logging ended by this cause before the mark's entry was durable. The log may have the entry.
     NotLogged(End),
-    /// It isn't recorded.
+    /// The mark isn't recorded.
     Refused(MarkRefusal),
 }
 
 /// Why a mark isn't recorded.
 #[derive(Clone, Copy, Debug, PartialEq, Eq, Error)]
 pub enum MarkRefusal {
-    /// Its text has a zero byte.
+    /// The mark's text has a zero byte.
     #[error("a zero byte in a mark's text")]
     BadText,
     /// Memory ran out.
     #[error("no memory")]
     Memory,
-    /// Recording was closed, and no Stop had ended it before.
+    /// Recording was closed, and no Stop had ended it before the Close.
     #[error("recording was closed")]
     AfterClose,
 }

@@ -32,21 +32,21 @@ use lock_state::{
 use pending::{Core, Hazard};
 use std::sync::Mutex;
 
-/// A recorder that was closed, taken apart.
+/// The parts of a closed recorder.
 #[derive(Drop)]
 pub struct Closed<D: Drop, L: Drop> {
     /// The recorded device.
     pub device: D,
     /// The log's device.
     pub log: L,
-    /// How far the log has come.
+    /// The status of the log, with the cause by which logging ended.
     pub status: Status,
-    /// Why logging ended: the cause of the first Stop, or else of the log's end. If it is None, a
-    /// close that is Ok has written all.
+    /// Why logging ended: the cause of the first Stop, or if there is none, of the log's end. If it
+    /// is None and the close is Ok, the whole completion list is written.
     pub end: Option<End>,
     /// The core, with the history (`Core::events`).
     pub core: Core,
-    /// The seat of each event; none for a Stop and a Close.
+    /// The seat of each event; None for a Stop and a Close.
     pub by: Vec<Option<u64>>,
     /// The first hazard, if there is one.
     pub hazard: Option<Hazard>,
@@ -55,30 +55,30 @@ pub struct Closed<D: Drop, L: Drop> {
     pub done: Vec<Done>,
     /// The items that were placed in the log, in order.
     pub placed: Vec<Item>,
-    /// The number of settled items.
+    /// How many of the placed items are settled.
     pub settled: u64,
-    /// The number of items that were taken to be placed.
+    /// How many items were taken in order to be placed.
     pub taken: u64,
-    /// The cause of the first Stop, even of one after the Close.
+    /// The cause of the first Stop, even if it came after the Close.
     pub stop: Option<End>,
-    /// Why the store ended.
+    /// The cause by which the store ended, if it ended.
     pub store_end: Option<End>,
 }
 
-/// What a close returns: the recorder, taken apart, and what was posted about its log.
+/// What a close that is Ok returns: the parts of the recorder, and what was posted about its log.
 #[derive(Drop)]
 pub struct Ending<D: Drop, L: Drop, R: Run + Names> {
     pub closed: Closed<D, L>,
     pub posts: Posts<R>,
     /// Why the waiting threads were released, if they were.
     pub released: Option<End>,
-    /// The number of items that the writer had placed. The close placed the others.
+    /// How many items the writer had placed. The close placed the others.
     pub written: u64,
-    /// Why logging had ended before the close wrote, if it had.
+    /// The cause by which logging had ended before the close wrote anything, if it had.
     pub found: Option<End>,
 }
 
-/// What a close returns if recording wasn't closed: all that was passed in.
+/// What a close returns if `ask_close` hasn't succeeded: everything that it got.
 #[derive(Drop)]
 pub struct Open<D: BlockDev + Drop, L: BlockDev + Drop, R: Run + Names> {
     pub recorder: Shared<D, L, R>,
@@ -87,8 +87,9 @@ pub struct Open<D: BlockDev + Drop, L: BlockDev + Drop, R: Run + Names> {
     pub receipts: Vec<Receipt<R>>,
 }
 
-/// What a close returns if what was passed in isn't the recorder's. It has the recorder, taken
-/// apart, with nothing more written, what was posted about its log, and all that was passed in.
+/// What a close returns if something that it got, or that the locks guarded, doesn't agree with the
+/// history. It has the parts of the recorder, without any further writes. It also has what was
+/// posted about the log, and everything that the close got.
 #[derive(Drop)]
 pub struct Strangers<D: Drop, L: Drop, R: Run + Names> {
     pub closed: Closed<D, L>,
@@ -100,19 +101,19 @@ pub struct Strangers<D: Drop, L: Drop, R: Run + Names> {
     pub receipts: Vec<Receipt<R>>,
 }
 
-/// Why a recorder wasn't closed, with what is returned.
+/// Why a recorder wasn't closed, with what the close returns.
 #[derive(Drop)]
 pub enum Unclosed<B, F> {
     /// `ask_close` hasn't succeeded.
     Busy(B),
-    /// A seat, a receipt, the placed items or the device's calls don't match the history.
+    /// A seat, a receipt, the placed items or the device's calls don't agree with the history.
     Foreign(F),
 }
 
 impl<D: BlockDev + Drop, L: BlockDev + Drop, R: Run + Names> Shared<D, L, R> {
-    /// Closes the recorder, after `ask_close` has succeeded and all threads have left it. Compares
-    /// all that is passed in, the placed items and the device's calls with the history. Then writes
-    /// what the writer left.
+    /// Closes the recorder, after `ask_close` has succeeded and all threads have left the recorder.
+    /// Compares everything that it gets, the placed items and the device's calls with the history.
+    /// Then writes what the writer left.
     pub fn close(
         self,
         seats: Vec<Seat<R>>,
@@ -292,7 +293,8 @@ impl<D: BlockDev + Drop, L: BlockDev + Drop, R: Run + Names> Shared<D, L, R> {
         }))
     }
 
-    // Returns what the locks guard if recording was closed, or else the recorder.
+    // Returns what the locks guarded, if recording was closed and the notes are there. Otherwise
+    // returns the recorder.
     fn leave_locks(self) -> Result<Held<D, L, R>, Shared<D, L, R>>
         ensures posted { IfOk result (λ held. ArePosted R.sector_bytes held.log.placed held.posts) }
         ensures latest { IfOk result (λ held. IsLatest R.sector_bytes held.log held.posts) }
@@ -347,8 +349,8 @@ struct Held<D: BlockDev + Drop, L: BlockDev + Drop, R: Run + Names> {
     device: DataState<D, R>,
 }
 
-// Returns whether all agrees with the history. The caller passes a note for each event; the values
-// of the notes don't matter.
+// Returns whether everything agrees with the history. The caller lends a note for each event; the
+// values of the notes don't matter.
 fn agree<D: BlockDev + Drop, L: BlockDev + Drop, R: Run>(
     queue: &QueueState<R>,
     log: &LogState<L, R>,
@@ -382,7 +384,7 @@ fn agree<D: BlockDev + Drop, L: BlockDev + Drop, R: Run>(
     queue.is_served(device.done(), notes)
 }
 
-// Writes what the writer left, and takes the recorder apart.
+// Writes what the writer left, and returns the parts of the recorder.
 fn finish<D: BlockDev + Drop, L: BlockDev + Drop, R: Run>(
     queue: QueueState<R>,
     log: LogState<L, R>,
@@ -431,14 +433,14 @@ fn finish<D: BlockDev + Drop, L: BlockDev + Drop, R: Run>(
     take_apart(queue, log, device)
 }
 
-// Returns the cause of the first Stop, or else of the log's end.
+// Returns the cause of the first Stop, or if there is none, of the log's end.
 fn first_of(stop: Option<End>, end: Option<End>) -> Option<End>
     ensures { result ≡ first_cause stop end }
 {
     stop.or(end)
 }
 
-// Takes apart what the locks guarded.
+// Returns the parts of what the locks guarded.
 fn take_apart<D: BlockDev + Drop, L: BlockDev + Drop, R: Run>(
     queue: QueueState<R>,
     log: LogState<L, R>,

@@ -1,10 +1,10 @@
-//! A recorder that threads share: each thread has a seat, and one thread writes the log.
+//! A recorder that threads share. Each thread has a seat, and one thread writes the log.
 //!
-//! Three locks guard three values of `lock_state`: the queue with the history; the log, with the
-//! writer's seat at the board; and the recorded device. No thread takes a lock while it holds
-//! another. So no thread holds the queue's lock while it calls a device. A call's contract says
-//! what the call adds to its seat's list, for each answer. No contract says which lock is taken
-//! when, or that a thread runs or is woken.
+//! Three locks guard three values of `lock_state`. One has the queue with the history, one the log
+//! with the writer's seat at the board, and one the recorded device. No thread takes a lock while
+//! it holds another lock. So no thread holds the queue's lock while it calls a device. The contract
+//! of a call says what the call adds to its seat's list, for each answer. No contract says when a
+//! lock is taken, or that a thread runs or is woken.
 #![tactic(auto)]
 
 pub use answer::{Answer, MarkAnswer, MarkRefusal};

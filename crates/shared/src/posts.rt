@@ -8,8 +8,8 @@ use bio::Status;
 use board::{Board, Names, StatusSeat};
 use std::marker::Model;
 
-/// The board of a recorder that was closed, with the seat of its one writer. Contracts see the
-/// statuses that were posted, in order.
+/// The board of a closed recorder, with the seat of the board's one writer. Its value in contracts
+/// is the list of the posted statuses, in order.
 #[derive(Drop)]
 pub struct Posts<R: Names> {
     board: Board<R>,
@@ -26,7 +26,7 @@ impl<R: Names> Model for Posts<R> {
 }
 
 impl<R: Names> Posts<R> {
-    // Returns the board and its writer's seat as one value.
+    // Returns the board and the seat of its writer as one value.
     pub(crate) fn new(board: Board<R>, writer: board::WriterSeat<R>) -> Posts<R>
         ensures { result ≡ writer }
     {
@@ -40,9 +40,9 @@ impl<R: Names> Posts<R> {
         self.writer.last()
     }
 
-    /// Proves that what a status seat has seen is a prefix of what was posted. So if the posted
-    /// statuses are those of prefixes of some items, and none goes back, the same holds for those
-    /// that were seen.
+    /// Proves that the statuses that a status seat has seen are a prefix of the posted ones. So if
+    /// the posted statuses are those of prefixes of some items, and none goes back, this holds for
+    /// the seen statuses too.
     pub fn agree(&mut self, mine: &mut StatusSeat<R>)
         ensures begins { Begins mine.old self.old }
         ensures seen { (bytes : ℕ) (placed : List Placing) → ArePosted bytes placed self.old

@@ -5,16 +5,17 @@ use bio::Id;
 use std::array::from_fn;
 use std::sync::{Condvar, MutexGuard, Wait};
 
-// The number of condition variables. No recorder has more seats.
+// There are this many condition variables. No recorder has more seats.
 const ROWS: usize = 64;
 
 // A row of condition variables for the log's lock. A thread that waits for the entry of an id waits
-// at variable id modulo 64, so a settle wakes another seat only by chance.
+// at the variable with the index id modulo 64. So a settle wakes another seat only if their ids
+// have the same variable.
 //
-// No wake-up is lost. What a thread waits for changes only under the log's lock, which it holds
-// from its look until it waits; and whoever changed it wakes the thread afterwards. Threads wait
-// only for writes with FUA and marks, and each is settled when it is placed. So a settle concerns
-// only the id in hand, and an end concerns all.
+// No wake-up is lost. What a thread waits for changes only under the log's lock. The thread holds
+// this lock from its look until it waits, and a thread that makes the change wakes it afterwards.
+// Threads wait only for marks and for writes with FUA, each of which is settled when it is placed.
+// So a settle concerns only the id in hand, and an end concerns all threads.
 #[derive(Drop)]
 pub(crate) struct Waiters {
     row: [Condvar; ROWS],
@@ -27,8 +28,8 @@ impl Waiters {
         }
     }
 
-    // Releases the log's lock, waits for the entry of this id or for an end, and takes the lock
-    // again.
+    // Releases the log's lock, waits for the entry of this id or for the end of logging, and takes
+    // the lock again.
     pub(crate) fn wait<'a, H: Wait, T>(
         &self,
         rt: &H,
@@ -43,7 +44,7 @@ impl Waiters {
         self.row[row_of(id)].notify_all();
     }
 
-    // Wakes all threads that wait.
+    // Wakes all waiting threads.
     pub(crate) fn wake_all(&self) {
         for place in 0..ROWS {
             self.row[place].notify_all();

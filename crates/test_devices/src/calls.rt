@@ -1,5 +1,5 @@
-// The harness of these tests: calls of a device, and the text of each answer. A call is written in
-// words, in a row, or in letters, in a line of words.
+// Calls of a device for tests, and the text of each answer. A row has one call, in words, as `0 w 5
+// 4 1|0`. A line has several calls, each a word such as `w31`.
 use crate::{is_same, is_told};
 use bio::{DevError, Ms};
 use blockdev::{BlockDev, Message};
@@ -11,10 +11,10 @@ use std::io::Print;
 use std::process::Abort;
 use std::test::Fail;
 
-// The number of bytes of 16 sectors.
+// How many bytes 16 sectors have.
 const MOST: usize = 8192;
 
-/// A call: its sectors, at most 16, and the byte that a write puts in each of them.
+/// A call of a device, with at most 16 sectors. A write fills each of them with `byte`.
 #[derive(Clone, Copy, Debug)]
 pub struct Call {
     pub kind: Kind,
@@ -24,8 +24,8 @@ pub struct Call {
     pub fua: bool,
 }
 
-/// The time at which a call ended, or its error; and the bytes that it read, or 255 for other
-/// bytes.
+/// The time at which a call ended, or its error. A read's bytes are the first of `bytes`; all
+/// others are 255.
 #[derive(Drop)]
 pub struct Answer {
     pub end: Result<Ms, DevError>,
@@ -81,7 +81,8 @@ pub fn ask<D: BlockDev + Drop>(rt: &impl Abort, device: &mut D, now: Ms, call: C
 }
 
 impl Answer {
-    /// Returns the byte that fills the first sector that was read, or 254 if its bytes differ.
+    /// Returns the byte that fills the first sector that was read, or 254 if the sector has
+    /// different bytes.
     pub fn byte(&self) -> u8 {
         byte_of(&self.bytes[..512])
     }
@@ -98,7 +99,7 @@ pub fn read_of(sector: u64) -> Call {
     }
 }
 
-/// Returns the byte that fills a sector, or 254 if its bytes differ.
+/// Returns the byte that fills a sector, or 254 if the sector has different bytes.
 pub fn byte_of(sector: &[u8]) -> u8 {
     let byte = sector.first().copied().unwrap_or(254);
     if sector.iter().all(|other| *other == byte) {
@@ -108,8 +109,9 @@ pub fn byte_of(sector: &[u8]) -> u8 {
     }
 }
 
-/// Returns the result of calls on a device, and then the result of `end` for the device. For the
-/// prover: here the type of the device is a parameter, so that its parts aren't looked into.
+/// Returns the result of `calls` on the device, and then the result of `end`, which takes the
+/// device. For the prover: `D` is a type parameter here, so the prover doesn't look into the
+/// device.
 pub fn asked<D, T, U, F, G>(device: D, calls: F, end: G) -> Result<(T, U), Fail>
 where
     D: Drop,
@@ -135,7 +137,7 @@ fn end_text(alloc: Global, end: Result<Ms, DevError>) -> Result<String, AllocErr
     }
 }
 
-// Returns the numbers of a text, and 0 for each that is missing.
+// Returns the first three numbers of a text, with 0 for each missing one.
 fn numbers_of(text: &str) -> [u64; 3] {
     let mut numbers = text.split(' ').map(|word| word.parse::<u64>().unwrap_or(0));
     [
@@ -145,8 +147,8 @@ fn numbers_of(text: &str) -> [u64; 3] {
     ]
 }
 
-// Returns the call of these words. `w 5 4 1` writes 1s to 4 sectors from sector 5 on, and `F` the
-// same with FUA. `d 5 4` discards them, `f` flushes, and `r 5 4` reads them.
+// Returns the call that these words name. `w 5 4 1` fills 4 sectors from sector 5 on with 1, and `F
+// 5 4 1` does so with FUA. `d 5 4` discards these sectors, `f` flushes, and `r 5 4` reads them.
 fn call_of(words: &str) -> Call {
     let (kind, rest) = words.split_once(' ').unwrap_or((words, ""));
     let [first, count, byte] = numbers_of(rest);
@@ -164,8 +166,8 @@ fn call_of(words: &str) -> Call {
     }
 }
 
-// Makes a call, and returns the text of its answer: its end, and the byte of each sector if it is a
-// read that ended Ok. `#` returns the faults and the lies.
+// Makes a call, and returns its answer as text: its end, and after a successful read the byte of
+// each sector. The word `#` returns the counts of faults and lies.
 fn told<D: BlockDev + Drop>(
     rt: &impl Abort,
     alloc: Global,
@@ -200,8 +202,7 @@ pub fn answer_of<D: Message + Drop>(
     }
 }
 
-// Makes the call of a row, and checks its answer: a time in milliseconds, the call, and after `|`
-// the text of the answer.
+// Makes the call of a row `time call|answer`, with the time in milliseconds, and checks its answer.
 fn call_row<D: BlockDev + Drop>(
     rt: &(impl Abort + Print),
     alloc: Global,
@@ -216,8 +217,7 @@ fn call_row<D: BlockDev + Drop>(
     Ok(())
 }
 
-// Sends the message of a row, and checks its answer: a layer, the message, and after `|` the
-// answer.
+// Sends the message of a row `layer message|answer`, and checks its answer.
 fn message_row<D: Message + Drop>(
     rt: &(impl Abort + Print),
     alloc: Global,
@@ -232,8 +232,8 @@ fn message_row<D: Message + Drop>(
     Ok(())
 }
 
-/// Makes the calls of the rows, one after another, and checks their answers. A row has a time in
-/// milliseconds, the call, and after `|` the text of the answer.
+/// Makes the calls of the rows in order, and checks their answers. A row is `time call|answer`,
+/// with the time in milliseconds; `w`, `F`, `d`, `f`, `r` and `#` are calls.
 pub fn calls<D: BlockDev + Drop>(
     rt: &(impl Abort + Print),
     alloc: Global,
@@ -246,8 +246,8 @@ pub fn calls<D: BlockDev + Drop>(
     Ok(())
 }
 
-/// Makes calls and sends messages, one after another, and checks their answers. The row of a
-/// message has `m`, a layer, the message, and after `|` its answer.
+/// Makes the calls of the rows as `calls` does. A row `m layer message|answer` sends a message
+/// instead, and checks its answer.
 pub fn talk<D: Message + Drop>(
     rt: &(impl Abort + Print),
     alloc: Global,
@@ -269,9 +269,9 @@ fn digit(byte: u8) -> u8 {
     byte.saturating_sub(48) % 10
 }
 
-// Returns the call of a word, if it is one. `w31` writes 1s to sector 3, and `F31` the same with
-// FUA. `d32` discards 2 sectors from sector 3 on, and `f` flushes. `r31` reads 1s from sector 3,
-// and `r3` reads no sector.
+// Returns the call that a word names, if it names one. `w31` fills sector 3 with 1, and `F31` does
+// so with FUA. `d32` discards 2 sectors from sector 3 on, and `f` flushes. `r31` reads sector 3,
+// which must be filled with 1. `r3` is a read of sector 3 that fails, as in `r3-`.
 fn call_in(word: &[u8]) -> Option<Call> {
     let (kind, first, count, byte) = match word {
         [b'w' | b'F', first, byte] => (Kind::Write, digit(*first), 1, digit(*byte)),
@@ -290,8 +290,9 @@ fn call_in(word: &[u8]) -> Option<Call> {
     })
 }
 
-/// Makes the call of a word. It must end at the time `now`, or fail with Io if the word ends with
-/// `-`. A read must return its byte. `#21` means that there were 2 faults and 1 lie.
+/// Makes the call of a word, at the time `now`. The call must end at that time, or fail with Io if
+/// the word ends with `-`. A read must return the word's byte. `#21` checks that the device counts
+/// 2 faults and 1 lie.
 pub fn step<D: BlockDev + Drop>(
     rt: &(impl Abort + Print),
     device: &mut D,
@@ -315,8 +316,8 @@ pub fn step<D: BlockDev + Drop>(
     }
 }
 
-/// Makes the calls of a line's words, one after another, the first at time 0. `@12` sets the time
-/// of the later calls, in milliseconds.
+/// Makes the calls of a line's words in order, and returns the device. The first call is at time 0;
+/// `@12` sets the time of the calls after it to 12 milliseconds.
 pub fn play<D: BlockDev + Drop>(rt: &(impl Abort + Print), device: D, line: &str) -> D {
     let mut device = device;
     let mut now = Ms::new(0);
@@ -329,8 +330,9 @@ pub fn play<D: BlockDev + Drop>(rt: &(impl Abort + Print), device: D, line: &str
     device
 }
 
-/// Fails the power of a disk, and checks its sectors. `c12` fails it with the picks 1 and 2. `=`
-/// gives the content of each sector, and `!` the content after a crash with no picks.
+/// Does what a word says about a disk. `c12` crashes it with the picks 1 and 2. `=` checks the byte
+/// of each sector: `=70` means 7 in sector 0, and 0 in sector 1. `!` first crashes the disk without
+/// picks, then checks as `=` does.
 pub fn look(rt: &(impl Abort + Print), disk: &mut SectorDisk, word: &str, line: &str) {
     let bytes = word.as_bytes();
     if let [b'c', digits @ ..] = bytes {

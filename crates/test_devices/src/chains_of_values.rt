@@ -1,5 +1,5 @@
-//! Tests of chains: values are added, joined, taken, replaced, walked and lifted, and rows are used
-//! again.
+//! Tests of chains: values are added, joined, taken, replaced, walked and lifted, and free rows are
+//! reused.
 ghost use Rattle.std.specs.Prelude.{◌<◌, ◌≡◌, ◌==◌, IsTrue, None, length};
 ghost use Rattle.std.specs.List.{list_any};
 ghost use Rattle.pending.specs.Edits.{chain_in};
@@ -12,14 +12,14 @@ fn number_of(word: Option<&str>) -> u64 {
     word.unwrap_or_default().parse::<u64>().unwrap_or(0)
 }
 
-// Returns whether chain number `chain` can be used.
+// Returns whether `chain` is the number of a chain that has values.
 fn is_there(chains: &Chains<u64>, chain: usize) -> bool
     ensures { IsTrue result → 0 < chain × chain < length chains.now.chains }
 {
     0 < chain && chain < chains.chains()
 }
 
-// Returns whether no chain is walked, and both chains exist and differ.
+// Returns whether no chain is walked, and `one` and `two` are different chains.
 fn are_two(chains: &Chains<u64>, one: usize, two: usize) -> bool
     ensures rests { IsTrue result → chains.now.walked ≡ None }
     ensures one { IsTrue result → 0 < one × one < length chains.now.chains }
@@ -29,7 +29,7 @@ fn are_two(chains: &Chains<u64>, one: usize, two: usize) -> bool
     chains.walked().is_none() && is_there(chains, one) && is_there(chains, two) && one != two
 }
 
-// Adds a value, or takes one.
+// Does a step that changes one chain: `add`, `take` or `set`.
 fn change(
     chains: &mut Chains<u64>,
     word: &str,
@@ -53,7 +53,7 @@ fn change(
     }
 }
 
-// Moves a chain, or a step of the walk.
+// Does a step that changes two chains, or a step of the walk.
 fn go(chains: &mut Chains<u64>, word: &str, one: usize, two: usize) {
     match word {
         "join" if are_two(chains, one, two) => chains.join(one, two),
@@ -66,7 +66,8 @@ fn go(chains: &mut Chains<u64>, word: &str, one: usize, two: usize) {
     }
 }
 
-// Returns the values of each chain, with a bar after each chain, and the number of changed links.
+// Returns the values of each chain, each chain followed by `|`, and then how many links were
+// changed.
 fn shown(alloc: Global, chains: &Chains<u64>) -> Result<String, AllocError> {
     let mut text = String::new(alloc);
     for chain in 1..chains.chains() {
@@ -80,8 +81,8 @@ fn shown(alloc: Global, chains: &Chains<u64>) -> Result<String, AllocError> {
     Ok(text)
 }
 
-// Returns the text of three chains after these steps, which are separated by commas. A step is a
-// word and one or two numbers.
+// Makes three chains, does these steps, and returns the chains as text. Commas separate the steps;
+// each is a word with at most two numbers.
 fn played(alloc: Global, steps: &str) -> Result<String, AllocError> {
     let mut chains = Chains::new(alloc, 3)?;
     for step in steps.split(",") {
@@ -97,7 +98,11 @@ fn played(alloc: Global, steps: &str) -> Result<String, AllocError> {
     shown(alloc, &chains)
 }
 
-// Steps, and after `=` the chains: the values of each, and the number of changed links.
+// Rows `steps=chains`: after `=`, each chain's values are followed by `|`, and the last number
+// counts changed links. `add 1 10` appends 10 to chain 1, `take 1` takes its first value, and `set
+// 1 12` replaces it. `join 1 2` appends chain 1 to chain 2, and `put_before 1 2` puts it before
+// chain 2. `begin 40` begins a new chain with 40. `walk 1` starts a walk of chain 1. `turn` moves
+// its first value to its end, and `lift 3` to the front of chain 3; `rest` ends the walk.
 const ROWS: &str = "add 1 10,add 1 11,add 2 20=10 11 | 20 | | 9
 add 1 10,add 1 11,add 2 20,join 1 2=| 20 10 11 | | 13
 add 1 10,add 1 11,add 2 20,join 2 1,join 3 1=10 11 20 | | | 13
@@ -129,7 +134,7 @@ fn has(chains: &Chains<u64>, chain: usize, value: u64) -> bool
     chains.iter(chain).any(|x| *x == value)
 }
 
-// A value is found while another chain is walked, and the first value is changed in place.
+// A value is found while another chain is walked. The first value of a chain is changed in place.
 #[test]
 fn chains_are_read(rt: HostRuntime) -> Result<(), Fail> {
     let mut chains = Chains::new(rt.alloc(), 2)?;

@@ -9,8 +9,9 @@ use std::io::Print;
 use std::process::Abort;
 use std::test::Fail;
 
-// Makes the calls of a line's words. `w31` writes 1s to sector 3, and `F31` the same with FUA.
-// `d32` discards 2 sectors from sector 3 on, and `c12` crashes with the picks 1 and 2.
+// Does the words of `line` on a disk, all at the time 5. `w31` fills sector 3 with 1, and `F31`
+// does so with FUA. `d32` discards 2 sectors from sector 3 on. `c12` crashes with the picks 1 and
+// 2: each pick chooses what a sector with several possible values holds.
 fn go(rt: &(impl Abort + Print), disk: &mut SectorDisk, line: &str) {
     for word in line.split(' ') {
         step(rt, disk, Ms::new(5), word, line);
@@ -19,14 +20,14 @@ fn go(rt: &(impl Abort + Print), disk: &mut SectorDisk, line: &str) {
     assert_eq!(rt; (disk.faults(), disk.lies()), (0, 0));
 }
 
-// Returns the bytes of a disk of four sectors of 7s after the words of a line.
+// Does the words of `line` on a disk of four sectors filled with 7, and returns its bytes.
 fn image_after(rt: &(impl Abort + Print), alloc: Global, line: &str) -> Result<Vec<u8>, Fail> {
     let mut disk = SectorDisk::from_bytes(alloc, vec![in alloc; 7; 2048]?)?;
     go(rt, &mut disk, line);
     Ok(disk.into_bytes()?)
 }
 
-// A disk returns its image with the sectors that were written since, also after a crash.
+// The image of a disk has what was written last, or after a crash what is left.
 #[test]
 fn images_are_given_back(rt: HostRuntime) -> Result<(), Fail> {
     for (line, wanted) in [
@@ -42,14 +43,14 @@ fn images_are_given_back(rt: HostRuntime) -> Result<(), Fail> {
     Ok(())
 }
 
-// Checks that the disk has these bytes, and that it turns into them.
+// Checks that `bytes` and `into_bytes` return the bytes `wanted`.
 fn check_bytes(rt: &impl Abort, disk: SectorDisk, wanted: &[u8]) -> Result<(), Fail> {
     assert!(rt; disk.bytes()?.as_slice() == wanted);
     assert!(rt; disk.into_bytes()?.as_slice() == wanted);
     Ok(())
 }
 
-// Returns a disk of these bytes after all of it was discarded.
+// Returns a disk that had these bytes and was then wholly discarded.
 fn discarded(rt: &impl Abort, alloc: Global, image: &Vec<u8>) -> Result<SectorDisk, Fail> {
     let length = image.len();
     assert!(rt; 0 < length && length <= 3_072_000 && length % 512 == 0);
@@ -59,7 +60,7 @@ fn discarded(rt: &impl Abort, alloc: Global, image: &Vec<u8>) -> Result<SectorDi
     Ok(disk)
 }
 
-// Returns a new disk after all of it was written with FUA, and its power failed.
+// Returns a new disk after these bytes were written to it with FUA, and it crashed without picks.
 fn written(rt: &impl Abort, alloc: Global, image: &Vec<u8>) -> Result<SectorDisk, Fail> {
     let length = image.len();
     assert!(rt; 0 < length && length <= 3_072_000 && length % 512 == 0);
@@ -69,8 +70,8 @@ fn written(rt: &impl Abort, alloc: Global, image: &Vec<u8>) -> Result<SectorDisk
     Ok(disk)
 }
 
-// Checks that images of `sectors` sectors, filled with 65 and with 0, are made, written, discarded
-// and returned.
+// Checks the bytes of disks of `sectors` sectors: a disk made of `image`, one that was discarded, a
+// new one, and one that `image` was written to.
 fn check_size(
     rt: &impl Abort,
     alloc: Global,
@@ -100,8 +101,7 @@ fn disks_of_each_size_are_kept(rt: HostRuntime) -> Result<(), Fail> {
     Ok(())
 }
 
-// Returns the byte that round number `round` puts in a sector of 64: 0 by a discard, or the number
-// of the round by a write.
+// Returns the byte that a sector gets in round `round`: 0 by a discard, else a number by a write.
 fn put_in_round(round: u64, sector: u64) -> u8 {
     if (round % 16 + sector % 16) % 16 == 0 {
         (round % 200) as u8
@@ -110,7 +110,7 @@ fn put_in_round(round: u64, sector: u64) -> u8 {
     }
 }
 
-// Makes the first `rounds` rounds of calls.
+// Makes the calls of the first `rounds` rounds: one call for each of 64 sectors.
 fn put_rounds(rt: &impl Abort, disk: &mut SectorDisk, rounds: u64) -> Result<(), DevError> {
     for round in 0..rounds {
         for sector in 0..64 {
@@ -124,7 +124,7 @@ fn put_rounds(rt: &impl Abort, disk: &mut SectorDisk, rounds: u64) -> Result<(),
     Ok(())
 }
 
-// Checks that the disk holds what round number `round` put.
+// Checks that each sector holds the byte that round `round` put in it.
 fn check_round(rt: &impl Abort, disk: &mut SectorDisk, round: u64) {
     for sector in 0..64 {
         let answer = ask(rt, disk, Ms::new(7), read_of(sector));
@@ -132,20 +132,20 @@ fn check_round(rt: &impl Abort, disk: &mut SectorDisk, round: u64) {
     }
 }
 
-// 256,000 calls are kept, and each is as fast as the first. A disk that walked over all earlier
-// calls in each call would take far longer than a test may.
+// A disk remembers 256,000 calls, and each call is as fast as the first. If each call walked over
+// all earlier calls, the test would run far longer than it may.
 #[test]
 fn thousands_of_calls_are_kept(rt: HostRuntime) -> Result<(), Fail> {
     let mut disk = SectorDisk::new(rt.alloc(), 64)?;
     put_rounds(&rt, &mut disk, 4000)?;
     check_round(&rt, &mut disk, 3999);
-    // Candidate 0 is the durable value.
+    // Candidate 0 of a sector is its durable value.
     disk.crash(&[2346; 64]);
     check_round(&rt, &mut disk, 2345);
     Ok(())
 }
 
-// The laws of all devices are laws of the disk.
+// The disk has the laws that all devices have.
 #[test]
 fn the_device_laws_hold() {
     blockdev::laws::flushed_writes_outlive_crashes::<SectorDisk>();
@@ -157,7 +157,10 @@ fn the_device_laws_hold() {
     blockdev::laws::devices_keep_their_size::<SectorDisk>();
 }
 
-// Other devices keep the law too: one that lies, and one that fails.
+// A device that lies has these laws too, and so has one that fails. `@3` sets the time to 3, `F01`
+// and `w01` fill sector 0 with 1, and `f` flushes. `-` means that the call fails with Io, `#02` no
+// fault and 2 lies. `=0` checks that sector 0 holds 0; `!0` checks the same after a crash without
+// picks.
 #[test]
 fn devices_lie_and_fail(rt: HostRuntime) -> Result<(), Fail> {
     let lying = Lying::new(SectorDisk::new(rt.alloc(), 1)?);

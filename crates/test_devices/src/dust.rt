@@ -1,4 +1,4 @@
-//! Tests of layers with bad blocks.
+//! Tests of dust layers: layers with bad blocks.
 use crate::calls::talk;
 use bio::Ms;
 use blockdev::{BlockDev, Message};
@@ -11,19 +11,19 @@ use std::test::Fail;
 
 mod orders;
 
-// Returns a layer with blocks of 1,024 bytes over a device.
+// Returns a dust layer with blocks of 1,024 bytes over a device.
 #[tactic(auto, using(dust_layer::specs::Sizes::of_1024))]
 fn over<D: BlockDev + Drop>(alloc: Global, lower: D) -> Dust<D> {
     Dust::new(alloc, lower, 1024)
 }
 
-// Returns a layer with blocks of one sector over a device.
+// Returns a dust layer with blocks of one sector over a device.
 #[tactic(auto, using(dust_layer::specs::Sizes::of_512))]
 fn by_sector<D: BlockDev + Drop>(alloc: Global, lower: D) -> Dust<D> {
     Dust::new(alloc, lower, 512)
 }
 
-// Makes the calls of the rows, and sends their messages, over blocks of 1,024 bytes.
+// Makes the rows' calls, and sends their messages, to a dust layer with blocks of 1,024 bytes.
 fn talk_over<D: BlockDev + Drop>(
     rt: &(impl Abort + Print),
     alloc: Global,
@@ -40,8 +40,8 @@ fn disk_of_16(alloc: Global) -> Result<SectorDisk, Fail> {
     Ok(SectorDisk::new(alloc, 16)?)
 }
 
-// Writes of four sectors over blocks of two. A bad block fails the first write, and leaves the list
-// in the second one.
+// Writes of four sectors over blocks of two sectors. A bad block fails the first write; the second
+// write removes it from the list.
 const ONCE: &str = "m 1 addbadblock 3 1|ok
 m 1 enable|ok
 0 w 5 4 7|Io
@@ -71,7 +71,7 @@ fn bad_blocks_fail_once(rt: HostRuntime) -> Result<(), Fail> {
     Ok(())
 }
 
-// Adds every second one of the first 2,000 blocks to the list.
+// Lists each even block number below 2,000 as bad.
 fn list_many<D: Message + Drop>(
     rt: &impl Abort,
     alloc: Global,
@@ -84,7 +84,7 @@ fn list_many<D: Message + Drop>(
     Ok(())
 }
 
-// Fills 2,048 sectors with 5.
+// Fills the first 2,048 sectors with 5.
 fn write_many<D: BlockDev + Drop>(
     rt: &impl Abort,
     alloc: Global,
@@ -96,7 +96,8 @@ fn write_many<D: BlockDev + Drop>(
     Ok(())
 }
 
-// Writes 2,048 sectors over a thousand listed blocks, each of which leaves the list.
+// Lists 1,000 bad blocks of one sector each, and then writes all of them with one write, which
+// removes them from the list.
 fn mend_many<D: Message + Drop>(
     rt: &(impl Abort + Print),
     alloc: Global,

@@ -1,12 +1,12 @@
-//! A device that fails after some calls.
+//! A device that fails its calls after some that succeed.
 ghost use Rattle.std.specs.Prelude.{false};
 ghost use Rattle.blockdev.specs.OwnCounts.{counted, lawful_counted};
 
 use bio::{DevError, Ms};
 use blockdev::BlockDev;
 
-/// Passes the first `n` calls of some kinds, and fails later ones with Io. Passes all calls of the
-/// other kinds.
+/// Passes the first `left` calls of the chosen kinds to `lower`, and fails later ones with Io.
+/// Passes all calls of the other kinds.
 #[derive(Drop)]
 pub struct Failing<D: BlockDev + Drop> {
     pub lower: D,
@@ -17,7 +17,8 @@ pub struct Failing<D: BlockDev + Drop> {
 }
 
 impl<D: BlockDev + Drop> Failing<D> {
-    /// Returns a device that passes `passes` reads, and every write, discard and flush.
+    /// Returns a device that passes only the first `passes` reads, but every write, discard and
+    /// flush.
     pub fn in_reads(lower: D, passes: u64) -> Failing<D> {
         Failing {
             lower,
@@ -28,7 +29,8 @@ impl<D: BlockDev + Drop> Failing<D> {
         }
     }
 
-    /// Returns a device that passes `passes` writes, discards and flushes, and every read.
+    /// Returns a device that passes only the first `passes` writes, discards and flushes, but every
+    /// read.
     pub fn in_changes(lower: D, passes: u64) -> Failing<D> {
         Failing {
             lower,
@@ -39,7 +41,7 @@ impl<D: BlockDev + Drop> Failing<D> {
         }
     }
 
-    /// Returns a device that passes `passes` calls of any kind.
+    /// Returns a device that passes only the first `passes` calls, of any kind.
     pub fn in_calls(lower: D, passes: u64) -> Failing<D> {
         Failing {
             lower,

@@ -5,7 +5,7 @@ ghost use Rattle.blockdev.specs.OwnCounts.{counted, lawful_counted};
 use bio::{DevError, Ms};
 use blockdev::BlockDev;
 
-/// A device that passes a number of calls, answers Io to the next one, and passes each later one.
+/// A device that passes `left` calls, fails the next call with Io, and passes each later one.
 #[derive(Drop)]
 pub struct FailingOnce<D: BlockDev + Drop> {
     pub lower: D,
@@ -14,7 +14,7 @@ pub struct FailingOnce<D: BlockDev + Drop> {
 }
 
 impl<D: BlockDev + Drop> FailingOnce<D> {
-    /// Returns a device that passes `passes` calls before the one that fails.
+    /// Returns a device that passes `passes` calls, and then fails one.
     pub fn after(lower: D, passes: u64) -> FailingOnce<D> {
         FailingOnce {
             lower,
@@ -23,7 +23,7 @@ impl<D: BlockDev + Drop> FailingOnce<D> {
         }
     }
 
-    // Counts a call, and returns whether it is the one that fails.
+    // Counts a call. Returns whether this call has to fail.
     fn fails(&mut self) -> bool
         ensures lower { self.new.lower ≡ self.old.lower }
         ensures fails { result ≡ true → self.new.faults ≡ min (self.old.faults + 1) (2 ^ 64 - 1) }

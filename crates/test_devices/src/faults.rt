@@ -1,4 +1,4 @@
-//! Tests of layers that fail or drop calls.
+//! Tests of layers that fail or drop calls, and of layers that delay them.
 use crate::calls::{calls, look, play};
 use bio::Ms;
 use blockdev::BlockDev;
@@ -8,12 +8,13 @@ use std::io::Print;
 use std::process::Abort;
 use std::test::Fail;
 
-// Layers over a disk of 8 sectors of zeroes, a line each: the layer, then its calls. `@12` sets the
-// time of the later calls, in milliseconds. `w31+` writes 1s to sector 3, and `F31+` the same with
-// FUA. `d32+` discards 2 sectors from sector 3 on. `f+` flushes, and `r31+` reads 1s from sector 3.
-// `+` means that the call ends Ok at that time, and `-` that it fails with Io. `#21` means 2 faults
-// and 1 lie. `=` has the content of the disk below after all calls, and `!` its content after a
-// crash without picks.
+// Each line names layers over a disk of 8 sectors of zeroes, and then has calls. `@12` sets the
+// time of the later calls to 12 milliseconds. `w31+` fills sector 3 with 1, and `F31+` does so with
+// FUA. `d32+` discards 2 sectors from sector 3 on. `f+` flushes, and `r31+` reads sector 3, which
+// must be filled with 1. `+` means that the call ends Ok at its time, and `-` that it fails with
+// Io. `#21` means 2 faults and 1 lie. `=` has the byte of each sector of the disk after the calls,
+// and `!` its byte after a crash without picks. The lines that begin with `linear` use a disk whose
+// sector n is filled with n + 1.
 const CALLS: &str = "error w31- F31- d32- r3- f- #50 =00000000
 fuse0 r30+ w31- d31- f- r30+ #30 =00000000
 fuse1 r30+ F31+ r31+ w32- r31+ d31- f- #30 =00010000 !00010000
@@ -29,7 +30,7 @@ flakey-fuse w31+ w32- @10000 w33+ @15000 r31+ w34- #21 =00010000
 fuse-flakey @10000 w33+ w34- @15000 r30+ #11 =00000000
 linear-linear w01+ F02+ r02+ #00 =12325678 !12325678";
 
-// Returns the feature of a flakey layer of this name, and its load time.
+// Returns the feature and the load time of the flakey layer of this name, if it is one.
 fn turns_of(name: &str) -> Option<(Feature, u64)> {
     match name {
         "none" => Some((Feature::None, 0)),
@@ -41,12 +42,12 @@ fn turns_of(name: &str) -> Option<(Feature, u64)> {
     }
 }
 
-// Returns how many calls a fuse of this name passes.
+// Returns how many calls the fuse of this name passes, if it is a fuse.
 fn calls_of(name: &str) -> Option<u64> {
     name.strip_prefix("fuse")?.parse::<u64>().ok()
 }
 
-// Returns the disk after the calls of a line, with the layer removed again.
+// Makes the calls of a line on its layer over `disk`. Returns the disk without the layer.
 fn played(rt: &(impl Abort + Print), disk: SectorDisk, line: &str) -> SectorDisk {
     let name = line.split(' ').next().unwrap_or_default();
     if name == "error" {
@@ -68,7 +69,8 @@ fn played(rt: &(impl Abort + Print), disk: SectorDisk, line: &str) -> SectorDisk
     }
 }
 
-// As above, for a layer over a part of the disk, and for two layers.
+// Makes the calls of a line as `played` does, if the line names two layers, or a layer over a part
+// of the disk.
 fn played_deep(rt: &(impl Abort + Print), disk: SectorDisk, line: &str) -> SectorDisk {
     let start = Ms::new(0);
     assert_eq!(rt; disk.sectors(), 8);
@@ -115,8 +117,8 @@ fn layers_do_what_their_rules_say(rt: HostRuntime) -> Result<(), Fail> {
     Ok(())
 }
 
-// Calls of a layer that delays reads, writes and discards, and flushes; then of one that delays
-// only flushes, over a flakey layer.
+// Rows `time call|answer`, as `calls` of the crate's harness reads them. The layer delays reads by
+// 10 ms, writes and discards by 20 ms, and flushes by 30 ms.
 const DELAYED: &str = "100 w 0 1 1|120
 100 r 0 1|110 1
 100 d 0 1|120
@@ -124,11 +126,13 @@ const DELAYED: &str = "100 w 0 1 1|120
 18446744073709551610 f|18446744073709551615
 0 #|0 0";
 
+// Rows for a layer that delays only flushes, over a flakey layer.
 const LATER: &str = "9979 f|9999
 9980 f|Io
 0 #|1 0";
 
-// A delayed call ends later, by the delay of its kind. A discard is delayed like a write.
+// A delayed call begins later by the delay of its kind, and so ends later. A discard is delayed
+// like a write.
 #[test]
 fn delayed_calls_begin_later(rt: HostRuntime) -> Result<(), Fail> {
     let disk = SectorDisk::new(rt.alloc(), 1)?;
@@ -146,7 +150,7 @@ fn delays_stand_over_other_layers(rt: HostRuntime) -> Result<(), Fail> {
     Ok(())
 }
 
-// The laws of all devices are laws of a stack of layers.
+// A stack of layers has the laws that all devices have.
 #[test]
 fn the_device_laws_hold() {
     blockdev::laws::flushed_writes_outlive_crashes::<Linear<Flakey<Fuse<SectorDisk>>>>();

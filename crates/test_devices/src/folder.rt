@@ -12,7 +12,7 @@ struct Named {
     bytes: Vec<u8>,
 }
 
-/// A folder of files in memory. Files whose names begin with `fixed` can't be written.
+/// Files in memory, by their names. Files whose names begin with `fixed` can't be written.
 #[derive(Drop)]
 pub struct Folder {
     files: Vec<Named>,

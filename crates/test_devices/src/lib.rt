@@ -1,10 +1,11 @@
-//! What tests use: devices over another device (three that fail, one that lies, and one that notes
-//! its calls), each of which keeps the law of `blockdev`; files in memory, streams and random
-//! numbers; and checks of tables of tests (`rows`).
+//! What tests use: devices over another device, files in memory, streams, random numbers, and
+//! checks of tables of tests (`rows`). Three of the devices fail calls, one lies, and one notes its
+//! calls. Each keeps the law of `blockdev`.
 //!
-//! Its own tests are of `refusals`, `bio`, `judge`, `world`, the chains of `pending`, and the devices
-//! `sector_disk`, `fault_layers`, `dust_layer` and `layer_table`. They use only what these make
-//! public. They are in another crate, so that these crates aren't proved again with their tests.
+//! This crate also tests `refusals`, `bio`, `judge`, `world`, the chains of `pending`, and the
+//! devices `sector_disk`, `fault_layers`, `dust_layer` and `layer_table`. The tests use only what
+//! these crates make public. They are in their own crate, so that a changed test doesn't make the
+//! prover prove those crates again.
 #![tactic(auto)]
 
 #[cfg(test)]

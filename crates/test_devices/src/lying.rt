@@ -1,11 +1,11 @@
-//! A device that drops each write, discard and flush, and counts a lie.
+//! A device that lies: it drops each write, discard and flush, and answers Ok.
 ghost use Rattle.std.specs.Prelude.{true};
 ghost use Rattle.blockdev.specs.OwnCounts.{counted, lawful_counted};
 
 use bio::{DevError, Ms};
 use blockdev::BlockDev;
 
-/// A device that drops each write, discard and flush, answers Ok, and counts a lie.
+/// Drops each write, discard and flush, answers Ok, and counts a lie. Passes reads to `lower`.
 #[derive(Drop)]
 pub struct Lying<D: BlockDev + Drop> {
     pub lower: D,

@@ -1,12 +1,12 @@
-//! A device that, from some call on, does its calls but answers that they failed.
+//! A device that does some calls, but answers that they failed.
 ghost use Rattle.std.specs.Prelude.{false};
 ghost use Rattle.blockdev.specs.OwnCounts.{counted, lawful_counted};
 
 use bio::{DevError, Ms};
 use blockdev::BlockDev;
 
-/// A device that passes a number of writes, discards and flushes. It does each later one too, but
-/// answers Io.
+/// Passes the first `left` writes, discards and flushes to `lower`. Then it still passes each such
+/// call, but answers Io.
 #[derive(Drop)]
 pub struct Nasty<D: BlockDev + Drop> {
     pub lower: D,

@@ -1,6 +1,6 @@
 // Random numbers for tests, computed from a seed.
 
-/// A sequence of numbers that look random.
+/// A sequence of numbers that look random. The same seed gives the same sequence.
 #[derive(Drop)]
 pub struct Numbers {
     state: u64,

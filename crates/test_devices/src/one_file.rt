@@ -1,22 +1,23 @@
-//! Files in memory: two can be read and have the same content, and one can be written.
+//! Files in memory: `script` and `image` can be read, and `log` can be written.
 ghost use Rattle.std.specs.Prelude.{None, false};
 
 use dmlw_files::{FileError, FileFailure, Files};
 use sector_disk::{Image, SectorDisk};
 use std::alloc::Global;
 
-/// Files: "script" and "image" can be read and have the same content. "log" can be written.
+/// The files `script` and `image` can be read, and both have the content `bytes`. The file `log`
+/// can be written.
 #[derive(Drop)]
 pub struct OneFile<'a> {
     bytes: &'a [u8],
-    /// A read fails if its limit is below this length, or below the number of bytes.
+    /// A read fails if its limit is below this length, or below the number of `bytes`.
     pub length: u64,
-    /// What was written.
+    /// What was written to the file `log` last.
     pub log: Option<Vec<u8>>,
 }
 
 impl<'a> OneFile<'a> {
-    /// Returns files with these bytes. Their length is the number of bytes.
+    /// Returns the files with these bytes; `length` is the number of bytes.
     pub fn new(bytes: &'a [u8]) -> OneFile<'a> {
         OneFile {
             bytes,

@@ -3,15 +3,15 @@ use std::alloc::Global;
 use std::io;
 use std::io::Write;
 
-/// A stream in memory with room for `room` bytes. A stuck stream can't be flushed.
+/// A stream in memory that takes `room` bytes. If it is stuck, it can't be flushed.
 #[derive(Drop)]
 pub struct Outlet {
     taken: Vec<u8>,
     room: usize,
-    // The error of a write without room and, if the stream is stuck, of a flush.
+    // The error of a write if no room is left, and of a flush if the stream is stuck.
     kind: io::ErrorKind,
     is_stuck: bool,
-    // Whether it took bytes that weren't flushed.
+    // Whether the stream took bytes that weren't flushed since.
     is_held: bool,
 }
 
@@ -27,10 +27,10 @@ impl Outlet {
         }
     }
 
-    /// Returns the stream that a word names. `full:<n>`, `memory:<n>` and `pipe:<n>` have room for
-    /// `n` bytes. Their errors are that there is no room, no memory, or no reader. `stuck:full` and
-    /// `stuck:memory` take all bytes, and return the error of `full` or `memory` when they are
-    /// flushed.
+    /// Returns the stream that a word names. `full:<n>`, `memory:<n>` and `pipe:<n>` take `n`
+    /// bytes. The error of the next write is that there is no room, no memory, or no reader.
+    /// `stuck:full` and `stuck:memory` take all bytes, and fail a flush with the error of `full` or
+    /// `memory`.
     pub fn named(alloc: Global, word: &str) -> Option<Outlet> {
         let (how, what) = word.split_once(':')?;
         let is_stuck = how == "stuck";
@@ -48,7 +48,7 @@ impl Outlet {
         Some(outlet)
     }
 
-    /// Returns a stream with room for `room` bytes.
+    /// Returns a stream that takes `room` bytes.
     pub fn narrow(alloc: Global, room: usize) -> Outlet {
         let mut outlet = Outlet::open(alloc);
         outlet.room = room;

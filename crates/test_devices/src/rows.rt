@@ -1,4 +1,5 @@
-//! Checks for tables of tests. Texts in assertions are slow to prove; here each is proved once.
+//! Checks for tables of tests. For the prover: an assertion with a text is slow to prove, and here
+//! each is proved once.
 ghost use Rattle.std.specs.Prelude.{◌≡◌};
 
 use std::fmt::Debug;
@@ -13,7 +14,7 @@ pub fn is_same<T: PartialEq + Debug>(rt: &impl Print, found: &T, wanted: &T, row
     is_same
 }
 
-/// Returns whether `told` is `wanted`. If it isn't, prints the row with both.
+/// Does what `is_same` does, for texts.
 pub fn is_told(rt: &impl Print, told: &str, wanted: &str, row: &str) -> bool {
     let is_told = told == wanted;
     if !is_told {
@@ -32,8 +33,8 @@ pub fn holds(rt: &impl Print, test: bool, row: &str) -> bool
     test
 }
 
-/// Returns whether each row has the right result. The text before the first `=` of a row is passed
-/// to `tell`, and the text after it is the expected result. Prints each row whose result is wrong.
+/// Returns whether each row of the form `text=wanted` is right: `tell` must return `wanted` for the
+/// text before the first `=`. Prints each row whose result is wrong.
 pub fn rows_are_told<E, F: FnMut(&str) -> Result<String, E>>(
     rt: &impl Print,
     rows: &str,

@@ -1,4 +1,4 @@
-//! Tests of stacks of layers, which are made from their table lines.
+//! Tests of stacks of layers, each made from a table line.
 ghost use Rattle.std.specs.Prelude.{◌≡◌};
 ghost use Rattle.std.specs.List.{AllByRecursion};
 ghost use Rattle.fault_layers.specs.declared.target.Target.TheVariants.{Linear};
@@ -20,8 +20,7 @@ use std::test::Fail;
 
 mod plain;
 
-// Lines for the lower layer over a disk of 16 sectors, which is loaded at time 0. Then lines for
-// the upper layer, which is loaded at time 3000.
+// Table lines for the lower layer, which lies over a disk of 16 sectors and is loaded at time 0.
 const LOWER: &str = "0 12 linear disk 2
 0 12 error
 0 12 flakey disk 1 10 5
@@ -31,6 +30,7 @@ const LOWER: &str = "0 12 linear disk 2
 0 12 fuse disk 3 9
 0 12 dust disk 2 1024";
 
+// Table lines for the upper layer, which is loaded at time 3,000.
 const UPPER: &str = "0 8 linear disk 4
 0 8 error
 0 8 flakey disk 4 10 5
@@ -41,7 +41,8 @@ const UPPER: &str = "0 8 linear disk 4
 0 8 dust disk 2 512
 0 8 delay disk 3 1";
 
-// Times before and at the changes of the flakey layers, in milliseconds, and the last time.
+// The times of the rounds, in milliseconds: before and at each change of the flakey layers, and the
+// last two times.
 const MOMENTS: [u64; 12] = [
     0,
     2_999,
@@ -57,7 +58,7 @@ const MOMENTS: [u64; 12] = [
     18_446_744_073_709_551_615,
 ];
 
-// Returns the layer that a line asks for.
+// Parses a table line, which must be right.
 fn spec_of(rt: &impl Abort, line: &str) -> LayerSpec
     ensures { IsLayerSpec result }
 {
@@ -67,7 +68,7 @@ fn spec_of(rt: &impl Abort, line: &str) -> LayerSpec
     }
 }
 
-// Returns the stack of either result, and the refusal if there is one.
+// Returns the stack, whether or not a layer was refused, and the refusal.
 fn either<D: Drop>(put: Result<D, (D, Refusal)>) -> (D, Option<Refusal>) {
     match put {
         Ok(device) => (device, None),
@@ -75,8 +76,9 @@ fn either<D: Drop>(put: Result<D, (D, Refusal)>) -> (D, Option<Refusal>) {
     }
 }
 
-// Returns the disk under the layers of these lines, the lowest first, each loaded at its time. A
-// line that is refused adds no layer. Checks that `ends` is the refusal of the last line.
+// Returns the disk under the layers of these lines, the lowest first, each loaded at the time after
+// its line. A line that is refused adds no layer. Checks that the refusal of the last line is
+// `ends`.
 fn stack_of(
     rt: &impl Abort,
     alloc: Global,
@@ -95,8 +97,8 @@ fn stack_of(
     stack
 }
 
-// Returns the result of calls on a disk under the layers of these lines, and the bytes that the
-// disk then has.
+// Makes `calls` on a disk under the layers of these lines. Returns their result, and the disk's
+// bytes afterwards.
 fn on_stack<T: Drop, F: FnOnce(&mut Stack) -> Result<T, Fail>>(
     rt: &impl Abort,
     alloc: Global,
@@ -111,7 +113,7 @@ fn on_stack<T: Drop, F: FnOnce(&mut Stack) -> Result<T, Fail>>(
     asked(stack, calls, |stack| Ok(stack.into_disk().into_bytes()?))
 }
 
-// The calls of a round, one after another.
+// The calls of a round, in this order.
 const KINDS: [Kind; 7] = [
     Kind::Read,
     Kind::Write,
@@ -122,7 +124,7 @@ const KINDS: [Kind; 7] = [
     Kind::Read,
 ];
 
-// Returns the call of this kind in a round, of one sector, or of two for a discard.
+// Returns a round's call of this kind, of one sector, or of two sectors for a discard.
 fn call_in(round: usize, kind: Kind) -> Call {
     let first = round as u64 % 4;
     Call {
@@ -134,10 +136,10 @@ fn call_in(round: usize, kind: Kind) -> Call {
     }
 }
 
-// Makes a call. Returns the byte that was read, 0 for another call, or None if the call failed.
+// Makes a call. Returns the byte that a read found, 0 for another call, or None if the call failed.
 fn told<D: BlockDev + Drop>(rt: &impl Abort, device: &mut D, now: Ms, call: Call) -> Option<u8> {
     let answer = ask(rt, device, now, call);
-    // A delay of a millisecond may be among the layers.
+    // The call may also end a millisecond later, since one of the layers may delay it.
     match answer.end {
         Ok(end) if end != now && end != now.later_by(Ms::new(1)) => None,
         Ok(_) if call.kind == Kind::Read => Some(answer.byte()),
@@ -146,7 +148,7 @@ fn told<D: BlockDev + Drop>(rt: &impl Abort, device: &mut D, now: Ms, call: Call
     }
 }
 
-// Makes the same calls on a device and on plain layers, and compares the answers.
+// Makes the calls of all rounds on a device and on the plain model, and compares the answers.
 fn play<D: BlockDev + Drop>(
     rt: &(impl Abort + Print),
     device: &mut D,
@@ -163,7 +165,7 @@ fn play<D: BlockDev + Drop>(
     }
 }
 
-// Returns the layers of these lines as plain layers.
+// Returns the plain model of the layers of these lines.
 fn plain_layers(rt: &impl Abort, alloc: Global, lines: &[(&str, u64)]) -> Result<Vec<Plain>, Fail> {
     let mut layers = Vec::new(alloc);
     for (line, load) in lines {
@@ -172,7 +174,8 @@ fn plain_layers(rt: &impl Abort, alloc: Global, lines: &[(&str, u64)]) -> Result
     Ok(layers)
 }
 
-// As above, for all calls, and checks the counts. Returns the content of the plain layers' disk.
+// Plays all rounds on `device` and on the model of its layers. Compares the answers, and the counts
+// of faults and lies. Returns the content of the model's disk.
 fn play_all<D: BlockDev + Drop>(
     rt: &(impl Abort + Print),
     alloc: Global,
@@ -187,7 +190,7 @@ fn play_all<D: BlockDev + Drop>(
     Ok(disk)
 }
 
-// Makes the calls on these layers, and checks the counts and the disk below.
+// Plays all rounds on these layers, and compares the disk below with the model's disk.
 fn check(rt: &(impl Abort + Print), alloc: Global, lines: &[(&str, u64)]) -> Result<(), Fail> {
     let under = SectorDisk::new(alloc, 16)?;
     let (disk, image) = on_stack(rt, alloc, under, lines, None, |stack| {
@@ -199,7 +202,7 @@ fn check(rt: &(impl Abort + Print), alloc: Global, lines: &[(&str, u64)]) -> Res
     Ok(())
 }
 
-// Makes the calls on each upper layer over each lower one, under these layers.
+// Checks each upper layer over each lower layer, below the layer of `top`, if it has one.
 fn check_each(rt: &(impl Abort + Print), alloc: Global, top: &[(&str, u64)]) -> Result<(), Fail> {
     for lower in LOWER.split('\n') {
         for upper in UPPER.split('\n') {
@@ -226,7 +229,7 @@ fn fuses_over_layers(rt: HostRuntime) -> Result<(), Fail> {
     Ok(())
 }
 
-// Returns the specs of a linear layer of `length` sectors from sector `offset` on.
+// Returns the specification of a linear layer of `length` sectors from sector `offset` on.
 fn linear(length: u64, offset: u64) -> LayerSpec
     ensures { result ≡ record { length = length; offset = offset; target = Linear } }
 {
@@ -237,7 +240,7 @@ fn linear(length: u64, offset: u64) -> LayerSpec
     }
 }
 
-// Returns the sector count of the stack that was made, or the refusal.
+// Returns the stack's sector count, or the refusal.
 fn sectors_of<D: BlockDev + Drop>(put: Result<D, (D, Refusal)>) -> Result<u64, Refusal> {
     match put {
         Ok(device) => Ok(device.sectors()),
@@ -245,8 +248,8 @@ fn sectors_of<D: BlockDev + Drop>(put: Result<D, (D, Refusal)>) -> Result<u64, R
     }
 }
 
-// Puts these layers together over a disk of 16 sectors. Returns the sector count of the top, or the
-// refusal.
+// Puts these layers over a disk of 16 sectors. Returns the sector count of the topmost layer, or
+// the refusal.
 fn under(alloc: Global, layers: &[LayerSpec]) -> Result<Result<u64, Refusal>, Fail>
     requires { AllByRecursion IsLayerSpec layers.now }
 {

@@ -1,4 +1,4 @@
-//! Tests of which images are judged possible, and which lists of events are lawful.
+//! Tests of which images the judge allows, and which lists of events are lawful.
 
 use crate::{holds, rows_are_told};
 use bio::{Bio, Bytes, CoreEvent, End, Id};
@@ -7,7 +7,7 @@ use std::alloc::{AllocError, Global};
 use std::process::Abort;
 use std::test::Fail;
 
-// Returns a write of `length` bytes `byte`, without flush.
+// Returns the submission of a write of `length` bytes, each `byte`, without flush.
 fn write(
     alloc: Global,
     first: u64,
@@ -29,7 +29,10 @@ fn mark(alloc: Global, byte: u8) -> Result<CoreEvent, AllocError> {
     Ok(CoreEvent::Mark(Bytes::from_vec(vec![in alloc; byte; 1]?)))
 }
 
-// Returns the event that a word and its numbers mean.
+// Returns the event of a step. `w 3 1` submits a write of one sector, 3, filled with 1. `w3 3 1` is
+// one of three sectors, `cut` one of 511 bytes, `fua` one with FUA. `d 3` submits a discard and `r
+// 3` a read of sector 3, and `f` a flush. `m 0 120` is a mark of the byte 120. `c 2` completes with
+// success what event 2 submitted, and `x 2` with failure.
 fn event_of(alloc: Global, word: &str, number: u64, byte: u8) -> Result<CoreEvent, AllocError> {
     match word {
         "w" => write(alloc, number, 512, byte, false),
@@ -55,7 +58,7 @@ fn event_of(alloc: Global, word: &str, number: u64, byte: u8) -> Result<CoreEven
     }
 }
 
-// Returns the events that the steps mean.
+// Returns the events of steps that commas separate.
 pub fn events_of(alloc: Global, steps: &str) -> Result<Vec<CoreEvent>, AllocError> {
     let mut events = Vec::new(alloc);
     for step in steps.split(",") {
@@ -70,7 +73,7 @@ pub fn events_of(alloc: Global, steps: &str) -> Result<Vec<CoreEvent>, AllocErro
     Ok(events)
 }
 
-// Returns an image of zeroes, except for the sectors and the bytes that the words name.
+// Returns an image of zeroes, in which each word such as `3:7` fills a sector, here 3 with 7.
 pub fn image_of(alloc: Global, sectors: u8, words: &str) -> Result<Vec<u8>, AllocError> {
     let mut image = vec![in alloc; 0; sectors as usize * 512]?;
     for word in words.split(" ") {
@@ -95,8 +98,9 @@ fn has_zeroes(bytes: &[u8]) -> bool {
     bytes.iter().all(|byte| *byte == 0)
 }
 
-// Returns the verdict on `image`, after the first image `first` of the same length, if the events
-// are lawful. A no names a sector, and the index of the request that rules it out, if one does.
+// Returns the verdict on `image` after `moment` events on the content `first`: `yes`, `no` with a
+// sector, or `no` with a sector and the request that rules it out. If the events are unlawful, says
+// so.
 fn verdict_of(
     alloc: Global,
     events: &[CoreEvent],
@@ -124,8 +128,8 @@ fn verdict_of(
     }
 }
 
-// Returns the verdict of a row. It has the number of sectors, the events, the moment, and for both
-// images the sectors that aren't zeroes.
+// Returns the verdict for a row `sectors|events|moment|first|image`. Both images are zeroes except
+// for the sectors that are named.
 fn judged(alloc: Global, row: &str) -> Result<String, AllocError> {
     let mut parts = row.split("|");
     let sectors = parts.next().unwrap_or_default().parse::<u8>().unwrap_or(0);
@@ -136,10 +140,11 @@ fn judged(alloc: Global, row: &str) -> Result<String, AllocError> {
     verdict_of(alloc, &events, moment, &first, &image)
 }
 
-// Two writes of one sector, at moments before and after a flush. Then three writes, two of them
-// flushed; a FUA write over a plain one; two flushes of which the later one ends first. A discard
-// after a write; a flush and a FUA write that failed; a value that isn't submitted yet. A write of
-// three sectors, in part; a first content that isn't zero; no event, and no sector.
+// Rows `sectors|events|moment|first|image=verdict`. Two writes of one sector, at moments before and
+// after a flush. Three writes, two of which are flushed; a FUA write over a plain write; two
+// flushes, the later of which ends first. A discard after a write; a flush and a FUA write that
+// failed; FUA writes of one sector; a value that isn't submitted yet. A part of a write of three
+// sectors; a first content that isn't zero; no event; no sector.
 pub const ROWS: &str = "16|w 3 1,w 3 2,c 0,c 1,f,c 4|4||=yes
 16|w 3 1,w 3 2,c 0,c 1,f,c 4|4||3:1=yes
 16|w 3 1,w 3 2,c 0,c 1,f,c 4|4||3:2=yes
@@ -192,10 +197,11 @@ fn images_are_judged(rt: HostRuntime) -> Result<(), Fail> {
     Ok(())
 }
 
-// Lists of events, with `=` if they are lawful for 8 sectors, and `!` if they break one rule. The
-// broken rules are: the end of what wasn't submitted, of what has ended, of itself, of an end or of
-// a read; events after a stop or a close; a close with an open request; a read; a mark with a zero
-// byte; a request that isn't whole, that is past the end, or before another.
+// Lists of events for a device of 8 sectors. A list that begins with `=` is lawful. A list that
+// begins with `!` breaks one rule: it ends what wasn't submitted, what has ended, itself, an end or
+// a read. Or it has an event after a stop or a close, or a close with an open request. Or it has a
+// read, or a mark with a zero byte. Or a request isn't whole sectors, or is past the device's end,
+// at the list's beginning or later.
 const LISTS: &str = "
 =w 7 1
 =w 7 1,c 0,d 0,f,m 0 120,x 2,c 3,close
@@ -237,7 +243,8 @@ fn lawful_lists_are_told_apart(rt: HostRuntime) -> Result<(), Fail> {
     Ok(())
 }
 
-// Returns `count` writes of their numbers to the sectors of 4,096, one after another, and a flush.
+// Returns `count` writes, each with its end, and a flush. Write n fills sector n modulo 4,096 with
+// the byte n modulo 251.
 fn many_writes(alloc: Global, count: u64) -> Result<Vec<CoreEvent>, AllocError> {
     let mut events = Vec::new(alloc);
     for number in 0..count {
@@ -251,7 +258,7 @@ fn many_writes(alloc: Global, count: u64) -> Result<Vec<CoreEvent>, AllocError> 
     Ok(events)
 }
 
-// Returns the image that `count` of these writes leave.
+// Returns the image that the first `count` of the writes of `many_writes` leave.
 fn many_sectors(alloc: Global, count: u64) -> Result<Vec<u8>, AllocError> {
     let mut image = vec![in alloc; 0; 4096 * 512]?;
     for number in 0..count {
@@ -266,7 +273,7 @@ fn many_sectors(alloc: Global, count: u64) -> Result<Vec<u8>, AllocError> {
     Ok(image)
 }
 
-// Returns the verdict on the image that `count` writes leave, after the events.
+// Returns the verdict, after all events, on the image that the first `count` writes leave.
 fn verdict_on_many(
     rt: &impl Abort,
     alloc: Global,
@@ -280,8 +287,8 @@ fn verdict_on_many(
     could_hold(alloc, events, 20_000, First::Image(&first), &image)
 }
 
-// After 20,000 events over 4,096 sectors the last values are possible, and an earlier one in the
-// last sector isn't.
+// After 20,000 events on 4,096 sectors, the image with all last values is possible. The image
+// without the last write isn't.
 #[test]
 fn long_lists_are_judged(rt: HostRuntime) -> Result<(), Fail> {
     let alloc = rt.alloc();

@@ -6,7 +6,7 @@ use std::alloc::{AllocError, Global};
 use std::process::Abort;
 use std::test::Fail;
 
-// Parses a word as a number, and prints it again. Returns that text, or that it is no number.
+// Parses a word as a number, and prints the number again. If it is no number, returns `no number`.
 fn answer(alloc: Global, word: &str) -> Result<String, Fail> {
     match number_of(word.as_bytes()) {
         Some(number) => {
@@ -18,7 +18,7 @@ fn answer(alloc: Global, word: &str) -> Result<String, Fail> {
     }
 }
 
-// Words, and after `=` the number that each is parsed as.
+// Rows `word=the number that it is parsed as`.
 const NUMBERS: &str = "0=0
 7=7
 00000000000000000042=42
@@ -51,7 +51,7 @@ fn texts_are_cut(rt: HostRuntime) -> Result<(), Fail> {
     Ok(())
 }
 
-// Returns the words of a line, with a bar after each.
+// Returns the words of a line, each followed by a bar.
 fn barred(rt: &impl Abort, alloc: Global, line: &str) -> Result<String, AllocError> {
     let (line, mut shown) = (line.as_bytes(), String::new(alloc));
     for place in 0..count_words(line) {
@@ -63,7 +63,7 @@ fn barred(rt: &impl Abort, alloc: Global, line: &str) -> Result<String, AllocErr
     Ok(shown)
 }
 
-// Lines, and after `=` their words.
+// Rows `line=its words`, each word followed by a bar.
 const LINES: &str = "=
    =
 one=one|

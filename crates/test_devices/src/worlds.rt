@@ -1,4 +1,4 @@
-//! Tests of which machine runs a device with a cache has, and what they leave.
+//! Tests of a device with a cache: which runs it takes, and what they leave.
 
 use crate::verdicts::{ROWS, events_of, image_of};
 use crate::{holds, rows_are_told};
@@ -9,7 +9,7 @@ use std::alloc::{AllocError, Global};
 use std::test::Fail;
 use world::{Step, StepError, World, reach};
 
-// Returns a device that holds these bytes, except for those after the last whole sector.
+// Returns a device that holds `first`, without a partial last sector.
 fn world_of(alloc: Global, first: &[u8]) -> Result<World, AllocError> {
     let whole = first.len() / 512 * 512;
     World::new(alloc, &first[..whole])
@@ -23,7 +23,7 @@ fn take(world: &mut World, events: &[CoreEvent], step: &Step) -> Result<(), Step
     world.step(events, step)
 }
 
-// Returns whether a device that held the image `first` takes each step, and leaves the other image.
+// Returns whether a device that held `first` takes each step of `run`, and then holds `image`.
 fn leaves(
     alloc: Global,
     events: &[CoreEvent],
@@ -40,7 +40,7 @@ fn leaves(
     Ok(world.image() == image)
 }
 
-// Returns the steps as text, one after another.
+// Returns the steps as text, separated by commas.
 fn run_text(alloc: Global, run: &[Step]) -> Result<String, AllocError> {
     let mut text = String::new(alloc);
     for step in run {
@@ -52,7 +52,8 @@ fn run_text(alloc: Global, run: &[Step]) -> Result<String, AllocError> {
     Ok(text)
 }
 
-// Returns the run that leaves the image, if there is one and a device takes it.
+// Returns a run that leaves `image` after `moment` events, as text; or `none` if there is none. The
+// device must take this run.
 fn path(
     alloc: Global,
     events: &[CoreEvent],
@@ -78,8 +79,8 @@ fn path(
     }
 }
 
-// Returns the run of a row. It has the number of sectors, the events, the moment, and for both
-// images the sectors that aren't zeroes.
+// Returns a run for a row `sectors|events|moment|first|image`. Both images are zeroes except for
+// the sectors that are named.
 fn path_of(alloc: Global, row: &str) -> Result<String, AllocError> {
     let mut parts = row.split("|");
     let sectors = parts.next().unwrap_or_default().parse::<u8>().unwrap_or(0);
@@ -90,8 +91,9 @@ fn path_of(alloc: Global, row: &str) -> Result<String, AllocError> {
     path(alloc, &events, moment, &first, &image)
 }
 
-// Two writes of one sector, at moments before and after a flush. Then an open request, and one that
-// failed; a discard; a flush that failed; no sector, with a mark, a stop and a close; no event.
+// Rows `sectors|events|moment|first|image=run`. Two writes of one sector, at moments before and
+// after a flush. An open request, and a request that failed; a discard; a flush that failed. No
+// sector, with a mark, a stop and a close; no event.
 const RUNS: &str =
     "16|w 3 1,w 3 2,c 0,c 1,f,c 4|4||=submit 0,land 0 3,submit 1,land 1 3,end 0 ok,end 1 ok,power
 16|w 3 1,w 3 2,c 0,c 1,f,c 4|4||3:1=submit 0,submit 1,land 1 3,land 0 3,destage 3,end 0 ok,end 1 ok,power
@@ -115,7 +117,7 @@ fn runs_are_reached(rt: HostRuntime) -> Result<(), Fail> {
     Ok(())
 }
 
-// For each of the judge's rows, a run leaves each possible image, and no other.
+// If the judge allows the image of a row, a run leaves the image; otherwise no run does.
 #[test]
 fn possible_images_are_reached(rt: HostRuntime) -> Result<(), Fail> {
     let alloc = rt.alloc();
@@ -132,7 +134,7 @@ fn possible_images_are_reached(rt: HostRuntime) -> Result<(), Fail> {
     Ok(())
 }
 
-// Returns the step that these words mean.
+// Returns the step that this text means.
 fn step_of(text: &str) -> Step {
     let mut words = text.split(" ");
     let word = words.next().unwrap_or_default();
@@ -147,7 +149,8 @@ fn step_of(text: &str) -> Step {
     }
 }
 
-// Takes the steps of a row. Returns the answer to the last one: `ok`, or its refusal.
+// Makes the steps of a row `events|steps`. Returns the answer to the last step: `ok`, or its
+// refusal.
 fn answer_of(alloc: Global, row: &str) -> Result<String, AllocError> {
     let (list, steps) = row.split_once("|").unwrap_or_default();
     let events = events_of(alloc, list)?;
@@ -169,11 +172,11 @@ fn answer_of(alloc: Global, row: &str) -> Result<String, AllocError> {
     }
 }
 
-// Steps, and after `=` the answer to the last one. A second submission, and the submission of an
-// end. Landings before a submission, after an end, in another sector, and twice. A destage of a
-// sector on which nothing landed, and past the device's end. Ends before a landing, or with half of
-// the sectors landed. The end of a FUA write that isn't destaged after it landed, and of a flush
-// while something is only in the cache. Steps after power.
+// Rows `events|steps=the answer to the last step`. A second submission, and a submission of an end.
+// A sector lands before its submission, after its end, in another sector, and twice. A destage of a
+// sector before anything lands in it, and past the device's end. Ends before a landing, or with
+// half of the sectors landed. A FUA write ends before it is destaged, and a flush while a write is
+// only in the cache. Steps after the power failed.
 const STEPS: &str = "w 3 1|submit 0=ok
 w 3 1|submit 0,submit 0=35 BadStep
 w 3 1,c 0|submit 1=35 BadStep
@@ -214,15 +217,15 @@ fn steps_are_answered(rt: HostRuntime) -> Result<(), Fail> {
     Ok(())
 }
 
-// Steps, and after `=` the image that they leave. A write that lands later isn't durable until the
-// next destage. A discard leaves zeroes.
+// Rows `events|steps=the image that they leave`. If a write lands after a destage, it isn't durable
+// until the next destage. A discard leaves zeroes.
 const IMAGES: &str = "w 3 1,w 3 2|submit 0,submit 1,land 0 3,destage 3,land 1 3=3:1
 w 3 1,w 3 2|submit 0,submit 1,land 0 3,destage 3,land 1 3,destage 3=3:2
 w 3 1,w 3 2|submit 0,submit 1,land 1 3,land 0 3,destage 3,power=3:1
 w 3 1,d 3|submit 0,submit 1,land 0 3,destage 3,land 1 3,destage 3=
 w3 0 7|submit 0,land 0 2,land 0 0,destage 2,destage 0=0:7 2:7";
 
-// Returns whether the steps leave the image of a row.
+// Returns whether the steps of a row leave its image.
 fn is_left(alloc: Global, row: &str) -> Result<bool, AllocError> {
     let (asked, words) = row.split_once("=").unwrap_or_default();
     let (list, steps) = asked.split_once("|").unwrap_or_default();

@@ -1,4 +1,4 @@
-//! Tests of what readers read from a board.
+//! Tests of which status a reader reads from a board.
 ghost use Rattle.std.specs.Prelude.{◌≡◌};
 
 use bio::{End, Status};
@@ -9,7 +9,7 @@ use std::marker::Brand;
 use std::test::*;
 use test_devices::is_same;
 
-// Statuses to post one after another, and whether each may be posted.
+// Statuses to post in this order: entries, sector and end, and whether the status may be posted.
 const ROWS: [(u64, u64, Option<End>, bool); 12] = [
     (0, 0, None, true),
     (3, 4, None, true),
@@ -25,7 +25,7 @@ const ROWS: [(u64, u64, Option<End>, bool); 12] = [
     (1_048_576, 1_048_576, Some(End::Full), true),
 ];
 
-// Posts the status if that is allowed, and returns whether it was.
+// Posts the status if the writer may post it. Returns whether it was posted.
 fn post<N: Names>(board: &Board<N>, writer: &mut WriterSeat<N>, status: Status) -> bool {
     let may_publish = writer.may_publish(status);
     if may_publish {
@@ -34,7 +34,8 @@ fn post<N: Names>(board: &Board<N>, writer: &mut WriterSeat<N>, status: Status) 
     may_publish
 }
 
-// Checks what two readers read after each row: one that reads after each row, and a new one.
+// Tries to post each row's status. Checks that a reader, and another that is made after it, both
+// read the status that was posted last.
 fn rows_are_read<N: Names>(rt: &impl Print, blank: Blank) -> bool
     requires { blank ≡ N.board }
 {
@@ -82,7 +83,7 @@ struct Reader<N: Names> {
     last: Status,
 }
 
-// Returns whether `count` readers read a status that is posted after they were made.
+// Makes `count` readers, and then posts a status. Returns whether each of them reads it.
 fn are_reading<N: Names>(alloc: Global, blank: Blank, count: usize) -> Result<bool, AllocError>
     requires { blank ≡ N.board }
 {

@@ -1,5 +1,5 @@
-//! Tests of a recorder with one seat: its calls, a close that wasn't asked for, and a close that
-//! writes everything itself.
+//! Tests of a recorder with one seat: its calls, a close before `ask_close`, and a close that
+//! writes the whole log itself.
 ghost use Rattle.std.specs.Prelude.{◌≡◌};
 ghost use Rattle.thread_tests.specs.Disks.{disk_ground};
 
@@ -14,10 +14,10 @@ use std::marker::Brand;
 use std::sync::Wait;
 use std::test::*;
 
-// The number of sectors of each disk.
+// Each disk has this many sectors.
 const SECTORS: u64 = 16;
 
-// Starts a recorder of one seat over two disks. Returns None if it couldn't be started.
+// Starts a recorder with one seat on two disks. Returns None if it can't be started.
 fn start<R: Run + Names>(
     alloc: Global,
     unnamed: Unnamed,
@@ -40,7 +40,7 @@ fn write(alloc: Global, first: u64) -> Result<Bio, AllocError> {
     write_of(alloc, first, 7)
 }
 
-// Returns whether a read returned a sector of 7 and then a sector of 9.
+// Returns whether a read returned a sector filled with 7 and then a sector filled with 9.
 fn has_read<C>(answer: &Answer<C>) -> bool {
     match answer {
         Answer::Read(bytes) => {
@@ -64,8 +64,8 @@ fn write_of(alloc: Global, first: u64, byte: u8) -> Result<Bio, AllocError> {
     })
 }
 
-// A close without `ask_close` returns the recorder and its seat. After `ask_close`, the close
-// itself writes everything, without a writer's thread.
+// A close without `ask_close` is refused, and returns the recorder and its seat. After `ask_close`,
+// the close itself writes the whole log, since no thread did.
 fn unasked<R: Run + Names, H: Wait>(
     rt: &H,
     alloc: Global,
@@ -113,9 +113,9 @@ fn unasked<R: Run + Names, H: Wait>(
     Ok(matches!(answer, Answer::Done) && is_asked && is_written)
 }
 
-// A seat writes, flushes and reads. After recording is closed, the writer writes everything, and
-// the close has nothing left to write. A reader sees the status of an empty log before the writer
-// ran, and the status of the whole log after it. What it saw is a prefix of what was posted.
+// A seat writes, flushes and reads. After `ask_close` the writer writes everything, so the close
+// has nothing left to write. A reader reads the status of an empty log before the writer ran, and
+// that of the whole log after it. The statuses that it read are a prefix of the posted ones.
 fn recorded<R: Run + Names, H: Wait>(
     rt: &H,
     alloc: Global,
@@ -172,7 +172,7 @@ fn recorded<R: Run + Names, H: Wait>(
     Ok(are_done && has_read(&read) && is_asked && is_written && is_shown)
 }
 
-// A recorder whose one seat made a write, and that was asked to close.
+// A recorder after its one seat made a write and `ask_close` succeeded.
 #[derive(Drop)]
 struct Wrote<R: Run + Names> {
     recorder: Shared<SectorDisk, SectorDisk, R>,
@@ -180,7 +180,7 @@ struct Wrote<R: Run + Names> {
     writer: WriterSeat<R>,
 }
 
-// Starts a recorder, writes sector `first`, and asks the recorder to close. Returns None if that
+// Starts a recorder, writes sector `first` and calls `ask_close`. Returns None if one of these
 // failed.
 fn start_and_write<R: Run + Names, H: Wait>(
     rt: &H,
@@ -220,8 +220,8 @@ fn start_and_write<R: Run + Names, H: Wait>(
     }))
 }
 
-// Closes a recorder. Returns whether it found that its seat isn't its own, and returned the seat
-// with nothing placed.
+// Closes a recorder with a seat that isn't its own. Returns whether the close is refused as
+// `Foreign`, with the seat and without a placed item.
 fn is_foreign<R: Run + Names>(alloc: Global, wrote: Wrote<R>) -> Result<bool, AllocError> {
     let Wrote {
         recorder,
@@ -237,8 +237,8 @@ fn is_foreign<R: Run + Names>(alloc: Global, wrote: Wrote<R>) -> Result<bool, Al
     Ok(back.seats.len() == 1 && back.closed.placed.is_empty() && is_unposted)
 }
 
-// Logging ended before the seat's calls. A FUA write and a mark are answered with the cause, and a
-// plain write is done.
+// Logging ends before the seat's calls. A FUA write and a mark then return the cause of the end,
+// and a plain write is done.
 fn stopped<R: Run + Names, H: Wait>(
     rt: &H,
     alloc: Global,
@@ -280,8 +280,7 @@ fn stopped<R: Run + Names, H: Wait>(
     Ok(is_told && matches!(done, Answer::Done) && is_marked)
 }
 
-// The seats of two recorders are swapped. Each recorder finds that its seat isn't its own, and
-// returns it.
+// The seats of two recorders are swapped. Each close is refused as `Foreign`, and returns the seat.
 fn foreign_seats<B: Run + Names, C: Run + Names, H: Wait>(
     rt: &H,
     alloc: Global,
@@ -336,8 +335,7 @@ fn a_write_behind_a_stop_is_told_its_cause(rt: HostRuntime) -> Result<(), Fail> 
     Ok(())
 }
 
-// A seat's calls after recording was closed: a FUA write is done, and a mark is refused with number
-// 36.
+// A seat makes calls after `ask_close`. A FUA write is done, and a mark is refused with number 36.
 fn closed<R: Run + Names, H: Wait>(
     rt: &H,
     alloc: Global,

@@ -1,4 +1,4 @@
-//! A device that holds one call until it is released, or until it has checked ten thousand times.
+//! A device that holds one call until it is released, for about ten seconds at most.
 ghost use Rattle.std.specs.Prelude.{◌≡◌};
 
 use bio::{DevError, Ms};
@@ -9,19 +9,24 @@ use std::sync::atomic::{AtomicU64, Ordering};
 use std::thread::sleep;
 use std::time::{Clock, Duration};
 
-// How often a held call checks whether it may go on. It sleeps for a millisecond after each check.
+// A held call checks at most this often whether it may go on. It sleeps for a millisecond after
+// each check.
 const LOOKS: u64 = 10_000;
 
-// The states of a sign: no call is held; a call is held; it may go on; its gate gave up holding it.
+// The states of a sign. No call is held yet.
 const IDLE: u64 = 0;
 
+// A call is held.
 const HELD: u64 = 1;
 
+// The held call may go on.
 const LET_GO: u64 = 2;
 
+// The gate gave up holding the call.
 const GAVE_UP: u64 = 3;
 
-/// A sign between a gate and another thread: whether a call is held, and whether it may go on.
+/// What a gate and another thread share: whether a call is held, and whether the held call may go
+/// on.
 #[derive(Drop)]
 pub struct Sign {
     state: Arc<AtomicU64>,
@@ -41,7 +46,7 @@ impl Sign {
         })
     }
 
-    /// Waits until a call is held, but no longer than a gate holds one.
+    /// Waits until a call is held, but not longer than a gate holds a call.
     pub fn wait(&self, clock: &impl Clock) {
         for _ in 0..LOOKS {
             if self.state.load(Ordering::SeqCst) != IDLE {
@@ -51,14 +56,14 @@ impl Sign {
         }
     }
 
-    /// Releases the call. Returns whether it was still held.
+    /// Releases the held call. Returns whether the gate was still holding it.
     pub fn let_go(&self) -> bool {
         self.state
             .compare_exchange(HELD, LET_GO, Ordering::SeqCst, Ordering::SeqCst)
             .is_ok()
     }
 
-    // Holds a call, until it is released or the checks run out.
+    // Holds a call until it is released, or until `LOOKS` checks were made.
     fn hold(&self, clock: &impl Clock) {
         self.state.store(HELD, Ordering::SeqCst);
         for _ in 0..LOOKS {
@@ -73,16 +78,15 @@ impl Sign {
     }
 }
 
-/// A device that holds one of the writes to one sector. It counts these writes, and passes all
-/// calls.
+/// A device that passes all calls, but holds one of the writes to one sector until it is released.
 #[derive(Drop)]
 pub struct Gate<D: BlockDev + Drop, C: Clock + Drop> {
     lower: D,
     clock: C,
     sign: Sign,
     sector: u64,
-    // The number of writes to the sector that pass before the one that is held. From 2^64 - 1 on
-    // none is held.
+    // This many writes to the sector pass before the one that is held. 2^64 - 1 means that no write
+    // is held any more.
     passes: u64,
 }
 
@@ -100,7 +104,7 @@ impl<D: BlockDev + Drop, C: Clock + Drop> Gate<D, C> {
         }
     }
 
-    /// Returns a gate that holds the write to `sector` after `passes` other writes to it.
+    /// Returns a gate that passes `passes` writes to `sector`, and holds the next one.
     pub fn holding(lower: D, clock: C, sign: Sign, sector: u64, passes: u64) -> Gate<D, C>
         ensures { result.lower ≡ lower }
     {
@@ -126,7 +130,7 @@ impl<D: BlockDev + Drop, C: Clock + Drop> Gate<D, C> {
         lower
     }
 
-    // Holds the call if it is the one to hold.
+    // Holds a write that begins at sector `first`, if it is the one to hold.
     fn pass(&mut self, first: u64)
         ensures { self.new.lower ≡ self.old.lower }
     {

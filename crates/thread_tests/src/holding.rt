@@ -1,11 +1,12 @@
-//! Tests the calls of a keeper and its holders.
+//! Tests of a keeper and its holders.
 ghost use Rattle.std.specs.Prelude.{◌≡◌};
 
 use lock_state::{Fresh, Whose};
 use std::marker::Brand;
 use std::test::*;
 
-// Checks that two holders take and release in turn.
+// Two holders begin and finish numbers in turn. The keeper agrees with the first holder before it
+// finishes.
 fn are_held<W: Whose>(fresh: Fresh)
     requires { fresh ≡ W.table }
 {

@@ -1,4 +1,4 @@
-//! Tests with four seats: they fill a log, or find it full; and their reads find what they wrote.
+//! Tests with four seats, which fill a log or find it full, and read what they wrote.
 ghost use Rattle.std.specs.Prelude.{◌<◌, ◌≤◌};
 
 use crate::play::{Played, Table};
@@ -17,15 +17,16 @@ use std::thread::Threads;
 use std::time::Clock;
 use test_devices::{holds, is_same};
 
-// The number of seats, and the number of sectors that only one seat uses.
+// This many seats make calls.
 const SEATS: u64 = 4;
 
+// Each seat has this many sectors that no other seat uses.
 const OWN: u64 = 100;
 
-// The byte that a seat writes after the recorder was asked to close.
+// A seat writes this byte after `ask_close`.
 const LATE: u8 = 200;
 
-// Returns the calls of a seat that writes each of its sectors once, and then a mark with its
+// Returns the calls of a seat that writes each of its sectors once, and then makes a mark with its
 // number.
 fn writes_and_mark(alloc: Global, seat: u64) -> Result<Table, AllocError>
     requires { seat < 4 }
@@ -48,7 +49,7 @@ fn writes_and_mark(alloc: Global, seat: u64) -> Result<Table, AllocError>
     })
 }
 
-// Returns whether each seat had these answers.
+// Returns whether each of four seats had the answers `wanted`.
 fn have_answers(rt: &impl Print, found: &[Tally], wanted: &Tally) -> bool {
     let mut have = is_same(rt, &found.len(), &4, "seats");
     for place in 0..found.len() {
@@ -57,7 +58,7 @@ fn have_answers(rt: &impl Print, found: &[Tally], wanted: &Tally) -> bool {
     have
 }
 
-// Returns whether each reader saw this status last.
+// Returns whether each of four readers read the status `last` last.
 fn have_seen(rt: &impl Print, seen: &[Status], last: &Status) -> bool {
     let mut have = is_same(rt, &seen.len(), &4, "readers");
     for place in 0..seen.len() {
@@ -66,7 +67,7 @@ fn have_seen(rt: &impl Print, seen: &[Status], last: &Status) -> bool {
     have
 }
 
-// Returns whether a receipt is for the mark with the text `byte`.
+// Returns whether a receipt names the placed mark whose text is `byte`.
 fn is_marks(receipt: (Id, u64), placed: &[Item], byte: u8) -> bool {
     let (id, number) = receipt;
     match placed.get(number as usize) {
@@ -75,7 +76,8 @@ fn is_marks(receipt: (Id, u64), placed: &[Item], byte: u8) -> bool {
     }
 }
 
-// Returns whether there is a receipt for each seat's mark, and each names its item.
+// Returns whether there are four receipts, one for the mark of each seat, and whether each names
+// its item.
 fn are_named(rt: &impl Print, receipts: &[(Id, u64)], placed: &[Item]) -> bool {
     if receipts.len() != 4 {
         return holds(rt, false, "four receipts");
@@ -88,7 +90,7 @@ fn are_named(rt: &impl Print, receipts: &[(Id, u64)], placed: &[Item]) -> bool {
     are
 }
 
-// Returns the number of entries that are read from a log.
+// Returns how many entries are read from a log, of at most 999.
 fn read_back(alloc: Global, log: SectorDisk) -> u64 {
     let Ok(mut reader) = LogReader::open(alloc, log) else {
         return u64::MAX;
@@ -103,10 +105,10 @@ fn read_back(alloc: Global, log: SectorDisk) -> u64 {
     count
 }
 
-// Four seats write a hundred sectors each and then a mark, to a log of `sectors` sectors, while
+// Four seats write a hundred sectors each and then make a mark, with a log of `sectors` sectors;
 // four readers read the status. Returns whether the answers, the receipts, the status and the
-// entries that are read back are as expected. No reader may see a status go back, and each must see
-// the last one at the end.
+// number of entries in the log are right. No reader may read a status that went back, and each must
+// read the last status.
 fn four_seats<H: Threads + Wait + Clock + Print + Sync + Send + Copy + Drop>(
     rt: &H,
     alloc: Global,
@@ -166,9 +168,8 @@ fn four_seats_find_a_log_full(rt: HostRuntime) -> Result<(), Fail> {
     Ok(())
 }
 
-// Returns the calls of a seat that writes each of its sectors, reads it at once, and then flushes.
-// After the recorder was asked to close, it writes its first sector again, and its second one with
-// FUA. It discards its third one, reads each of the three, and marks.
+// Returns the calls of a seat that writes each of its sectors and reads it at once, and then
+// flushes. After `ask_close` it makes the calls of `late_calls`.
 fn writes_read_back(alloc: Global, seat: u64) -> Result<Table, AllocError>
     requires { seat < 4 }
 {
@@ -191,7 +192,9 @@ fn writes_read_back(alloc: Global, seat: u64) -> Result<Table, AllocError>
     })
 }
 
-// Returns the late calls of a seat whose first sector is `first`.
+// Returns the calls of a seat after `ask_close`; `first` is its first sector. It writes this
+// sector, writes the second one with FUA, and discards the third. Then it reads each of the three,
+// and marks.
 fn late_calls(alloc: Global, first: u64) -> Result<Vec<Call>, AllocError>
     requires { first < 400 }
 {
@@ -221,7 +224,7 @@ fn late_calls(alloc: Global, first: u64) -> Result<Vec<Call>, AllocError>
     ]?)
 }
 
-// Returns whether the sector of a disk is filled with this byte.
+// Returns whether a sector of a disk is filled with `byte`.
 fn has_byte(
     disk: &mut SectorDisk,
     alloc: Global,
@@ -241,8 +244,8 @@ fn has_byte(
     Ok(buffer.as_slice().iter().all(|&found| found == byte))
 }
 
-// Returns the byte that fills a seat's sector number `place`: one of `first` for the first three,
-// else the byte that was written there.
+// Returns the byte that must fill a seat's sector number `place`. For the first three sectors
+// `first` has it; otherwise it is what was written there.
 fn byte_of(place: u64, first: [u8; 3]) -> u8 {
     match place {
         0 => first[0],
@@ -252,7 +255,8 @@ fn byte_of(place: u64, first: [u8; 3]) -> u8 {
     }
 }
 
-// Returns whether each sector of four seats is filled with its byte.
+// Returns whether each sector of the four seats is filled with its byte; `first` has those of each
+// seat's first three sectors.
 fn have_bytes(disk: &mut SectorDisk, alloc: Global, first: [u8; 3]) -> Result<bool, AllocError> {
     let mut have = true;
     for sector in 0..SEATS * OWN {
@@ -261,9 +265,9 @@ fn have_bytes(disk: &mut SectorDisk, alloc: Global, first: [u8; 3]) -> Result<bo
     Ok(have)
 }
 
-// Four seats write and read, and flush. They write and discard again after the recorder was asked
-// to close. Returns whether each read found what was written, and each sector of the device has its
-// last value. After a crash each sector must have the flushed value, or that of the late FUA write.
+// Four seats write, read and flush, and change sectors again after `ask_close`. Returns whether
+// each read found what was written, and each sector of the device has its last value. After a crash
+// each sector must have its flushed value, or that of the late FUA write.
 fn readback<H: Threads + Wait + Clock + Print + Sync + Send + Copy + Drop>(
     rt: &H,
     alloc: Global,

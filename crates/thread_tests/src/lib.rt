@@ -1,5 +1,5 @@
 //! Tests of `board`, `lock_state` and `shared`, through their public functions. They are in their
-//! own crate, so that the tested crates aren't proved again with their tests.
+//! own crate, so that a changed test doesn't make the prover prove the tested crates again.
 #![tactic(auto)]
 
 #[cfg(test)]

@@ -1,4 +1,4 @@
-//! Tests of the time at which a seat's request is passed to the device.
+//! Tests of the time at which the device gets a seat's request.
 ghost use Rattle.std.specs.Prelude.{◌≡◌};
 ghost use Rattle.thread_tests.specs.Disks.{disk_ground};
 
@@ -13,10 +13,10 @@ use std::marker::Brand;
 use std::sync::Wait;
 use std::test::*;
 
-// The number of sectors of each disk.
+// Each disk has this many sectors.
 const SECTORS: u64 = 16;
 
-// A device that notes the time at which its last call began.
+// A device that notes the time of its last call.
 #[derive(Drop)]
 struct Timed<D: BlockDev + Drop> {
     lower: D,
@@ -74,8 +74,8 @@ impl<D: BlockDev + Drop> BlockDev for Timed<D> {
     ghost lawful = { λ device. D.lawful device.lower };
 }
 
-// Returns whether a seat's request begins at the time at which it was submitted. With `late`, it is
-// submitted after the recorder was asked to close.
+// Submits a seat's request, and returns whether the device's call begins at the time of the
+// submission. If `late`, submits it after `ask_close`.
 fn is_handed_on<R: Run + Names, H: Wait>(
     rt: &H,
     alloc: Global,
@@ -126,7 +126,7 @@ fn is_handed_on<R: Run + Names, H: Wait>(
     Ok(is_answered && is_asked && closed.device.last == Ms::new(5))
 }
 
-// As above, for a new recorder.
+// Starts a new recorder, and returns what `is_handed_on` returns for it.
 fn begins_at_its_moment<H: Wait>(
     rt: &H,
     alloc: Global,

@@ -1,4 +1,4 @@
-//! Runs a recorder with a thread for each seat and one that writes the log, and then closes it.
+//! Runs a recorder with a thread for each seat, for the readers and for the writer, and closes it.
 ghost use Rattle.std.specs.Prelude.{◌≡◌, ◌<◌, ◌≤◌};
 ghost use Rattle.std.specs.Thread.{IsSend};
 ghost use Rattle.lock_state.specs.PlacedItems.{ground_of};
@@ -16,7 +16,8 @@ use std::thread;
 use std::thread::Threads;
 use std::time::Clock;
 
-/// The calls of one seat.
+/// The calls of one seat: `calls` before `ask_close`, and `late` after it. The seat waits for the
+/// sign `after`, if there is one.
 #[derive(Drop)]
 pub struct Table {
     pub calls: Vec<Call>,
@@ -24,11 +25,11 @@ pub struct Table {
     pub after: Option<Sign>,
 }
 
-// How often a reader reads the status.
+// A reader reads the status this often while calls are made.
 const LOOKS: u64 = 10_000;
 
-/// A reader, the status that it read last, and whether a status went back: it had fewer entries
-/// than the one before it, or another end.
+/// A reader, the status that it read last, and whether a status went back. A status goes back if it
+/// has fewer entries than the one before it, or another end.
 #[derive(Drop)]
 pub struct Watch<R: Run + Names> {
     pub seat: StatusSeat<R>,
@@ -52,14 +53,15 @@ impl<R: Run + Names> Watch<R> {
     }
 }
 
-/// The results of a closed recorder. The seats' tallies are in the order of the tables.
+/// The results of a closed recorder. `tallies` has a tally for each table, in their order. `let_go`
+/// says whether each seat with a sign released a held call.
 #[derive(Drop)]
 pub struct Played<D: Drop, L: Drop> {
     pub tallies: Vec<Tally>,
     pub let_go: bool,
-    /// For each reader, the status that it saw last, after all threads had ended.
+    /// For each reader, the status that it read after all threads had ended.
     pub seen: Vec<Status>,
-    /// Whether no reader saw a status go back.
+    /// Whether no reader read a status that went back.
     pub rises: bool,
     /// The id and the number of each receipt.
     pub receipts: Vec<(Id, u64)>,
@@ -68,16 +70,16 @@ pub struct Played<D: Drop, L: Drop> {
     pub released: Option<End>,
 }
 
-// The seats and the readers, after all calls were made.
+// The seats and the readers after all calls.
 #[derive(Drop)]
 struct Called<R: Run + Names> {
     works: Vec<Work<R>>,
     watches: Vec<Watch<R>>,
 }
 
-// Starts the writer, makes all calls in a thread for each seat, asks the recorder to close, and
-// makes the late calls. Returns None if a thread couldn't be started or the close was refused. If
-// the writer runs then, logging is ended, so that the writer doesn't wait for more.
+// Starts the writer and the readers, makes each seat's calls in a thread, calls `ask_close`, and
+// makes the late calls. Returns None if a thread can't be started or `ask_close` is refused. In
+// that case it ends logging, if the writer runs, since the writer would wait for more entries.
 fn run_all<
     D: BlockDev + Drop + Send,
     L: BlockDev + Drop + Send,
@@ -119,7 +121,7 @@ fn run_all<
     )
 }
 
-// Lets each reader read the status, in its own thread.
+// Makes each reader read the status, each in its own thread.
 fn look_all<
     D: BlockDev + Drop + Send,
     L: BlockDev + Drop + Send,
@@ -137,7 +139,7 @@ fn look_all<
     watches
 }
 
-// Makes each seat's calls, in its own thread.
+// Makes each seat's calls, each seat in its own thread.
 fn call_all<
     D: BlockDev + Drop + Send,
     L: BlockDev + Drop + Send,
@@ -155,7 +157,7 @@ fn call_all<
     works
 }
 
-// Makes each seat's late calls, in its own thread.
+// Makes each seat's late calls, each seat in its own thread.
 fn call_all_late<
     D: BlockDev + Drop + Send,
     L: BlockDev + Drop + Send,
@@ -173,7 +175,7 @@ fn call_all_late<
     works
 }
 
-// Pairs the seats with the tables, and returns the works before their first calls.
+// Pairs each seat with a table, before its first call.
 fn works_of<R: Run + Names>(
     alloc: Global,
     seats: Vec<Seat<R>>,
@@ -196,7 +198,7 @@ fn works_of<R: Run + Names>(
     Ok(works)
 }
 
-// Returns the readers before their first read.
+// Returns the readers, before their first read.
 fn watches_of<R: Run + Names>(
     alloc: Global,
     readers: Vec<StatusSeat<R>>,
@@ -217,7 +219,7 @@ fn watches_of<R: Run + Names>(
     Ok(watches)
 }
 
-// What the works leave: the seats, their tallies and their receipts.
+// What the works leave: seats, receipts and tallies.
 #[derive(Drop)]
 struct Parts<R: Run + Names> {
     seats: Vec<Seat<R>>,
@@ -226,7 +228,7 @@ struct Parts<R: Run + Names> {
     let_go: bool,
 }
 
-// Splits the works into the seats, their tallies in the same order, and all receipts.
+// Splits the works into their seats, their tallies in the same order, and their receipts.
 fn parts_of<R: Run + Names>(alloc: Global, works: Vec<Work<R>>) -> Result<Parts<R>, AllocError> {
     let mut seats = Vec::new(alloc);
     let mut receipts = Vec::new(alloc);
@@ -260,8 +262,8 @@ fn names_of<R: Run>(alloc: Global, receipts: &[Receipt<R>]) -> Result<Vec<(Id, u
     Ok(names)
 }
 
-// Lets each reader read once more. Returns the status that each read last, and whether none saw a
-// status go back.
+// Makes each reader read once more. Returns the status that each read last, and whether no reader
+// read a status that went back.
 fn last_looks<D: BlockDev + Drop, L: BlockDev + Drop, R: Run + Names>(
     alloc: Global,
     recorder: &Shared<D, L, R>,
@@ -278,8 +280,8 @@ fn last_looks<D: BlockDev + Drop, L: BlockDev + Drop, R: Run + Names>(
     Ok((seen, rises))
 }
 
-/// Plays the tables, with a seat for each, and closes the recorder. Returns None if the recorder or
-/// a thread couldn't be started, or if a close was refused.
+/// Makes the calls of the tables, with a seat for each, and closes the recorder. Returns None if
+/// the recorder or a thread can't be started, or if `ask_close` or the close is refused.
 pub fn play<
     D: BlockDev + Drop + Send,
     L: BlockDev + Drop + Send,

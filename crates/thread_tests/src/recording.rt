@@ -1,5 +1,5 @@
-//! Two seats record requests in the values that the locks guard, without locks or threads. The
-//! queued items are placed, and all is compared at the end.
+//! Two seats record requests in the values that the locks guard, but without locks or threads. What
+//! they queue is placed, and in the end everything is compared with the history.
 ghost use Rattle.std.specs.Prelude.{◌≡◌, None};
 ghost use Rattle.bio.specs.Sizes.{bytes_of};
 ghost use Rattle.lock_state.specs.PlacedItems.{ground_of};
@@ -18,12 +18,13 @@ use std::sync::ledger::Blank;
 use std::test::*;
 use test_devices::holds;
 
-// The number of sectors of the recorded device, and of the log.
+// The recorded device has this many sectors.
 const SECTORS: u64 = 64;
 
+// The log's disk has this many sectors.
 const LOG_SECTORS: u64 = 128;
 
-// Returns a write as long as a log sector. `number` counts such pieces of the device.
+// Returns a write of one log sector: number `number` of the device's pieces of that size.
 fn write(alloc: Global, size: SectorSize, number: u64, fua: bool) -> Result<Bio, AllocError> {
     Ok(Bio::Write {
         first: number.saturating_mul(size.sectors()),
@@ -34,8 +35,8 @@ fn write(alloc: Global, size: SectorSize, number: u64, fua: bool) -> Result<Bio,
     })
 }
 
-// Records a request of a seat, passes it to the device and records its end. Returns whether all of
-// that was done.
+// Records a request of a seat, passes it to the device, and records its end. Returns whether all of
+// this succeeded.
 fn call<R: Run>(
     queue: &mut QueueState<R>,
     data_state: &mut DataState<SectorDisk, R>,
@@ -61,7 +62,7 @@ fn call<R: Run>(
     false
 }
 
-// Places the next item, and returns whether there was one.
+// Takes the next item and places it. Returns whether there was an item.
 fn turn<R: Run>(queue: &mut QueueState<R>, log: &mut LogState<SectorDisk, R>) -> bool {
     let mut hand = WriterPart::new();
     if log.reserve().is_err() || queue.take(&mut hand).is_err() || hand.is_empty() {
@@ -70,7 +71,7 @@ fn turn<R: Run>(queue: &mut QueueState<R>, log: &mut LogState<SectorDisk, R>) ->
     log.place(&mut hand).is_ok()
 }
 
-// Records a mark of a seat. Returns whether that was done.
+// Records a mark of a seat. Returns whether it was recorded.
 fn mark<R: Run>(
     alloc: Global,
     queue: &mut QueueState<R>,
@@ -84,7 +85,7 @@ fn mark<R: Run>(
     Ok(true)
 }
 
-// Passes a seat's call after recording ended. Returns whether it was passed.
+// Notes a call of a seat as passed, if recording has ended. Returns whether it has.
 fn pass<R: Run>(queue: &QueueState<R>, seat: &mut Seat<R>) -> Result<bool, AllocError> {
     if queue.is_recording() {
         return Ok(false);
@@ -103,8 +104,8 @@ fn is_served<R: Run>(
     Ok(queue.is_served(data_state.done(), notes.as_mut_slice()))
 }
 
-// Places the remaining items of a closed recorder. Returns whether that succeeded, and `count`
-// items are then placed and settled.
+// Places the remaining items of a closed recorder. Returns whether this succeeded, and whether
+// `count` items are placed and settled then.
 pub fn writes_rest<R: Run>(
     queue: &mut QueueState<R>,
     log: &mut LogState<SectorDisk, R>,
@@ -120,7 +121,7 @@ pub fn writes_rest<R: Run>(
     log.placed().len() == count && log.settled() == count as u64 && queue.has_taken(log.placed())
 }
 
-// Makes the requests of two seats, in turn, and a mark. Returns whether all of them were done.
+// Makes requests of two seats in turn, and a mark. Returns whether all of this succeeded.
 fn calls<R: Run>(
     alloc: Global,
     queue: &mut QueueState<R>,
@@ -141,7 +142,7 @@ fn calls<R: Run>(
     Ok(mark(alloc, queue, one)? && is_done)
 }
 
-// Returns whether both seats, and the device, agree with the history.
+// Returns whether the lists of both seats and the device's calls agree with the history.
 fn agree<R: Run>(
     alloc: Global,
     queue: &QueueState<R>,
@@ -200,7 +201,7 @@ fn two_seats_record<R: Run>(
     )
 }
 
-// As above, with a new recorder.
+// Makes a new recorder with two seats, and returns what `two_seats_record` returns.
 fn two_seats(rt: &impl Print, alloc: Global, size: SectorSize) -> Result<bool, AllocError> {
     let blank = Blank::new(2);
     let fresh = (Fresh::new(alloc)?, Fresh::new(alloc)?, Fresh::new(alloc)?);

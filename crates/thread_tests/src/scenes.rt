@@ -1,5 +1,5 @@
-//! Tests of a call that isn't blocked while a device holds another seat's call; of a log with
-//! hardly any room; of a log whose device fails; and of a recorded device that fails.
+//! Tests of four situations. A device holds a seat's call, and another seat's call is answered
+//! meanwhile. A log has hardly any room. A log's device fails. The recorded device fails.
 ghost use Rattle.std.specs.Prelude.{◌<◌, ◌≤◌};
 
 use crate::gate::{Gate, Sign};
@@ -18,10 +18,10 @@ use std::thread::Threads;
 use std::time::Clock;
 use test_devices::{Failing, holds, is_same};
 
-// The number of sectors of the disks of two seats.
+// In these tests each disk has this many sectors.
 const FEW: u64 = 64;
 
-/// Returns a tally with these counts, and 0 for the other answers.
+/// Returns a tally with these counts, and with 0 for all other answers.
 pub fn tally(done: u64, logged: u64, found: u64) -> Tally {
     Tally {
         done,
@@ -34,7 +34,7 @@ pub fn tally(done: u64, logged: u64, found: u64) -> Tally {
     }
 }
 
-// Returns a table of one call.
+// Returns a table with one call. The seat waits for the sign `after`, if there is one.
 fn alone(alloc: Global, call: Call, after: Option<Sign>) -> Result<Table, AllocError> {
     Ok(Table {
         calls: vec![in alloc; call; 1]?,
@@ -43,7 +43,7 @@ fn alone(alloc: Global, call: Call, after: Option<Sign>) -> Result<Table, AllocE
     })
 }
 
-/// Returns a disk under a gate that holds nothing.
+/// Returns a disk under a gate that holds no call.
 pub fn open_disk<H: Clock + Copy + Drop>(
     rt: &H,
     alloc: Global,
@@ -54,7 +54,7 @@ pub fn open_disk<H: Clock + Copy + Drop>(
     Ok(Gate::open(SectorDisk::new(alloc, sectors)?, *rt, Sign::new(alloc)?))
 }
 
-/// Plays the tables on these devices.
+/// Makes the calls of the tables on these devices, with `readers` readers.
 pub fn stage<
     D: BlockDev + Drop + Send,
     L: BlockDev + Drop + Send,
@@ -77,16 +77,15 @@ pub fn stage<
     play::<D, L, Brand, H>(rt, alloc, unnamed, device, log, tables, count, readers)
 }
 
-// The device that holds a call.
+// Which device holds a call.
 #[derive(Clone, Copy, Debug, PartialEq, Eq)]
 enum Held {
     Device,
     Log,
 }
 
-// The calls of two seats. The device or the log holds the first seat's call until the second seat's
-// call was answered: at the write to `sector` after `passes` other writes to it. `tallies` has the
-// expected answers.
+// The calls of two seats. A device passes `passes` writes to `sector`, and holds the next one until
+// the second seat's call is answered. `tallies` are the expected answers.
 #[derive(Clone, Copy, Debug)]
 struct Scene {
     held: Held,
@@ -94,11 +93,11 @@ struct Scene {
     passes: u64,
     calls: (Call, Call),
     tallies: (Tally, Tally),
-    // The expected status of the log at the end.
+    // The expected status of the log in the end.
     status: Status,
 }
 
-// Returns the tables of both seats. The second seat waits for the sign.
+// Returns the tables of both seats. The second seat waits until a call is held.
 fn two_calls(alloc: Global, calls: (Call, Call), sign: Sign) -> Result<Vec<Table>, AllocError> {
     let mut tables = Vec::new(alloc);
     tables.push(alone(alloc, calls.0, None)?)?;
@@ -106,7 +105,7 @@ fn two_calls(alloc: Global, calls: (Call, Call), sign: Sign) -> Result<Vec<Table
     Ok(tables)
 }
 
-// Returns whether each of two seats had the expected answers.
+// Returns whether each of two seats had the answers `wanted`.
 fn are_answered(rt: &impl Print, found: &[Tally], wanted: (Tally, Tally)) -> bool {
     let [one, other] = found else {
         return holds(rt, false, "two tallies");
@@ -115,8 +114,8 @@ fn are_answered(rt: &impl Print, found: &[Tally], wanted: (Tally, Tally)) -> boo
     is_same(rt, other, &wanted.1, "the other call") && is_one
 }
 
-// Plays the scene. Returns whether the first call was still held when the second one was answered,
-// and both answers and the status are as expected.
+// Plays a scene. Returns whether the call was still held when the second seat's call was answered.
+// The answers and the status must be as expected too.
 fn gated<H: Threads + Wait + Clock + Print + Sync + Send + Copy + Drop>(
     rt: &H,
     alloc: Global,
@@ -160,8 +159,8 @@ fn goes_on(entries: u64, sector: u64) -> Status {
     }
 }
 
-// The log's first write after its creation, which is a flush's entry, is held until another
-// thread's write was answered.
+// The log's first write after its creation, a flush's entry, is held until another seat's write is
+// answered.
 #[test]
 fn a_write_is_answered_while_the_log_is_written(rt: HostRuntime) -> Result<(), Fail> {
     let scene = Scene {
@@ -183,8 +182,8 @@ fn a_write_is_answered_while_the_log_is_written(rt: HostRuntime) -> Result<(), F
     Ok(())
 }
 
-// Logging stops while an entry is written to the log. The writer had taken that entry, and writes
-// it.
+// Logging is stopped while an entry is written to the log. The writer had taken the entry, so it
+// finishes the entry.
 #[test]
 fn a_taken_entry_is_written_after_a_stop(rt: HostRuntime) -> Result<(), Fail> {
     let scene = Scene {
@@ -202,7 +201,7 @@ fn a_taken_entry_is_written_after_a_stop(rt: HostRuntime) -> Result<(), Fail> {
     Ok(())
 }
 
-// Logging stops while the device holds a write with FUA. Its seat isn't left waiting for the log.
+// Logging is stopped while the device holds a FUA write. The seat doesn't wait for the log then.
 #[test]
 fn a_write_is_let_go_after_a_stop(rt: HostRuntime) -> Result<(), Fail> {
     let scene = Scene {
@@ -233,8 +232,8 @@ fn a_write_is_let_go_after_a_stop(rt: HostRuntime) -> Result<(), Fail> {
     Ok(())
 }
 
-// The recorder is asked to close while the device holds a request. It is refused as busy, and
-// recording goes on.
+// `ask_close` is called while the device holds a request. It is refused as busy, and recording goes
+// on.
 #[test]
 fn a_close_is_busy_while_a_request_is_open(rt: HostRuntime) -> Result<(), Fail> {
     let scene = Scene {
@@ -262,7 +261,8 @@ fn a_close_is_busy_while_a_request_is_open(rt: HostRuntime) -> Result<(), Fail> 
     Ok(())
 }
 
-// The write of the super block after one seat's mark is held until another's write was answered.
+// The super block is written after one seat's mark. This write is held until another seat's write
+// is answered.
 #[test]
 fn a_write_is_answered_while_a_mark_is_made_sure(rt: HostRuntime) -> Result<(), Fail> {
     let scene = Scene {
@@ -284,8 +284,8 @@ fn a_write_is_answered_while_a_mark_is_made_sure(rt: HostRuntime) -> Result<(), 
     Ok(())
 }
 
-// The write of the super block after one seat's FUA write is held until another's write was
-// answered.
+// The super block is written after one seat's FUA write. This write is held until another seat's
+// write is answered.
 #[test]
 fn a_write_is_answered_while_a_fua_write_is_made_sure(rt: HostRuntime) -> Result<(), Fail> {
     let scene = Scene {
@@ -311,7 +311,7 @@ fn a_write_is_answered_while_a_fua_write_is_made_sure(rt: HostRuntime) -> Result
     Ok(())
 }
 
-// One seat's write is held in the device until another's mark was answered.
+// The device holds one seat's write until another seat's mark is answered.
 #[test]
 fn a_mark_is_answered_while_the_device_writes(rt: HostRuntime) -> Result<(), Fail> {
     let scene = Scene {
@@ -333,8 +333,8 @@ fn a_mark_is_answered_while_the_device_writes(rt: HostRuntime) -> Result<(), Fai
     Ok(())
 }
 
-// Makes one call of one seat, with a log of `sectors` sectors. Returns whether the answer and the
-// status are as expected.
+// A seat makes one call, with a log of `sectors` sectors. Returns whether the answer and the status
+// are as expected.
 fn small_log<H: Threads + Wait + Clock + Print + Sync + Send + Copy + Drop>(
     rt: &H,
     alloc: Global,
@@ -360,7 +360,7 @@ fn small_log<H: Threads + Wait + Clock + Print + Sync + Send + Copy + Drop>(
     Ok(is_same(rt, found, &answer, "one seat's answer") && is_status && is_told)
 }
 
-// In a log of two sectors a mark finds no room.
+// A log of two sectors has no room for a mark.
 #[test]
 fn one_seat_finds_no_room_for_a_mark(rt: HostRuntime) -> Result<(), Fail> {
     let mark = Call::Mark { byte: 120 };
@@ -393,8 +393,8 @@ fn one_seat_finds_room_for_a_write_alone(rt: HostRuntime) -> Result<(), Fail> {
     Ok(())
 }
 
-// Makes a seat's mark. The log's device passes the write that creates the log, and fails each later
-// one. So the log ends, logging stops, and the waiting seat is released.
+// A seat makes a mark. The log's device passes only the write that creates the log. So the log
+// ends, logging stops, and the waiting seat is released.
 fn failing_log<H: Threads + Wait + Clock + Print + Sync>(
     rt: &H,
     alloc: Global,
@@ -433,7 +433,7 @@ fn a_log_whose_device_fails_ends_by_that(rt: HostRuntime) -> Result<(), Fail> {
     Ok(())
 }
 
-// Returns a call of each kind that the device gets, and a write with FUA.
+// Returns a write, a FUA write, a read, a discard and a flush.
 fn device_calls(alloc: Global) -> Result<Vec<Call>, AllocError> {
     let mut calls = Vec::new(alloc);
     for fua in [false, true] {
@@ -449,8 +449,8 @@ fn device_calls(alloc: Global) -> Result<Vec<Call>, AllocError> {
     Ok(calls)
 }
 
-// Makes a seat's calls, and its late calls, on a device that fails each. Returns whether each
-// answer is that fault, and none is lack of memory.
+// Makes a seat's calls, and its late calls, on a device that fails each call. Returns whether each
+// answer is this failure, and none is lack of memory.
 fn failing_device<H: Threads + Wait + Clock + Print + Sync>(
     rt: &H,
     alloc: Global,

@@ -1,4 +1,4 @@
-//! The calls that one thread makes at its seat: a table of calls, and a tally of their answers.
+//! The calls that a thread makes at its seat: a table of calls, and a tally of their answers.
 use crate::gate::Sign;
 use bio::{Bio, Bytes, DevError, Ms};
 use blockdev::BlockDev;
@@ -10,8 +10,7 @@ use std::alloc::{AllocError, Global};
 use std::sync::Wait;
 use std::time::Clock;
 
-/// A call of a seat. A write fills one sector with a byte; a read expects the sector to hold a
-/// byte.
+/// A call of a seat. A write fills one sector with `byte`. A read of a sector must find `byte`.
 #[derive(Clone, Copy, Debug, PartialEq, Eq)]
 pub enum Call {
     Write { first: u64, byte: u8, fua: bool },
@@ -19,24 +18,24 @@ pub enum Call {
     Flush,
     Discard { first: u64 },
     Mark { byte: u8 },
-    /// Asks the recorder to close. It counts as done, as refused if the recorder is busy, or as
-    /// starved.
+    /// Calls `ask_close`. The tally counts it as done, as refused if the recorder is busy, or as
+    /// starved if memory ran out.
     AskClose,
-    /// Ends logging for lack of memory. It counts as done.
+    /// Ends logging as if memory had run out. The tally counts it as done.
     GiveUp,
 }
 
-/// The number of calls that had each answer.
+/// How many calls had each answer.
 #[derive(Clone, Copy, Debug, PartialEq, Eq)]
 pub struct Tally {
     pub done: u64,
     pub logged: u64,
     pub failed: u64,
-    /// The number of calls that failed for lack of memory. They aren't in `failed`.
+    /// How many calls failed because memory ran out; `failed` doesn't include them.
     pub starved: u64,
     pub not_logged: u64,
     pub refused: u64,
-    /// The number of reads that found the expected byte.
+    /// How many reads found the expected byte.
     pub found: u64,
 }
 
@@ -54,12 +53,12 @@ impl Tally {
     }
 }
 
-// Adds one, up to 2^64 - 1.
+// Adds one, unless the number is 2^64 - 1.
 fn count(number: &mut u64) {
     *number = number.saturating_add(1);
 }
 
-/// A seat, with the answers of its calls.
+/// A seat, with the tally of its calls and its receipts.
 #[derive(Drop)]
 pub struct Player<R: Run + Names> {
     pub seat: Seat<R>,
@@ -71,14 +70,14 @@ pub struct Player<R: Run + Names> {
 #[derive(Drop)]
 pub struct Work<R: Run + Names> {
     pub player: Player<R>,
-    /// The calls that are made while recording goes on.
+    /// The calls before `ask_close`.
     pub calls: Vec<Call>,
-    /// The calls that are made after the recorder was asked to close.
+    /// The calls after `ask_close`.
     pub late: Vec<Call>,
-    /// The sign of a gate. The seat waits until the gate holds a call, makes its calls, and then
-    /// releases the gate's call.
+    /// The sign of a gate. The seat waits until the gate holds a call, makes its own calls, and
+    /// then releases the held call.
     pub after: Option<Sign>,
-    /// Whether the gate still held its call then.
+    /// Whether the gate was still holding the call when it was released.
     pub let_go: bool,
 }
 
@@ -126,7 +125,8 @@ impl<R: Run + Names> Player<R> {
         }
     }
 
-    // Makes a call, and counts its answer. The test's own lack of memory counts as the recorder's.
+    // Makes a call, and counts its answer. If the test itself runs out of memory, this counts as if
+    // the recorder had.
     fn make<D: BlockDev + Drop, L: BlockDev + Drop, H: Wait>(
         &mut self,
         rt: &H,
@@ -201,7 +201,7 @@ impl<R: Run + Names> Player<R> {
     }
 }
 
-// Returns whether a read returned one sector of the expected byte.
+// Returns whether a read returned one sector filled with the expected byte.
 fn is_filled(bytes: &[u8], call: Call) -> bool {
     match call {
         Call::Read { byte, .. } => bytes.len() == 512 && bytes.iter().all(|&found| found == byte),
@@ -209,7 +209,7 @@ fn is_filled(bytes: &[u8], call: Call) -> bool {
     }
 }
 
-// Returns the request of a call; a flush for a call that is none.
+// Returns the request of a call; a flush for a call without a request.
 fn bio_of(alloc: Global, call: Call) -> Result<Bio, AllocError> {
     Ok(match call {
         Call::Write { first, byte, fua } => Bio::Write {

@@ -1,8 +1,8 @@
-// Bytes in the form in which a transcript shows them.
+// How a transcript shows bytes, and how it gives them.
 use std::alloc::{AllocError, Global};
 
-/// Appends the content of a file: its length, and the number and bytes of each sector of 512 bytes
-/// that isn't only zeroes. Equal bytes in a row are written once, with a star and their count.
+/// Appends a file's length, and for each sector of 512 bytes with a byte other than zero its number
+/// and its bytes. Equal neighbouring bytes are written once, with a star and their count: `41*512`.
 pub fn push_sectors(text: &mut String, bytes: &[u8]) -> Result<(), AllocError> {
     writeln!(text, "{} bytes", bytes.len())?;
     for (number, sector) in bytes.chunks(512).enumerate() {
@@ -15,7 +15,7 @@ pub fn push_sectors(text: &mut String, bytes: &[u8]) -> Result<(), AllocError> {
     Ok(())
 }
 
-// Appends the runs of equal bytes.
+// Appends the bytes as runs of equal bytes.
 fn push_runs(text: &mut String, bytes: &[u8]) -> Result<(), AllocError> {
     let mut last = None;
     let mut count: usize = 0;
@@ -31,7 +31,7 @@ fn push_runs(text: &mut String, bytes: &[u8]) -> Result<(), AllocError> {
     push_run(text, last, count)
 }
 
-// Appends a run of a byte, if there is one.
+// Appends a run of `count` bytes `byte`, if there is a byte.
 fn push_run(text: &mut String, byte: Option<u8>, count: usize) -> Result<(), AllocError> {
     let Some(byte) = byte else {
         return Ok(());
@@ -43,7 +43,8 @@ fn push_run(text: &mut String, byte: Option<u8>, count: usize) -> Result<(), All
     Ok(())
 }
 
-// The state of an escape that is being read.
+// Where the reader of an escape is: outside, after the backslash, after `\x`, or after its first
+// digit.
 #[derive(Clone, Copy)]
 enum Escape {
     None,
@@ -52,8 +53,8 @@ enum Escape {
     Digit(u8),
 }
 
-/// Returns the bytes that a text with escapes means. `\r`, `\t`, `\0`, `\n` and `\\` mean these
-/// bytes, and `\xHH` any byte. A backslash at the end of a line removes its line feed.
+/// Returns the bytes that a text with escapes means. `\r`, `\t`, `\0`, `\n` and `\\` mean what they
+/// mean in Rust, and `\xHH` is any byte. A backslash at a line's end removes the line feed.
 pub fn unescaped(alloc: Global, text: &str) -> Result<Vec<u8>, AllocError> {
     let mut bytes = Vec::new(alloc);
     let mut escape = Escape::None;
@@ -89,7 +90,7 @@ pub fn hex_byte(high: u8, low: u8) -> u8 {
     byte_of(digit(high), digit(low))
 }
 
-// Returns the byte of two hexadecimal digits, given the value of each.
+// Returns the byte of two hexadecimal digits, given the digits' values.
 fn byte_of(high: u8, low: u8) -> u8 {
     (high % 16) * 16 + low % 16
 }

@@ -1,4 +1,4 @@
-// Makes calls of a disk, with or without layers, and shows their answers.
+// Makes calls of a disk, with or without layers, and prints their results.
 use crate::bytes::{hex_byte, push_sectors};
 use bio::{DevError, Ms};
 use blockdev::{BlockDev, Message};
@@ -7,12 +7,12 @@ use refusals::Refusal;
 use sector_disk::SectorDisk;
 use std::alloc::{AllocError, Global};
 
-// The most sectors that a call may name.
+// A call may name at most this many sectors.
 const MAX_SECTORS: u64 = 4096;
 
-/// Makes the calls of these lines on a disk under layers, and appends the answer of each. `layer`
-/// lines name the layers, the lowest first. A layer is loaded at time 0 or, after `layer@<ms>`, at
-/// that time. From a line `off` on, the layers are removed, and the calls go to the disk itself.
+/// Puts layers over the disk, makes the calls of these lines, and appends their results. A line
+/// `layer <table line>` adds a layer over the earlier ones, loaded at time 0; `layer@<ms> ..` loads
+/// it at that time. After a line `off` the layers are removed, and calls go to the disk itself.
 pub fn ask_stack(
     alloc: Global,
     disk: SectorDisk,
@@ -24,8 +24,8 @@ pub fn ask_stack(
     ask_disk(alloc, &mut disk, beneath, shown)
 }
 
-/// Makes the calls of these lines on a disk without layers. `disk` shows the disk's content, and
-/// `crash <pick> ..` fails its power.
+/// Makes the calls of these lines on a disk without layers. `disk` prints the disk's content, and
+/// `crash <pick> ..` crashes it.
 pub fn ask_disk(
     alloc: Global,
     disk: &mut SectorDisk,
@@ -42,7 +42,7 @@ pub fn ask_disk(
     Ok(())
 }
 
-// Makes the calls of these lines on a disk under their layers, and returns the disk.
+// Makes the calls of these lines on a disk under the lines' layers, and returns the disk.
 fn on_layers(
     alloc: Global,
     disk: SectorDisk,
@@ -65,7 +65,7 @@ fn on_layers(
     told.map(|_| disk)
 }
 
-// Puts the layer of a line over a stack. A line without a layer puts none.
+// Puts the layer of a line over a stack. If the line names no layer, returns the stack unchanged.
 fn layered(alloc: Global, stack: Stack, line: &str) -> Result<Stack, (Stack, Refusal)> {
     let Some(rest) = line.strip_prefix("layer") else {
         return Ok(stack);
@@ -95,8 +95,8 @@ fn ask_all<D: Message + Drop>(
     Ok(())
 }
 
-// Makes the call of a line: `at <ms> <call>`, `message <layer> <text>`, `counts` for the faults and
-// the lies, or `sectors`.
+// Makes the call of a line: `at <ms> <call>`, or `message <layer> <text>`. `counts` prints the
+// counts of faults and lies, and `sectors` the sector count.
 fn ask<D: Message + Drop>(
     alloc: Global,
     device: &mut D,
@@ -113,7 +113,7 @@ fn ask<D: Message + Drop>(
     }
 }
 
-// Sends a message, and shows its answer.
+// Sends a message, and prints `ok` or its refusal.
 fn send<D: Message + Drop>(
     device: &mut D,
     words: &str,
@@ -126,7 +126,7 @@ fn send<D: Message + Drop>(
     }
 }
 
-// The sectors that a call names, its byte, which has two hexadecimal digits, and whether it is FUA.
+// The sectors and the byte of a call, and whether it has FUA. A byte has two hexadecimal digits.
 #[derive(Drop)]
 struct Range {
     first: u64,
@@ -155,8 +155,8 @@ impl Range {
     }
 }
 
-// Makes a call at a time: `write <first> <count> <byte> [fua]`, `read <first> <count>`, `discard
-// <first> <count>` or `flush`.
+// Makes a call at a time. The call is `write <first> <count> <byte> [fua]`, `read <first> <count>`,
+// `discard <first> <count>` or `flush`.
 fn ask_at<D: BlockDev + Drop>(
     alloc: Global,
     device: &mut D,
@@ -192,7 +192,8 @@ fn ask_at<D: BlockDev + Drop>(
     }
 }
 
-// Shows the time at which a read ended and the first byte of each sector, or its error.
+// Prints the time at which a read ended, with the first byte of each sector that it read, or its
+// error.
 fn tell_read(
     end: Result<Ms, DevError>,
     buffer: &[u8],
@@ -210,7 +211,7 @@ fn tell_read(
     Ok(())
 }
 
-// Shows the time at which a call ended, in milliseconds, or its error.
+// Prints the time at which a call ended, in milliseconds, or its error.
 fn tell_end(end: Result<Ms, DevError>, shown: &mut String) -> Result<(), AllocError> {
     match end {
         Ok(end) => writeln!(shown, "ends at {}", end.milliseconds()),
@@ -219,7 +220,7 @@ fn tell_end(end: Result<Ms, DevError>, shown: &mut String) -> Result<(), AllocEr
     }
 }
 
-// Shows the disk's content.
+// Prints the disk's content.
 fn show_disk(disk: &mut SectorDisk, shown: &mut String) -> Result<(), AllocError> {
     match disk.bytes() {
         Ok(bytes) => push_sectors(shown, &bytes),
@@ -227,7 +228,7 @@ fn show_disk(disk: &mut SectorDisk, shown: &mut String) -> Result<(), AllocError
     }
 }
 
-// Fails the disk's power, with the picks of these words.
+// Crashes the disk with the picks of these words.
 fn crash(alloc: Global, disk: &mut SectorDisk, words: &str) -> Result<(), AllocError> {
     let mut picks = Vec::new(alloc);
     for word in words.split(' ') {

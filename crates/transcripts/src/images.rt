@@ -5,9 +5,9 @@ use std::alloc::AllocError;
 // The largest image that a word may ask for, in bytes.
 const MAX_IMAGE: usize = 536_870_912;
 
-/// Makes an image `length` bytes long, and writes to it as the words say. `<byte>:=<hex>` or
-/// `<byte>:=<hex>*<count>` writes bytes from there on. `<byte>:<n>,<n>,..` writes numbers of eight
-/// bytes, little endian.
+/// Cuts or extends an image to `length` bytes, with zeroes, and writes to it as the words say.
+/// `<offset>:=<hex>` writes these bytes at a byte offset, and `<offset>:=<hex>*<count>` does so
+/// `count` times. `<offset>:<n>,<n>,..` writes numbers of eight bytes, the lowest byte first.
 pub fn change(image: &mut Vec<u8>, length: usize, words: &str) -> Result<(), AllocError> {
     image.truncate(length.min(MAX_IMAGE));
     image.resize(length.min(MAX_IMAGE), 0)?;
@@ -17,7 +17,7 @@ pub fn change(image: &mut Vec<u8>, length: usize, words: &str) -> Result<(), All
     Ok(())
 }
 
-// Writes to an image as one word says.
+// Writes to an image what one word says.
 fn put_word(image: &mut [u8], word: &str) {
     let Some((place, what)) = word.split_once(':') else {
         return;
@@ -29,7 +29,7 @@ fn put_word(image: &mut [u8], word: &str) {
     }
 }
 
-// Writes bytes to an image, as often as the text says.
+// Writes the bytes of `<hex>` or `<hex>*<count>` to an image, from offset `place` on.
 fn put_hex(image: &mut [u8], place: usize, text: &str) {
     let (hex, count) = text.split_once('*').unwrap_or((text, "1"));
     let count = count.parse::<usize>().unwrap_or(0);
@@ -49,7 +49,7 @@ fn put_hex(image: &mut [u8], place: usize, text: &str) {
     }
 }
 
-// Returns the byte that two hexadecimal digits mean.
+// Returns byte number `at` of a text of hexadecimal digits, or 0 past its end.
 fn hex_at(digits: &[u8], at: usize) -> u8 {
     match digits.get(at.saturating_mul(2)..) {
         Some([high, low, ..]) => hex_byte(*high, *low),
@@ -57,7 +57,7 @@ fn hex_at(digits: &[u8], at: usize) -> u8 {
     }
 }
 
-// Writes numbers to an image, one after another.
+// Writes numbers of eight bytes to an image, one after another, from offset `place` on.
 fn put_numbers(image: &mut [u8], place: usize, text: &str) {
     let Some(image) = image.get_mut(place..) else {
         return;

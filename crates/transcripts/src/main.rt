@@ -1,14 +1,16 @@
 //! Runs transcripts and series of commands over files in memory, and compares their output with the
 //! expected output.
 //!
-//! A transcript is a text. A line at the margin is prose. `  $ ` begins a command, and `  > `
-//! begins a line that is given to it. Other lines that are indented by two spaces are its expected
-//! output.
+//! A transcript is a text. A line that isn't indented is prose. A line `  $ COMMAND` begins a
+//! command (`scene` lists them), and lines `  > TEXT` are its input. Other lines that two spaces
+//! indent are its expected output.
 //!
-//! Each argument that ends in `.t` names a transcript. The program prints each command whose output
-//! differs, with its output now, then a line for each transcript, and one for all. If the first
-//! argument is `again`, it prints each transcript with its output now. `scene` has the commands.
-//! Each other argument names a series (`series`), whose lines are printed last.
+//! Each argument that ends in `.t` names a transcript. For each, the program prints the commands
+//! whose output differs, with the actual output, and then a line with counts. A last line has the
+//! counts of all. If the first argument is `again`, it prints each whole transcript with the actual
+//! outputs.
+//!
+//! Each other argument names a series (`series`). The lines of the series are printed last.
 #![tactic(auto)]
 
 mod bytes;
@@ -54,16 +56,16 @@ fn main(rt: HostRuntime) -> io::Result<ExitCode> {
     Ok(ExitCode::from(u8::from(!is_good)))
 }
 
-// Returns the text of the transcript `name`, which may have 4 MiB. Returns an empty text if it
-// can't be read.
+// Returns the text of the transcript `name`, of at most 4 MiB. Returns an empty text if it can't be
+// read.
 fn transcript_of<R: std::rt::Files + AllocGlobal>(rt: &R, name: &str) -> io::Result<String> {
     let mut files = HostFiles::new(rt, rt.alloc());
     let text = read_text(rt.alloc(), name, &mut files).unwrap_or(Vec::new(rt.alloc()));
     Ok(String::from_utf8(text).unwrap_or(String::new(rt.alloc())))
 }
 
-// Returns what is printed for a transcript: with `is_again` the whole transcript with its output
-// now, else the commands that differ, and a line.
+// Runs a transcript, and returns what is printed for it. If `is_again`, that is the whole
+// transcript with its actual outputs; otherwise the commands that differ, and a line with counts.
 fn run<R: AllocGlobal + Threads + Wait + Sync>(
     rt: &R,
     name: &str,
@@ -75,7 +77,7 @@ fn run<R: AllocGlobal + Threads + Wait + Sync>(
     run_in(rt, name, text, is_again, &mut scene, all)
 }
 
-// As above, in a folder.
+// Runs a transcript as `run` does, with the files of `scene`.
 fn run_in<R: AllocGlobal + Threads + Wait + Sync>(
     rt: &R,
     name: &str,

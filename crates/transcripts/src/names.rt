@@ -6,10 +6,10 @@ use sector_disk::{Image, SectorDisk};
 use std::alloc::Global;
 use test_devices::Folder;
 
-/// The files of a folder, in which `./NAME` is another name of the file NAME.
+/// The files of `folder`. `./NAME` is another name of the file `NAME`.
 #[derive(Drop)]
 pub struct Here<'a> {
-    /// The folder.
+    /// The files, by the name without `./`.
     pub folder: &'a mut Folder,
 }
 
@@ -37,7 +37,7 @@ impl Files for Here<'_> {
     }
 }
 
-// Returns the name that a file has in the folder.
+// Returns the file's name without a leading `./`.
 fn plain(name: &str) -> &str {
     name.strip_prefix("./").unwrap_or(name)
 }

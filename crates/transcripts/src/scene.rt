@@ -1,4 +1,4 @@
-// The commands of a transcript.
+// The commands that a transcript may have.
 use crate::bytes::{push_sectors, unescaped};
 use crate::calls::{ask_disk, ask_stack};
 use crate::images::change;
@@ -15,7 +15,7 @@ use std::sync::Wait;
 use std::thread::Threads;
 use test_devices::{Folder, Outlet};
 
-// The number of sectors of the largest disk.
+// A disk may have at most this many sectors.
 const MAX_SECTORS: u64 = 1_048_576;
 
 /// A folder of files, and the output of the last command. `rt` starts threads and waits for them.
@@ -43,8 +43,7 @@ impl<'a, H: Threads + Wait + Sync> Scene<'a, H> {
         self.shown.as_str()
     }
 
-    /// Runs a command, with the lines that are given to it. The output for an unknown command says
-    /// so.
+    /// Runs a command with its input `given`. An unknown command prints that it is unknown.
     pub fn run(&mut self, command: &str, given: &str) -> Result<(), AllocError> {
         self.shown.clear();
         let (verb, rest) = command.split_once(' ').unwrap_or((command, ""));
@@ -67,13 +66,13 @@ impl<'a, H: Threads + Wait + Sync> Scene<'a, H> {
         }
     }
 
-    // `write NAME` and `escaped NAME`: makes a file of the given lines.
+    // `write NAME` and `escaped NAME`: makes a file of the input.
     fn put(&mut self, name: &str, bytes: Vec<u8>) -> Result<(), AllocError> {
         self.folder.put(self.alloc, name, bytes)
     }
 
-    // `more NAME COUNT`: appends the given lines `COUNT` times, with the number of each repetition
-    // in place of each `%`.
+    // `more NAME COUNT`: appends the input `COUNT` times to the file. Each `%` becomes the
+    // repetition's number.
     fn more(&mut self, words: &str, given: &str) -> Result<(), AllocError> {
         let (name, count) = words.split_once(' ').unwrap_or((words, "1"));
         let mut bytes = self.taken(name)?;
@@ -83,7 +82,8 @@ impl<'a, H: Threads + Wait + Sync> Scene<'a, H> {
         self.folder.put(self.alloc, name, bytes)
     }
 
-    // `image NAME LENGTH ..`: changes an image, or makes a new one of zeroes.
+    // `image NAME LENGTH ..`: changes an image, or makes one of zeroes and changes that; `images`
+    // explains the words.
     fn image(&mut self, words: &str) -> Result<(), AllocError> {
         let (name, words) = words.split_once(' ').unwrap_or((words, ""));
         let (length, words) = words.split_once(' ').unwrap_or((words, ""));
@@ -92,20 +92,20 @@ impl<'a, H: Threads + Wait + Sync> Scene<'a, H> {
         self.folder.put(self.alloc, name, bytes)
     }
 
-    // `copy FROM TO`.
+    // `copy FROM TO`: copies the file `FROM` to `TO`.
     fn copy(&mut self, words: &str) -> Result<(), AllocError> {
         let (from, to) = words.split_once(' ').unwrap_or((words, words));
         let bytes = self.taken(from)?;
         self.folder.put(self.alloc, to, bytes)
     }
 
-    // `remove NAME`.
+    // `remove NAME`: removes the file.
     fn remove(&mut self, name: &str) -> Result<(), AllocError> {
         self.folder.remove(name);
         Ok(())
     }
 
-    // `show NAME`: shows a file's content, by its sectors that aren't zeroes.
+    // `show NAME`: prints the sectors of a file that aren't zeroes.
     fn show(&mut self, name: &str) -> Result<(), AllocError> {
         match self.folder.bytes(name) {
             Some(bytes) => push_sectors(&mut self.shown, bytes),
@@ -113,7 +113,7 @@ impl<'a, H: Threads + Wait + Sync> Scene<'a, H> {
         }
     }
 
-    // `same ONE OTHER`: shows whether two files have the same content.
+    // `same ONE OTHER`: prints whether two files have the same content.
     fn same(&mut self, words: &str) -> Result<(), AllocError> {
         let (one, other) = words.split_once(' ').unwrap_or((words, words));
         let is_same = self.folder.bytes(one) == self.folder.bytes(other);
@@ -122,7 +122,7 @@ impl<'a, H: Threads + Wait + Sync> Scene<'a, H> {
         Ok(())
     }
 
-    // `print NAME`: shows the canonical text of a script of `record`, or its fault.
+    // `print NAME`: prints the canonical text of a script for `record`, or its fault.
     fn print(&mut self, name: &str) -> Result<(), AllocError> {
         let text = self.taken(name)?;
         match read_script(self.alloc, &text) {
@@ -131,7 +131,7 @@ impl<'a, H: Threads + Wait + Sync> Scene<'a, H> {
         }
     }
 
-    // `print-run NAME`: as above, for a script of `run`.
+    // `print-run NAME`: prints the canonical text of a script for `run`, or its fault.
     fn print_run(&mut self, name: &str) -> Result<(), AllocError> {
         let text = self.taken(name)?;
         match read_run_script(self.alloc, &text) {
@@ -140,7 +140,7 @@ impl<'a, H: Threads + Wait + Sync> Scene<'a, H> {
         }
     }
 
-    // `table LINE`: shows the canonical text of a table line, or its refusal.
+    // `table LINE`: prints the canonical text of a table line, or its refusal.
     fn table(&mut self, line: &str) -> Result<(), AllocError> {
         match parse_line(line.as_bytes()) {
             Ok(spec) => {
@@ -156,8 +156,8 @@ impl<'a, H: Threads + Wait + Sync> Scene<'a, H> {
         }
     }
 
-    // `stack SECTORS` or `stack NAME`: makes a disk under layers. It has `SECTORS` sectors of
-    // zeroes, or holds a file's bytes.
+    // `stack SECTORS` or `stack NAME`: makes calls of a disk under layers (`ask_stack`). The disk
+    // has `SECTORS` sectors of zeroes, or the bytes of the file `NAME`.
     fn stack(&mut self, what: &str, given: &str) -> Result<(), AllocError> {
         match self.disk_of(what) {
             Some(disk) => ask_stack(self.alloc, disk, given, &mut self.shown),
@@ -165,7 +165,7 @@ impl<'a, H: Threads + Wait + Sync> Scene<'a, H> {
         }
     }
 
-    // `disk SECTORS` or `disk NAME`: as above, without layers.
+    // `disk SECTORS` or `disk NAME`: makes calls of such a disk without layers (`ask_disk`).
     fn disk(&mut self, what: &str, given: &str) -> Result<(), AllocError> {
         match self.disk_of(what) {
             Some(disk) => {
@@ -193,8 +193,9 @@ impl<'a, H: Threads + Wait + Sync> Scene<'a, H> {
         SectorDisk::from_bytes(self.alloc, bytes).ok()
     }
 
-    // Runs a command line of dmlw. It may follow a word: the name of an output that fails, `deaf`
-    // if the faults' stream can't be flushed, or `quiet` if nothing is shown.
+    // `dmlw ..` runs a command line of dmlw. `deaf dmlw ..` runs it with a standard error that
+    // can't be flushed, and `quiet dmlw ..` prints nothing. `full:5 dmlw ..` and such run it with a
+    // standard output that fails (`Outlet::named`).
     fn dmlw(&mut self, verb: &str, command: &str, rest: &str) -> Result<(), AllocError> {
         match verb {
             "dmlw" => self.execute(Outlet::open(self.alloc), Outlet::open(self.alloc), command),
@@ -211,13 +212,13 @@ impl<'a, H: Threads + Wait + Sync> Scene<'a, H> {
         }
     }
 
-    // Executes a command line, and shows what it prints.
+    // Runs a command line of dmlw with these outputs, and prints what it wrote and how it ended.
     fn execute(&mut self, out: Outlet, err: Outlet, line: &str) -> Result<(), AllocError> {
         let (mut out, mut err) = (out, err);
         self.execute_on(&mut out, &mut err, line)
     }
 
-    // As above, on outputs that the caller keeps.
+    // Runs a command line as `execute` does, but borrows the outputs.
     fn execute_on(
         &mut self,
         out: &mut Outlet,
@@ -236,9 +237,9 @@ impl<'a, H: Threads + Wait + Sync> Scene<'a, H> {
         )
     }
 
-    // `narrow dmlw ..`: executes a command line for each room from no byte up to one byte less than
-    // its whole output, on an output with that room. It shows the number of these outputs. It also
-    // shows, once each, the faults that were reported after a prefix of the output was printed.
+    // `narrow dmlw ..`: runs a command line once for each proper prefix of its whole output, with a
+    // standard output that takes only this many bytes. Each run must print the prefix. Then this
+    // prints how many runs there were, and each fault that a run reported, once.
     fn narrow(&mut self, line: &str, whole: &str) -> Result<(), AllocError> {
         let mut seen = String::new(self.alloc);
         for room in 0..whole.len() {
@@ -261,7 +262,7 @@ impl<'a, H: Threads + Wait + Sync> Scene<'a, H> {
     }
 }
 
-// Notes the fault that was reported when an output was too narrow, if it isn't noted yet.
+// Notes the fault that a run with a narrow output reported, unless it is noted already.
 fn note_refusal(seen: &mut String, shown: &str, is_beginning: bool) -> Result<(), AllocError> {
     let told = match shown.split_once("! ") {
         Some((_, told)) => told,
@@ -277,7 +278,7 @@ fn note_refusal(seen: &mut String, shown: &str, is_beginning: bool) -> Result<()
     Ok(())
 }
 
-// Executes a command line with the caller's files and outputs. `./NAME` is another name of a file.
+// Runs a command line on a folder and two outputs. `./NAME` is another name of the file `NAME`.
 fn execute_over<H: Threads + Wait + Sync>(
     rt: &H,
     alloc: Global,
@@ -296,7 +297,7 @@ fn execute_over<H: Threads + Wait + Sync>(
     execute(rt, words, &mut session)
 }
 
-// Returns the words of a command line, separated by spaces.
+// Returns the words of a command line, split at each space.
 fn words_of<'a>(alloc: Global, line: &'a str) -> Result<Vec<&'a str>, AllocError> {
     let mut words = Vec::new(alloc);
     for word in line.split(' ') {
@@ -305,7 +306,7 @@ fn words_of<'a>(alloc: Global, line: &'a str) -> Result<Vec<&'a str>, AllocError
     Ok(words)
 }
 
-// Appends lines with a number in place of each `%`.
+// Appends lines in which `number` replaces each `%`.
 fn push_numbered(
     alloc: Global,
     bytes: &mut Vec<u8>,
@@ -323,7 +324,7 @@ fn push_numbered(
     Ok(())
 }
 
-// Appends what a command printed: its output, and each line of its faults after `! `.
+// Appends the output of a command, and then each line of its standard error after `! `.
 fn push_told(shown: &mut String, out: &[u8], err: &[u8]) -> Result<(), AllocError> {
     push_text(shown, out)?;
     let faults = str::from_utf8(err).unwrap_or("no text\n");
@@ -339,7 +340,8 @@ fn push_told(shown: &mut String, out: &[u8], err: &[u8]) -> Result<(), AllocErro
     end_line(shown, faults)
 }
 
-// Appends how a command ended, unless it ended with status 0 and printed and flushed everything.
+// Appends a line if an output wasn't flushed, and a line if a part of the error output was lost.
+// Then appends the status, unless it is 0.
 fn push_ending(
     shown: &mut String,
     status: u8,
@@ -359,7 +361,7 @@ fn push_ending(
 }
 
 // Appends a text, with `\r` for each carriage return. If the text doesn't end with a line feed,
-// appends words that mark this.
+// appends a line that says so.
 fn push_text(shown: &mut String, bytes: &[u8]) -> Result<(), AllocError> {
     let text = str::from_utf8(bytes).unwrap_or("no text\n");
     if text.is_empty() {
@@ -375,7 +377,7 @@ fn push_text(shown: &mut String, bytes: &[u8]) -> Result<(), AllocError> {
     end_line(shown, text)
 }
 
-// Appends a remark if a text doesn't end with a line feed.
+// Appends a line that says so if `text` doesn't end with a line feed.
 fn end_line(shown: &mut String, text: &str) -> Result<(), AllocError> {
     if !text.ends_with('\n') {
         shown.push_str("(no line feed)\n")?;

@@ -1,4 +1,4 @@
-//! Series of commands over files in memory. Each result is compared with one that was computed
+//! Series of commands over files in memory. Each output is compared with one that was computed
 //! separately.
 //!
 //! A series goes through all cases of its kind, and prints a line with its counts. For each case

@@ -1,7 +1,7 @@
 // Counts how many commands ran, and how many of them differed.
 use std::fmt;
 
-/// Counts of commands.
+/// How many commands ran, and how many of them printed another output than expected.
 #[derive(Drop)]
 pub struct Tally {
     commands: u64,
@@ -31,7 +31,7 @@ impl Tally {
         self.differ = self.differ.saturating_add(other.differ);
     }
 
-    /// Returns whether all commands were as expected.
+    /// Returns whether no command differed.
     pub fn is_good(&self) -> bool {
         self.differ == 0
     }

@@ -5,7 +5,7 @@ use std::alloc::{AllocError, Global};
 use std::sync::Wait;
 use std::thread::Threads;
 
-// A command with the lines that are given to it, and its expected output.
+// A command with its input, and its expected output.
 #[derive(Drop)]
 struct Step {
     command: String,
@@ -22,13 +22,13 @@ impl Step {
         }
     }
 
-    // Starts another command.
+    // Begins a command.
     fn begin(&mut self, command: &str) -> Result<(), AllocError> {
         self.command.push_str(command)?;
         Ok(())
     }
 
-    // Clears the command, its given lines and its expected output.
+    // Clears the command, its input and its expected output.
     fn clear(&mut self) {
         self.command.clear();
         self.given.clear();
@@ -36,16 +36,16 @@ impl Step {
     }
 }
 
-// The text to print for a transcript, and whether it is the whole transcript.
+// What is printed for a transcript, and whether that is the whole transcript.
 #[derive(Drop)]
 struct Report {
     text: String,
     is_again: bool,
 }
 
-/// Runs a transcript's commands one after another, and returns what is printed for it: with
-/// `is_again` the whole transcript with each command's output now, else the commands whose output
-/// differs.
+/// Runs a transcript's commands in order, and returns what is printed for it. If `is_again`, that
+/// is the whole transcript with each command's actual output; otherwise only the commands that
+/// differ.
 pub fn run<H: Threads + Wait + Sync>(
     alloc: Global,
     text: &str,
@@ -61,7 +61,7 @@ pub fn run<H: Threads + Wait + Sync>(
     Ok(report.text)
 }
 
-// Runs a transcript's commands from its first line on.
+// Runs the commands of a transcript from its first line to its last.
 fn run_steps<H: Threads + Wait + Sync>(
     alloc: Global,
     text: &str,
@@ -73,7 +73,7 @@ fn run_steps<H: Threads + Wait + Sync>(
     go_through(text, &mut step, report, scene, tally)
 }
 
-// Takes each line of a transcript.
+// Goes through the lines of a transcript.
 fn go_through<H: Threads + Wait + Sync>(
     text: &str,
     step: &mut Step,
@@ -88,7 +88,7 @@ fn go_through<H: Threads + Wait + Sync>(
     end_step(step, report, scene, tally)
 }
 
-// Takes one line of a transcript.
+// Takes one line: a command, its input, its expected output, or prose.
 fn take_line<H: Threads + Wait + Sync>(
     line: &str,
     step: &mut Step,
@@ -112,7 +112,7 @@ fn take_line<H: Threads + Wait + Sync>(
     copy_line(line, report)
 }
 
-// Runs the command whose lines were all taken, if there is one, and notes its output.
+// Runs the last command now that all its lines were taken, and notes its output.
 fn end_step<H: Threads + Wait + Sync>(
     step: &mut Step,
     report: &mut Report,
@@ -134,14 +134,14 @@ fn end_step<H: Threads + Wait + Sync>(
     Ok(())
 }
 
-// Notes a command whose output differs, with its output.
+// Appends a command whose output differs, with its actual output.
 fn tell_difference(text: &mut String, command: &str, shown: &str) -> Result<(), AllocError> {
     text.push_str("  $ ")?;
     push_line(text, command)?;
     push_indented(text, shown)
 }
 
-// Copies a line of the transcript, if the whole transcript is printed.
+// Appends a line of the transcript if the whole transcript is printed.
 fn copy_line(line: &str, report: &mut Report) -> Result<(), AllocError> {
     if report.is_again {
         push_line(&mut report.text, line)?;
@@ -155,7 +155,7 @@ fn push_line(text: &mut String, line: &str) -> Result<(), AllocError> {
     Ok(())
 }
 
-// Appends lines, each indented.
+// Appends lines, each with two spaces before it.
 fn push_indented(text: &mut String, lines: &str) -> Result<(), AllocError> {
     let lines = match lines.strip_suffix("\n") {
         Some(lines) => lines,

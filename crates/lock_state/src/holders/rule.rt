@@ -1,11 +1,12 @@
-// The rule for the passes of a keeper and its holders, and the steps that they take under it.
+// The rule that the passes of a keeper and its holders keep, and the steps that they take under
+// this rule.
 
 use atomic_table::{Join, Play, Split, Table, TableRule};
 use std::alloc::Global;
 use std::collections::LinkedList;
 
-// What a pass knows. A keeper knows what all holders hold, a holder knows its number and what it
-// holds. No value of this type is made.
+// What a pass knows. A keeper's pass knows what each holder holds. A holder's pass knows its own
+// number and what it holds. No value of this type is made.
 pub struct Knows {
     pub keeps: bool,
     pub all: LinkedList<Option<u64>>,
@@ -14,7 +15,7 @@ pub struct Knows {
     pub held: Option<u64>,
 }
 
-// The keeper knows what each holder holds.
+// The rule: the keeper knows what each holder holds.
 pub struct Law;
 
 impl TableRule<(), Knows, ()> for Law {
@@ -26,10 +27,11 @@ impl TableRule<(), Knows, ()> for Law {
     ghost first = { λ _. keeper_of [] };
 }
 
-// Its one word is the number that was begun last; nothing is read from it.
+// The table of a keeper and its holders. It has one word, the number that was begun last, which
+// nobody reads.
 pub type Board = Table<(), Knows, (), Law, Global>;
 
-// The keeper gets one more holder.
+// The step in which the keeper gets one more holder.
 pub struct Enrol;
 
 impl Play<(), Knows> for Enrol {
@@ -38,7 +40,7 @@ impl Play<(), Knows> for Enrol {
     ghost then = { Enrols };
 }
 
-// A holder takes a number.
+// The step in which a holder begins to hold a number.
 pub struct Begin;
 
 impl Play<(), Knows> for Begin {
@@ -47,7 +49,7 @@ impl Play<(), Knows> for Begin {
     ghost then = { Begins };
 }
 
-// A holder gives up its number.
+// The step in which a holder stops holding a number.
 pub struct Finish;
 
 impl Play<(), Knows> for Finish {
@@ -56,7 +58,7 @@ impl Play<(), Knows> for Finish {
     ghost then = { Finishes };
 }
 
-// A keeper and a holder compare what they know.
+// The step that compares what a keeper and a holder know.
 pub struct Compare;
 
 impl Play<(), Knows> for Compare {

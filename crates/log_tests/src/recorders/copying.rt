@@ -1,4 +1,4 @@
-// Tests of copies of logs into logs with sectors of 4,096 bytes.
+// Tests of copies into logs with sectors of 4,096 bytes.
 ghost use Rattle.std.specs.Prelude.{IfOk, IsTrue};
 ghost use Rattle.bio.specs.Requests.{is_tracked};
 ghost use Rattle.bio.specs.Sizes.{bytes_of};
@@ -17,13 +17,13 @@ use std::process::Abort;
 use std::test::Fail;
 use test_devices::{Failing, rows_are_told};
 
-// Copies, a line each: two numbers, and the entries of the old log. The first number is the sector
-// count of the new log's disk. The second is the number of writes and flushes that pass before the
-// device fails; the first of them creates the log. The old log has sectors of 512 bytes. `w` writes
-// sectors 8 to 15, `u` the same with FUA, `p` sectors 4 to 11, and `l` sectors 8 to 11. `d`
-// discards sectors 16 to 31, `f` flushes, and `m` is a mark. After `=` are the answer, the new
-// log's status, and the entries that are left by a crash that keeps only what is settled. Each
-// entry is shown by its first sector, length, flags and first byte.
+// Rows `sectors calls entries=answer;status;copy`: copies of a log with sectors of 512 bytes. The
+// new log's disk has `sectors` sectors. Its device passes `calls` writes and flushes, the first of
+// which creates the log. `entries` has a letter for each entry of the old log. `w` writes sectors 8
+// to 15, `u` does so with FUA, `p` writes sectors 4 to 11, and `l` sectors 8 to 11. `d` discards
+// sectors 16 to 31, `f` flushes, and `m` is the end mark. `answer` is the number of copied entries
+// or the refusal, and `status` the new log's status. `copy` has the new log's entries after a crash
+// that leaves only what is settled: first sector, length, flags and first byte.
 const COPIES: &str = "64 99 =0;0 0;
 64 99 wm=2;2 31;1+1 0 65;0+0 8 100;
 72 99 wudfm=5;5 63;1+1 0 65;1+1 2 65;2+2 4 0;0+0 1 0;0+0 8 100;
@@ -37,14 +37,15 @@ const COPIES: &str = "64 99 =0;0 0;
 64 6 wm=19 Device after 2;2 31 logging_disabled;1+1 0 65;0+0 8 100;
 64 8 wm=2;2 31;1+1 0 65;0+0 8 100;";
 
-// Copies of logs with sectors of 4,096 bytes, from a device that fails after a number of reads. The
-// super block is read, and for each entry its header and a write's data.
+// Rows `reads entries=answer;status;copy`: copies of a log with sectors of 4,096 bytes, on a device
+// that passes only `reads` reads. Each copy reads the super block, and for each entry its header
+// and a write's data.
 const READS: &str = "99 wdum=4;4 55;1+1 0 65;2+2 4 0;1+1 2 65;0+0 8 100;
 1 wm=1 Io after 0;0 0;
 2 um=1 Io after 0;0 0;
 3 um=1 Io after 1;1 23;1+1 2 65;";
 
-// Returns the request that a letter names; any other letter is a flush.
+// Returns the request that a letter of these rows names; any other letter is a flush.
 fn request(alloc: Global, kind: u8) -> Result<Bio, AllocError>
     ensures { IfOk result (λ bio. IsTrue (is_tracked bio)) }
 {
@@ -69,7 +70,7 @@ fn request(alloc: Global, kind: u8) -> Result<Bio, AllocError>
     })
 }
 
-// Returns the entry that a letter names, in a log with sectors of size `size`.
+// Returns the entry that a letter of these rows names, in a log with sectors of size `size`.
 fn entry(rt: &impl Abort, alloc: Global, size: SectorSize, kind: u8) -> Result<Entry, Fail>
     ensures { IfOk result (λ entry. IsTrue (is_readable (bytes_of size) entry)) }
 {
@@ -83,7 +84,7 @@ fn entry(rt: &impl Abort, alloc: Global, size: SectorSize, kind: u8) -> Result<E
     Ok(Entry::of_request(alloc, &bio, size.bytes())?)
 }
 
-// Returns a store over a device.
+// Returns a store with a new log on a device.
 fn store_over<D: BlockDev + Drop>(rt: &impl Abort, device: D, size: SectorSize) -> LogStore<D> {
     assert!(rt; device.sectors() >= size.sectors());
     LogStore::create_sized(device, size)
@@ -91,7 +92,7 @@ fn store_over<D: BlockDev + Drop>(rt: &impl Abort, device: D, size: SectorSize) 
         .expect(rt, "a first write passes")
 }
 
-// Returns a disk that has the log of these entries.
+// Returns a disk with a settled log of these entries.
 fn log_of(
     rt: &impl Abort,
     alloc: Global,
@@ -110,7 +111,7 @@ fn log_of(
     Ok(store.into_device())
 }
 
-// Returns the entries of the log that a crash leaves.
+// Crashes the disk so that only durable values are left, and returns the entries of its log.
 fn left(rt: &impl Abort, alloc: Global, disk: SectorDisk) -> Result<String, Fail> {
     let mut disk = disk;
     disk.crash(&[0; 128]);
@@ -134,7 +135,7 @@ fn left(rt: &impl Abort, alloc: Global, disk: SectorDisk) -> Result<String, Fail
     Ok(list)
 }
 
-// Copies the log of a device to a new log. Returns the result as text.
+// Copies the log on `device` to a new log on `target`. Returns `answer;status;copy`.
 fn copied<A: BlockDev + Drop>(
     rt: &impl Abort,
     alloc: Global,
@@ -159,8 +160,7 @@ fn number(word: Option<&str>) -> u64 {
     word.unwrap_or_default().parse::<u64>().unwrap_or(0)
 }
 
-// Returns the result of a copy. The row has the sector count of the new disk, the number of calls
-// that its device passes, and the log's entries.
+// Makes the copy of a row of `COPIES`, and returns its result.
 fn copy_told(rt: &impl Abort, alloc: Global, row: &str) -> Result<String, Fail> {
     let mut words = row.split(' ');
     let disk = SectorDisk::new(alloc, number(words.next()).clamp(8, 8192))?;
@@ -181,8 +181,7 @@ fn logs_are_copied(rt: HostRuntime) -> Result<(), Fail> {
     Ok(())
 }
 
-// Returns the result of a copy from a device that fails. The row has the number of reads that pass,
-// and the log's entries.
+// Makes the copy of a row of `READS`, and returns its result.
 fn reads_told(rt: &impl Abort, alloc: Global, row: &str) -> Result<String, Fail> {
     let (reads, kinds) = row.split_once(' ').unwrap_or_default();
     let log = log_of(rt, alloc, SectorSize::B4096, kinds)?;

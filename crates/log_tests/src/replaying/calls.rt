@@ -1,4 +1,4 @@
-//! Tests of the calls that a replay makes.
+//! Tests of which calls a replay makes.
 use super::{disk_of, image_of, number_of, upto_of};
 use log_reader::LogReader;
 use refusals::Refusal;
@@ -10,14 +10,15 @@ use std::process::Abort;
 use std::test::Fail;
 use test_devices::{Failing, Watched, holds, is_told};
 
-// A replay's log and its target, each on a device that notes its calls.
+// A replay's log and its target, each on a device that notes its calls and may fail them.
 #[derive(Drop)]
 struct Pair {
     log: LogReader<Watched<Failing<SectorDisk>>>,
     target: Watched<Failing<SectorDisk>>,
 }
 
-// Returns the log of an image, and a target of zeroes. Each device passes a given number of calls.
+// Returns the log of an image, whose device passes `log_passes` calls. Its target has `sectors`
+// sectors of zeroes, and passes `passes` calls.
 fn pair_of(
     rt: &impl Abort,
     alloc: Global,
@@ -37,7 +38,7 @@ fn pair_of(
     })
 }
 
-// Replays a log, and returns its answer and the calls of its target.
+// Replays the log up to `upto`. Returns the answer, and the calls of the target.
 fn step(alloc: Global, pair: &mut Pair, upto: &Upto) -> Result<String, AllocError> {
     let mut text = match replay(&mut pair.log, &mut pair.target, upto) {
         Ok(count) => format!(in alloc; "{count}:")?,
@@ -50,30 +51,31 @@ fn step(alloc: Global, pair: &mut Pair, upto: &Upto) -> Result<String, AllocErro
     Ok(text)
 }
 
-// Writes with no flag, with FUA, with FLUSH and FUA, and of no sectors; a flush; discards of three
-// sectors and of none; a mark; a write with META.
+// The parts of a log: writes with no flag, with FUA, with FLUSH and FUA, and without sectors; a
+// flush; discards of three sectors and of none; a mark; a write with META.
 const CALLS: &str =
     "8 1 9 512 0 512 5 1 0 0 1536 6 2 2 0 3072 8 1 3 0 4096 0 0 0 0 4608 0 0 1 0 5120 9 3 4 0 5632 0 0 4 0 6144 0 0 8 0 6656 1 1 16 0";
 
-// Sectors of 4,096 bytes: a write, a discard, and a mark.
+// A log with sectors of 4,096 bytes: a write, a discard, and a mark.
 const LARGEST: &str = "8 1 3 4096 0 4096 1 1 2 0 12288 0 1 4 0 16384 0 0 8 0";
 
-// A write of 8,192 sectors, and a discard of 131,072.
+// A log with a write of 8,192 sectors.
 const LONG: &str = "8 1 1 512 0 512 3 8192 0 0";
 
+// A log with a discard of 131,072 sectors.
 const WIDE: &str = "8 1 1 512 0 512 1 131072 4 0";
 
-// Marks: `ab`, `a`, of no text, of the bytes 0 and 255, `a` again, and of 480 zero bytes.
+// A log of marks: `ab`, `a`, the empty text, the bytes 0 and 255, `a` again, and 480 zero bytes.
 const MARKS: &str =
     "8 1 6 512 0 512 0 0 8 2 544 25185 0 0 0 1024 0 0 8 1 1056 97 0 0 0 1536 0 0 8 0 2048 0 0 8 2 2080 65280 0 0 0 2560 0 0 8 1 2592 97 0 0 0 3072 0 0 8 480";
 
-// A mark with FLUSH, a write with FLUSH, and a flush.
+// A log with a mark with FLUSH, a write with FLUSH, and a flush.
 const FLUSHES: &str = "8 1 3 512 0 512 0 0 9 0 1024 2 1 1 0 2048 0 0 1 0";
 
-// One entry is counted; a write, a flush and a mark follow it.
+// A log that counts one entry; a write, a flush and a mark follow it.
 const STALE: &str = "8 1 1 512 0 512 5 1 0 0 1536 6 1 0 0 2560 0 0 1 0 3072 0 0 8 0";
 
-// The second entry can't be read.
+// A log whose second entry can't be read.
 const DAMAGED: &str = "8 1 2 512 0 512 5 1 0 0 1536 0 9223372036854775808 0 0";
 
 // Returns the image of this name.
@@ -90,8 +92,9 @@ fn image_named(alloc: Global, name: &str) -> Result<Vec<u8>, AllocError> {
     }
 }
 
-// Returns the pair of a row. It has the name of an image, the number of calls that its device
-// passes, the sector count of the target, and the number of calls that the target passes.
+// Returns the log and the target of a row `log passes sectors passes`: the image's name, how many
+// calls the log's device passes, the target's sectors, and how many calls it passes. `-` means all
+// calls.
 fn pair_in(rt: &impl Abort, alloc: Global, row: &str) -> Result<Pair, Fail> {
     let mut words = row.split(' ');
     let image = image_named(alloc, words.next().unwrap_or_default())?;
@@ -107,7 +110,7 @@ fn pair_in(rt: &impl Abort, alloc: Global, row: &str) -> Result<Pair, Fail> {
     )
 }
 
-// Makes the replays of a row, one after another, and checks the result of each.
+// Makes the replays `end=result`, which are separated by `;`, and checks each result.
 fn assert_steps(
     rt: &(impl Abort + Print),
     alloc: Global,
@@ -123,7 +126,8 @@ fn assert_steps(
     Ok(())
 }
 
-// Makes the replays of each row on its pair. Each call of the log's device is at time 0.
+// Makes the replays of each row `log passes sectors passes;end=result;..`. Checks that each call of
+// the log's device is at time 0.
 fn assert_replays(rt: &(impl Abort + Print), alloc: Global, rows: &str) -> Result<(), Fail> {
     for row in rows.lines() {
         let (made, replays) = row.split_once(';').unwrap_or_default();
@@ -135,7 +139,7 @@ fn assert_replays(rt: &(impl Abort + Print), alloc: Global, rows: &str) -> Resul
     Ok(())
 }
 
-// Each entry with sectors is one call, at time 0 and without FUA, and the others are none.
+// Each entry with sectors makes one call, at time 0 and without FUA. Other entries make none.
 #[test]
 fn each_entry_is_one_call(rt: HostRuntime) -> Result<(), Fail> {
     assert_replays(
@@ -152,7 +156,7 @@ wide - 131072 -;1=27 PastTarget after 0:",
     )
 }
 
-// Appends an entry to the log of thousands, and the expected call.
+// Appends an entry to the text of a long log, and its call to the expected calls.
 fn push_discard(
     alloc: Global,
     number: u64,
@@ -166,15 +170,15 @@ fn push_discard(
     Ok(())
 }
 
-// Returns the result of a replay, up to the first flush, of a log with this text.
+// Replays a long log up to its first flush, and returns the result.
 fn long_text(rt: &impl Abort, alloc: Global, text: &str) -> Result<String, Fail> {
     let image = image_of(alloc, text, 15_361_024)?;
     let mut pair = pair_of(rt, alloc, image, u64::MAX, 16, u64::MAX)?;
     Ok(step(alloc, &mut pair, &Upto::Flush)?)
 }
 
-// Each of thousands of discards is one call, in their order. If the time of a step grew with its
-// number, the test wouldn't end in time.
+// Thousands of discards make one call each, in their order. If later steps took longer, the test
+// wouldn't end in time.
 #[test]
 fn thousands_of_entries_are_replayed(rt: HostRuntime) -> Result<(), Fail> {
     let alloc = rt.alloc();
@@ -189,7 +193,7 @@ fn thousands_of_entries_are_replayed(rt: HostRuntime) -> Result<(), Fail> {
     Ok(())
 }
 
-// A target that fails ends the replay at that call.
+// If the target fails a call, the replay ends at that call.
 #[test]
 fn targets_that_fail_end_a_replay(rt: HostRuntime) -> Result<(), Fail> {
     assert_replays(
@@ -204,8 +208,8 @@ calls - 16 5;9=9:w5+1 w6+2 w8+1 d9+3 w1+1",
     )
 }
 
-// A log device that fails ends the replay too. If it fails in a search, nothing is applied. If it
-// fails in reading an entry's header or its data, that entry isn't applied.
+// If the log's device fails, the replay ends too. If it fails in a search, no entry is applied. If
+// it fails while an entry's header or data is read, that entry isn't applied.
 #[test]
 fn log_devices_that_fail_end_a_replay(rt: HostRuntime) -> Result<(), Fail> {
     assert_replays(
@@ -226,7 +230,7 @@ calls 1 16 -;0=0:",
     )
 }
 
-// Checks the result of a replay up to the first mark of exactly these bytes.
+// Replays the log `MARKS` up to the first mark of exactly the bytes `mark`, and checks the result.
 fn check_mark(
     rt: &(impl Abort + Print),
     alloc: Global,
@@ -240,8 +244,8 @@ fn check_mark(
     Ok(())
 }
 
-// The first mark with exactly the text is taken, whatever its bytes are. A mark that only begins
-// with the text isn't taken.
+// A replay ends at the first mark that has exactly the given text, whatever its bytes are. A mark
+// that only begins with the text doesn't count.
 #[test]
 fn marks_are_found_by_all_their_bytes(rt: HostRuntime) -> Result<(), Fail> {
     let alloc = rt.alloc();
@@ -258,7 +262,7 @@ marks - 16 -;mb=25 NoSuchMark after 0:",
     check_mark(&rt, alloc, &[0; 479], "25 NoSuchMark after 0:")
 }
 
-// A replay goes on from the place at which the one before it ended.
+// A replay begins where the replay before it ended.
 #[test]
 fn replays_go_on_from_the_place(rt: HostRuntime) -> Result<(), Fail> {
     assert_replays(
@@ -269,7 +273,7 @@ flushes - 16 -;f=2:w2+1;f=1:;f=26 NoFlush after 0:",
     )
 }
 
-// The entries after the counted ones aren't read.
+// Entries that the super block doesn't count aren't read.
 #[test]
 fn stale_entries_are_not_replayed(rt: HostRuntime) -> Result<(), Fail> {
     assert_replays(
@@ -280,7 +284,7 @@ fn stale_entries_are_not_replayed(rt: HostRuntime) -> Result<(), Fail> {
 }
 
 // If a reader refuses a call because of its log, it refuses later calls with 22. Only a call for
-// more entries than there are is refused differently. After any other refusal the reader goes on.
+// too many entries has its own refusal. After any other refusal the reader goes on.
 #[test]
 fn readers_refuse_after_a_refusal(rt: HostRuntime) -> Result<(), Fail> {
     assert_replays(

@@ -14,9 +14,9 @@ use std::process::Abort;
 use std::test::Fail;
 use test_devices::{Watched, rows_are_told};
 
-// Logs, a line each: the number of sectors of the disk, and the steps. `w` appends a write of 8
-// sectors, `m` a mark, and `s` settles. After `=` are the status, and the super block's count of
-// entries and sector size after a crash that keeps only what is settled.
+// Rows `sectors steps=status;count of size` for a log on a disk of `sectors` sectors. `w` appends a
+// write of 8 sectors, `m` a mark, and `s` settles. `count` and `size` are those of the super block
+// after a crash that leaves only what is settled.
 const LOGS: &str = "64 =0 0;0 of 4096
 64 wms=2 31;2 of 4096
 64 msw=2 31;1 of 4096
@@ -27,8 +27,8 @@ const LOGS: &str = "64 =0 0;0 of 4096
 16 ms=0 0 logging_disabled;0 of 4096
 24 ms=1 15;1 of 4096";
 
-// The calls of the device that a log on 64 sectors makes: `w8+8` writes sectors 8 to 15, `F` the
-// same with FUA, and `f` flushes.
+// Rows `sectors steps=calls`. `w8+8` writes sectors 8 to 15, `F` writes with FUA, and `f0+0`
+// flushes.
 const CALLS: &str = "64 =F0+8
 64 m=F0+8 w8+8
 64 w=F0+8 w8+8 w16+8
@@ -47,7 +47,7 @@ fn write(alloc: Global) -> Result<Bio, AllocError>
     })
 }
 
-// Returns the entry of a step, in a log with sectors of size `size`.
+// Returns the entry that a step appends, in a log with sectors of size `size`.
 fn entry(rt: &impl Abort, alloc: Global, size: SectorSize, step: u8) -> Result<Entry, Fail>
     ensures { IfOk result (λ entry. IsTrue (is_readable (bytes_of size) entry)) }
 {
@@ -61,7 +61,7 @@ fn entry(rt: &impl Abort, alloc: Global, size: SectorSize, step: u8) -> Result<E
     Ok(Entry::of_request(alloc, &bio, size.bytes())?)
 }
 
-// Returns a store over a device, after these steps.
+// Returns a store with a new log on a device, after these steps.
 fn stored<D: BlockDev + Drop>(
     rt: &impl Abort,
     alloc: Global,
@@ -86,14 +86,14 @@ fn stored<D: BlockDev + Drop>(
     Ok(store)
 }
 
-// Returns the disk of a row, and its steps.
+// Returns a row's disk and its steps.
 fn split(alloc: Global, row: &str) -> Result<(SectorDisk, &str), Fail> {
     let (sectors, steps) = row.split_once(' ').unwrap_or_default();
     let sectors = sectors.parse::<u64>().unwrap_or(0).clamp(8, 8192);
     Ok((SectorDisk::new(alloc, sectors)?, steps))
 }
 
-// Returns the status and the super block of the log of a row, as text.
+// Makes the log of a row. Returns its status, and its super block after a crash.
 fn log_told(rt: &impl Abort, alloc: Global, row: &str) -> Result<String, Fail> {
     let (disk, steps) = split(alloc, row)?;
     let store = stored(rt, alloc, disk, steps)?;
@@ -113,7 +113,7 @@ fn large_logs_are_kept(rt: HostRuntime) -> Result<(), Fail> {
     Ok(())
 }
 
-// Returns the calls of the device for the log of a row.
+// Makes the log of a row, and returns the calls of its device.
 fn calls_told(rt: &impl Abort, alloc: Global, row: &str) -> Result<String, Fail> {
     let (disk, steps) = split(alloc, row)?;
     let store = stored(rt, alloc, Watched::new(alloc, disk), steps)?;

@@ -1,4 +1,4 @@
--- What playing a script does, on any data device and with a new log on any other device.
+-- What playing a script does, with any data device, and with a new log on any other device.
 use Rattle.std.specs.Prelude.{◌≡◌, ℕ, Bool, false, List, [], Option}
 use Rattle.std.specs.Io.KnownBytes.{Appends, Keeps}
 use Rattle.blockdev.specs.declared.device.BlockDev.{Ghosts}
@@ -14,8 +14,8 @@ use Rattle.layer_table.specs.Layers.{on_stack}
 use Rattle.script_runner.specs.DiskRun.{IsStackOf}
 use Rattle.script_runner.specs.Runs.{EndsRun, RunsLines}
 
--- `run` is a script's run before its first line, at time 0, on the data device `disk`. Its new log
--- is on `log`, and the log's sectors have `bytes` bytes.
+-- `run` is a script's run before its first line, at time 0, with the data device `disk`. Its new
+-- log is on `log`, and has sectors of `bytes` bytes.
 pub record StartsOn {D L : Type 0} {d : Ghosts D} {l : Ghosts L} (bytes : ℕ) (disk : D) (log : L)
     (run : Running D L d l) : Type 0 where
   pub disk_is : run.disk ≡ disk
@@ -24,7 +24,8 @@ pub record StartsOn {D L : Type 0} {d : Ghosts D} {l : Ghosts L} (bytes : ℕ) (
   pub moment : run.moment ≡ 0
   pub short : run.short ≡ false
 
--- As `StartsOn`, but the data device is the stack that `data_disk` asks for.
+-- `run` is a script's run before its first line, at time 0. Its data device is a stack as
+-- `data_disk` asks. Its new log is on `log`, and has sectors of `bytes` bytes.
 pub record StartsBeside {L : Type 0} {l : Ghosts L} (bytes : ℕ) (data_disk : Disk) (log : L)
     (run : Running Stack L on_stack l) : Type 0 where
   pub stack : IsStackOf data_disk run.disk
@@ -33,9 +34,9 @@ pub record StartsBeside {L : Type 0} {l : Ghosts L} (bytes : ℕ) (data_disk : D
   pub moment : run.moment ≡ 0
   pub short : run.short ≡ false
 
--- `plan` was played from a run with `Start`: its lines ran, and what they print was appended to the
--- output. It left `recorder`. The data device dropped `lies` calls and reported them as done.
--- `ample` says whether memory sufficed.
+-- The lines of `plan` ran, from a run for which `Start` holds, and the output got what they print.
+-- The recorder is `recorder` after them. The data device dropped `lies` calls and reported them as
+-- done. `ample` says whether memory sufficed.
 pub record IsPlayed {D L : Type 0} {d : Ghosts D} {l : Ghosts L} (m : Answering D L)
     (plan : ScriptValue) (Start : Running D L d l → Type 0) (before after : Option (List ℕ))
     (recorder : Recorder L l) (lies : ℕ) (ample : Bool) : Type 0 where
@@ -49,8 +50,8 @@ pub record IsPlayed {D L : Type 0} {d : Ghosts D} {l : Ghosts L} (m : Answering 
   pub lied : lies ≡ (d.shown last.disk).lies
   pub found : ample ≡ is_ample last
 
--- Why playing `plan`, which was read from `text`, fails.
--- - `file`: there is no memory, or the output can't be written.
+-- Why playing `plan` fails; `plan` was parsed from `text`.
+-- - `file`: memory ran out, or the output can't be written.
 -- - `unmade`: no log could be made, and nothing was printed.
 -- - `run`: the run ends before its last line.
 pub data FailsPlaying {D L : Type 0} {d : Ghosts D} {l : Ghosts L} (m : Answering D L)

@@ -1,4 +1,4 @@
--- What is printed for a reply. `Lines` says which replies can come.
+-- What is printed for the recorder's reply to a mark. `Lines` says which replies are possible.
 use Rattle.std.specs.Prelude.{ℕ, List, []}
 use Rattle.recorder.specs.declared.reply.Reply.{Reply}
 use Rattle.recorder.specs.declared.reply.Reply.TheVariants as replies

@@ -1,9 +1,10 @@
--- What a line leaves as it was, whether it succeeds or not.
+-- What a line doesn't change, whether it succeeds or not.
 use Rattle.std.specs.Prelude.{◌≡◌, length}
 use Rattle.blockdev.specs.declared.device.BlockDev.{Ghosts}
 use Rattle.script_runner.specs.declared.running.Running.{Running}
 
--- The times of both devices, the size of the data device and the number of requests stay the same.
+-- A line changes neither the times of both devices, nor the data device's size, nor the number of
+-- requests.
 pub record StepKeeps {D L : Type 0} {d : Ghosts D} {l : Ghosts L}
     (old new : Running D L d l) : Type 0 where
   pub moment : new.moment ≡ old.moment

@@ -1,4 +1,4 @@
-//! Tests of the messages of a layer with bad blocks.
+//! Tests of the messages of a dust layer.
 use super::{by_sector, over, talk_over};
 use crate::calls::{answer_of, ask, read_of};
 use crate::{is_same, is_told};
@@ -11,7 +11,7 @@ use std::io::Print;
 use std::process::Abort;
 use std::test::Fail;
 
-// Returns how many writes of a sector fail before one passes.
+// Returns how many writes of a sector fail before one succeeds.
 fn failed_writes<D: Message + Drop>(rt: &impl Abort, device: &mut D, sector: u64) -> u64 {
     for failed in 0..300 {
         assert!(rt; sector < device.sectors());
@@ -22,14 +22,15 @@ fn failed_writes<D: Message + Drop>(rt: &impl Abort, device: &mut D, sector: u64
     300
 }
 
-// Messages that list a block of one sector, then the block, and how many writes of it then fail.
+// Rows `message|block|failures`: the message lists the block, and this many writes of the block
+// then fail.
 const ADDED: &str = "addbadblock 60|60|0
 addbadblock 60 1|60|1
 addbadblock 127 0|127|0
 addbadblock 00000000000000000007 00000000000000000255|7|255";
 
-// Adds the block of a row to the list. The row's number of writes then remove it. Adds it once
-// more, and clears the list.
+// Lists the block of a row as bad, twice: the second message is refused. After the row's number of
+// failed writes, the block can be listed again. Then clears the list.
 fn list_block<D: Message + Drop>(rt: &(impl Abort + Print), device: &mut D, row: &str) {
     let (text, rest) = row.split_once('|').unwrap_or_default();
     let (block, writes) = rest.split_once('|').unwrap_or_default();
@@ -56,11 +57,11 @@ fn texts_that_list_a_block(rt: HostRuntime) -> Result<(), Fail> {
     Ok(())
 }
 
-// Texts that aren't messages, with a bar after each.
+// Texts that aren't messages; each is followed by `|`.
 const NO_ORDERS: &str =
     "| |addbadblock|addbadblock |addbadblock  60|addbadblock 60 |addbadblock 60  1|addbadblock 60 1 |addbadblock 60 1 1| addbadblock 60|addbadblock 60 256|addbadblock 60 -1|addbadblock x|addbadblock 60 x|addbadblock 0x3c|addbadblock\t60|addbadblock 18446744073709551616|addbadblock 000000000000000000060|ADDBADBLOCK 60|addbadblocks 60|removebadblock|removebadblock 60 |removebadblock  60|removebadblock 60 1|clearbadblocks | clearbadblocks|clearbadblocks 1|clearbadblock|enable |Enable|enable 1|disable\n|quiet|countbadblocks";
 
-// Checks that such a text is refused.
+// Checks that the layer refuses `text` as no message.
 fn refuse<D: Message + Drop>(rt: &(impl Abort + Print), device: &mut D, text: &str) {
     let refused = Err(MessageError::BadMessage);
     assert!(rt; is_same(rt, &device.message(1, text), &refused, text));
@@ -76,9 +77,9 @@ fn texts_that_ask_for_none(rt: HostRuntime) -> Result<(), Fail> {
     Ok(())
 }
 
-// Messages to a layer of 99 sectors with blocks of 2, one after another: the text, the answer, and
-// the state after it. The state says whether the layer is enabled (`e`), and lists block 0 (`f`)
-// and block 49 (`l`).
+// Rows `message|answer|state` for a layer of 99 sectors with blocks of 2 sectors, one after
+// another. The state has `e` if the layer is enabled, `f` if block 0 is listed, and `l` if block 49
+// is.
 const ANSWERS: &str = "removebadblock 0|8 NotBad|---
 clearbadblocks|ok|---
 disable|ok|---
@@ -107,8 +108,9 @@ fn is_bad<D: BlockDev + Drop>(rt: &impl Abort, device: &mut D, sector: u64) -> b
     ask(rt, device, Ms::new(0), read_of(sector)).end.is_err()
 }
 
-// Returns whether the layer is enabled, and lists these two blocks. It is enabled for the test,
-// since a read of a listed block fails only then; after it the mode is as before.
+// Returns whether the layer is enabled, and whether it lists block 0 and block 49. A read of a
+// listed block fails only in an enabled layer. So this enables the layer for its reads, and then
+// restores the mode.
 fn state<D: BlockDev + Drop>(rt: &impl Abort, device: &mut Dust<D>) -> [bool; 3] {
     let is_enabled = device.mode() != Mode::Bypass;
     assert!(rt; device.message(1, "enable").is_ok());
@@ -120,7 +122,7 @@ fn state<D: BlockDev + Drop>(rt: &impl Abort, device: &mut Dust<D>) -> [bool; 3]
     [is_enabled, has_first, has_last]
 }
 
-// Sends the message of a row.
+// Sends the message of a row, and checks the answer and the state.
 fn put_message<D: BlockDev + Drop>(
     rt: &(impl Abort + Print),
     alloc: Global,
@@ -150,8 +152,8 @@ fn answers_of_messages(rt: HostRuntime) -> Result<(), Fail> {
     Ok(())
 }
 
-// A layer has as many blocks as begin in it: with one or two sectors it has one block of two
-// sectors, with three or four it has two.
+// A layer has as many blocks as begin in it, here blocks of two sectors. One or two sectors have
+// one block, three or four have two.
 const ONE: &str = "m 1 addbadblock 0|ok
 m 1 addbadblock 1|6 BadMessage
 m 1 addbadblock 2|6 BadMessage";

@@ -1,11 +1,11 @@
-// A plain model of layers over a disk: a list of layers, and a byte for each sector.
+// A plain model of layers over a disk: a list of layers, and one byte for each sector of the disk.
 use crate::calls::Call;
 use bio::Ms;
 use fault_layers::{Kind, Verdict};
 use layer_table::{Feature, LayerSpec, Target};
 
-// A layer: its line, its load time, the number of calls that a fuse has passed, and the numbers of
-// calls that it failed and dropped.
+// A layer: its table line, and its load time in milliseconds. `passed` counts the writes, discards
+// and flushes that it passed; `faults` and `lies` count the calls that it failed and dropped.
 #[derive(Debug, Drop)]
 pub(super) struct Plain {
     spec: LayerSpec,
@@ -27,7 +27,7 @@ impl Plain {
     }
 }
 
-// Returns whether a flakey layer is down, `since` milliseconds after its load.
+// Returns whether a flakey layer is down, `since` milliseconds after its load time.
 fn is_down(up: u64, down: u64, since: u64) -> bool {
     let turn = up.saturating_add(down).saturating_mul(1000);
     since.checked_rem(turn).unwrap_or(0) >= up.saturating_mul(1000)
@@ -59,7 +59,7 @@ fn verdict(layer: &Plain, kind: Kind, now: u64) -> Verdict {
     }
 }
 
-// Returns how many calls these layers failed, and how many they dropped.
+// Returns how many calls all these layers failed, and how many they dropped.
 pub(super) fn counts(layers: &[Plain]) -> (u64, u64) {
     let mut faults: u64 = 0;
     let mut lies: u64 = 0;
@@ -70,7 +70,7 @@ pub(super) fn counts(layers: &[Plain]) -> (u64, u64) {
     (faults, lies)
 }
 
-// Makes a call on the disk.
+// Makes a call on the disk itself. Returns the byte that a read found, or 0.
 fn on_disk(disk: &mut [u8], kind: Kind, first: usize, byte: u8) -> Option<u8> {
     match kind {
         Kind::Read => return disk.get(first).copied(),
@@ -90,7 +90,8 @@ fn put(disk: &mut [u8], sector: usize, byte: u8) {
     }
 }
 
-// Makes a call. Returns the byte that was read, 0 for another call, or None if the call failed.
+// Makes a call on the topmost layer, which is the last. Returns the byte that a read found, 0 for
+// another call, or None if the call failed.
 pub(super) fn plain_call(
     layers: &mut [Plain],
     disk: &mut [u8],

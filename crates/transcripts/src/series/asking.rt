@@ -1,4 +1,4 @@
-// A command line over files in memory, and what it prints.
+// Runs a command line over files in memory, and captures what it prints.
 use dmlw_cli::execute;
 use dmlw_files::Session;
 use std::alloc::{AllocError, Global};
@@ -6,7 +6,7 @@ use std::sync::Wait;
 use std::thread::Threads;
 use test_devices::Folder;
 
-/// What a command printed: its status, its output and its faults.
+/// The status of a command, its standard output and its standard error.
 #[derive(Drop)]
 pub struct Told {
     pub status: u8,
@@ -15,13 +15,14 @@ pub struct Told {
 }
 
 impl Told {
-    /// Returns whether the command ended with this status, and printed exactly this.
+    /// Returns whether the command ended with this status, and printed exactly these texts.
     pub fn is(&self, status: u8, out: &str, err: &str) -> bool {
         self.status == status && self.out.as_str() == out && self.err.as_str() == err
     }
 }
 
-/// What a command line is expected to print. It ends with status 1 if there is a fault.
+/// A command line with its expected output and error. The expected status is 1 if there is an
+/// error, else 0.
 #[derive(Clone, Copy)]
 pub struct Wanted<'a> {
     pub line: &'a str,
@@ -30,14 +31,14 @@ pub struct Wanted<'a> {
 }
 
 impl Wanted<'_> {
-    /// Returns whether the command printed what is expected.
+    /// Returns whether the command printed what was expected, and ended with the expected status.
     pub fn is_met(&self, told: &Told) -> bool {
         told.is(u8::from(!self.err.is_empty()), self.out, self.err)
     }
 }
 
-/// Executes a command line, which is given without the program's name, with a folder's files.
-/// Returns what it prints.
+/// Runs a command line, without the program's name, on the files of `folder`. Returns what it
+/// prints.
 pub fn ask<H: Threads + Wait + Sync>(
     rt: &H,
     alloc: Global,
@@ -69,7 +70,7 @@ fn words_of<'a>(alloc: Global, line: &'a str) -> Result<Vec<&'a str>, AllocError
     Ok(words)
 }
 
-// Returns bytes as a text; an empty text if they aren't one.
+// Returns bytes as a text, or an empty text if they aren't UTF-8.
 fn text_of(alloc: Global, bytes: Vec<u8>) -> String {
     String::from_utf8(bytes).unwrap_or(String::new(alloc))
 }

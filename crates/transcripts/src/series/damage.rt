@@ -1,4 +1,4 @@
-// Series: logs that are cut, or have one byte changed, and what each command prints for them.
+// Series: what each command prints for logs that are cut short, or have one wrong byte.
 use crate::series::asking::{Wanted, ask, folder_of};
 use crate::series::faults::{Faults, LOG_FAULTS, REPLAY_FAULTS};
 use crate::series::report::{Report, check};
@@ -8,14 +8,14 @@ use std::sync::Wait;
 use std::thread::Threads;
 use test_devices::Folder;
 
-// A script of a write and a flush that makes it durable.
+// This script has a write, and a flush that makes the write durable.
 const FLUSHED: &str = "data 16\nlog 32\nw a 5 1 41\nc a\nf b\nc b\nclose\n";
 
-// A script of a write, and of a write of two sectors with flush and FUA.
+// This script has a write, and then a write of two sectors with flush and FUA.
 const SETTLED: &str =
     "data 16\nlog 32\nw a 4 1 11\nc a\nw b 8 2 22 flush fua\nc b\nturn\nturn\nclose\n";
 
-// The listing of the first log, line by line.
+// How `list` prints the log of `FLUSHED`, line by line.
 const LISTED: [&str; 4] = [
     "super version 1 entries 3 sectorsize 512\n",
     "0 @1 write 5+1\n",
@@ -23,37 +23,40 @@ const LISTED: [&str; 4] = [
     "2 @4 mark dm-log-writes-end\n",
 ];
 
-// What is printed for a log that is too short.
+// What each command prints for a log that is too short for its count of entries.
 const CUT: &str = "dmlw: 21 CutShort\n";
 
-// The length in bytes of a sector, of the data disk, and of the part of a log that is changed byte
-// by byte. Then the number of sectors of a log.
+// The length of a sector in bytes.
 const SECTOR: usize = 512;
 
+// The length of the data disk in bytes.
 const DATA_BYTES: usize = 8192;
 
+// This many bytes at the beginning of the log of `SETTLED` are damaged, one at a time.
 const DAMAGED_BYTES: usize = 1024;
 
+// The number of sectors of the log of `FLUSHED`.
 const LOG_SECTORS: usize = 32;
 
-// The values that a byte is set to.
+// The values that a damaged byte is set to.
 const VALUES: [u8; 4] = [0x00, 0x7f, 0x80, 0xff];
 
-// The byte at which a super block's count of entries begins.
+// The offset of the count of entries in the super block.
 const COUNT_AT: usize = 16;
 
-// A byte of a log that is set to another value.
+// The byte at offset `place` of a log is set to `value`.
 #[derive(Clone, Copy)]
 struct Damage {
     place: usize,
     value: u8,
 }
 
-// The counts of each way of reading the logs.
+// How the commands ended for all images: `list`, `status`, `replay` of all entries that the super
+// block counts, and `replay` of the last flush.
 #[derive(Drop)]
 struct Seen {
     images: u64,
-    // How many of the images are the unchanged log, which is read only once.
+    // How many damages don't change the log; it is read for the first of them only.
     same: u64,
     listed: Faults,
     status: Faults,
@@ -61,9 +64,8 @@ struct Seen {
     flushed: Faults,
 }
 
-/// Reads images of chosen fields. Cuts a log to each number of sectors. Changes each byte of the
-/// first two sectors of another log. Replays the first log onto devices that fail or lie. Reports
-/// the results.
+/// Runs four series: images of chosen fields; the log of `FLUSHED`, cut to each length; the log of
+/// `SETTLED` with each of its first bytes changed; and replays onto devices that fail or lie.
 pub fn run<H: Threads + Wait + Sync>(
     rt: &H,
     alloc: Global,
@@ -75,12 +77,12 @@ pub fn run<H: Threads + Wait + Sync>(
     targets::run(rt, alloc, report)
 }
 
-/// Returns the log of a write that a flush makes durable.
+/// Returns the log of a write that a flush makes durable: that of the script `FLUSHED`.
 pub fn plain_log<H: Threads + Wait + Sync>(rt: &H, alloc: Global) -> Result<Vec<u8>, AllocError> {
     log_of(rt, alloc, FLUSHED)
 }
 
-// Returns the log that a script leaves.
+// Records a script, and returns its log.
 fn log_of<H: Threads + Wait + Sync>(
     rt: &H,
     alloc: Global,
@@ -91,7 +93,7 @@ fn log_of<H: Threads + Wait + Sync>(
     Vec::from_slice(alloc, folder.bytes("log").unwrap_or_default())
 }
 
-// Reads the first log, cut to each number of sectors.
+// Reads the log of `FLUSHED`, cut to each number of sectors.
 fn run_cuts<H: Threads + Wait + Sync>(
     rt: &H,
     alloc: Global,
@@ -113,9 +115,9 @@ fn run_cuts<H: Threads + Wait + Sync>(
     report.line(line.as_str())
 }
 
-// Checks a cut log. If it has too few sectors for its count, it is refused at once. If only the
-// sector of its last entry is missing, the two entries before it are listed. If it is longer, all
-// are listed.
+// Checks the log of `FLUSHED`, cut to `sectors` sectors. If the log is too short for its count, it
+// is refused at once. If only its last entry is missing, the two entries before that are listed. If
+// it is longer, all three are listed.
 fn check_cut<H: Threads + Wait + Sync>(
     rt: &H,
     alloc: Global,
@@ -163,7 +165,8 @@ fn check_cut<H: Threads + Wait + Sync>(
     check(rt, alloc, case.as_str(), &wanted, folder, report)
 }
 
-// Reads the second log with each of its first bytes set to each value.
+// Reads the log of `SETTLED` with each of its first 1,024 bytes set to each of `VALUES`, one at a
+// time.
 fn run_damages<H: Threads + Wait + Sync>(
     rt: &H,
     alloc: Global,
@@ -187,7 +190,7 @@ fn run_damages<H: Threads + Wait + Sync>(
     tell(alloc, &seen, report.differ().saturating_sub(before), report)
 }
 
-// Reads the log with the byte at a place set to each value.
+// Reads the log with the byte at offset `place` set to each of `VALUES`.
 fn damage_place<H: Threads + Wait + Sync>(
     rt: &H,
     alloc: Global,
@@ -206,8 +209,8 @@ fn damage_place<H: Threads + Wait + Sync>(
     Ok(())
 }
 
-// Puts a log with a changed byte in a folder. Returns the command that replays all entries that its
-// super block now counts.
+// Puts the damaged log in the folder. Returns the command line that replays all entries that its
+// super block counts.
 fn damage_log(
     alloc: Global,
     log: &[u8],
@@ -223,7 +226,8 @@ fn damage_log(
     format!(in alloc; "replay log zeroes out entries:{count}")
 }
 
-// Reads a log with a changed byte, in each way.
+// Reads a damaged log with `list`, with `status`, and with `replay` of all entries and of the last
+// flush.
 fn read_damaged<H: Threads + Wait + Sync>(
     rt: &H,
     alloc: Global,
@@ -273,7 +277,8 @@ fn read_damaged<H: Threads + Wait + Sync>(
 }
 
 impl Seen {
-    // Counts an image; returns false if it is the unchanged log and that was read before.
+    // Counts an image. Returns false if the damage doesn't change the log, and such an image was
+    // read before.
     fn is_new(&mut self, log: &[u8], damage: Damage) -> bool {
         self.images = self.images.saturating_add(1);
         if log.get(damage.place) != Some(&damage.value) {
@@ -284,7 +289,7 @@ impl Seen {
     }
 }
 
-// Returns the count of entries in the super of a log.
+// Returns the count of entries in a log's super block, or 0 if the log is too short.
 fn count_of(log: &[u8]) -> u64 {
     let bytes = log.get(COUNT_AT..).unwrap_or_default();
     match bytes.first_chunk::<8>() {
@@ -293,8 +298,8 @@ fn count_of(log: &[u8]) -> u64 {
     }
 }
 
-// Runs a command that reads the log, and counts how it ended. It must end with status 0 and no
-// fault, or with status 1 and one of the possible faults.
+// Runs a command on a damaged log, and counts how it ended. The command must end with status 0 and
+// no fault, or with status 1 and a fault that is possible for it.
 fn read<H: Threads + Wait + Sync>(
     rt: &H,
     alloc: Global,
@@ -312,7 +317,7 @@ fn read<H: Threads + Wait + Sync>(
     Ok(())
 }
 
-// Reports how each way of reading ended.
+// Reports how the commands ended.
 fn tell(alloc: Global, seen: &Seen, differ: u64, report: &mut Report) -> Result<(), AllocError> {
     let line = format!(in alloc;
         "changed bytes: {} images, {} of them the log as it was and read once, {differ} differ",

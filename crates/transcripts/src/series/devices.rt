@@ -1,5 +1,5 @@
-// Series: a run under each stack of layers, with a fuse on top and a power failure at its end. It
-// compares what the run prints, and what its log lists.
+// Series: a script is recorded with each stack of layers under its log, a fuse on top, and a crash
+// at its end. What `record` prints and what the log lists is compared with the expected results.
 use crate::series::asking::{Told, ask, folder_of};
 use crate::series::layers::{LATE, Layer, STACKS, WHOLE_RUN, passed, stack_of};
 use crate::series::report::Report;
@@ -8,17 +8,18 @@ use std::sync::Wait;
 use std::thread::Threads;
 use test_devices::Folder;
 
-// The lines of a run: a write that a flush makes durable, and the close.
+// The events of each script: a write, a flush that makes the write durable, and the close.
 const EVENTS: &str = "w a 5 1 41\nc a\nf b\nc b\nclose\n";
 
-// The lines of its log's entries, in the order in which they became durable.
+// How `list` prints the entries of the log that a whole run leaves.
 const ENTRIES: [&str; 3] = [
     "0 @1 write 5+1\n",
     "1 @3 flush\n",
     "2 @4 mark dm-log-writes-end\n",
 ];
 
-// The status that a run prints if n of its calls passed, and its log was made.
+// The status at index n is printed if n calls on the log's disk passed; if none did, there is no
+// log.
 const STATUSES: [&str; 8] = [
     "no log",
     "0 0 logging_disabled",
@@ -30,20 +31,20 @@ const STATUSES: [&str; 8] = [
     "3 4",
 ];
 
-// How a run ends.
+// How a case ends.
 #[derive(Clone, Copy)]
 enum Ending {
-    // Without a power failure.
+    // It doesn't crash.
     Plain,
-    // With a power failure: each sector holds its durable value.
+    // It crashes; each sector then holds its durable value.
     Crash,
-    // With a power failure: each sector that isn't durable holds the first value that was written
-    // to it since.
+    // It crashes; each sector then holds the first value that it could hold besides its durable
+    // value, if there is one.
     Picked,
 }
 
-// A run: its layers, the lowest first, a fuse of `fuse` calls over them if there is one, its time
-// and its ending.
+// A case: the layers, the lowest first; the calls of a fuse over them, if there is one; the time of
+// the events, in milliseconds; and the ending.
 #[derive(Drop)]
 struct Case {
     layers: Vec<Layer>,
@@ -52,8 +53,8 @@ struct Case {
     ending: Ending,
 }
 
-// The counts of all runs: how many logs were made, and how many of them list each number of
-// entries.
+// The counts of all cases: how many left a log, and how many of the logs list n entries, for each
+// n.
 #[derive(Drop)]
 struct Seen {
     cases: u64,
@@ -61,7 +62,7 @@ struct Seen {
     by_entries: [u64; 4],
 }
 
-/// Runs a few cases and reports each of them. Then runs all cases and reports their counts.
+/// Reports a few cases, one in each line. Then runs all cases and reports their counts.
 pub fn run<H: Threads + Wait + Sync>(
     rt: &H,
     alloc: Global,
@@ -86,7 +87,7 @@ pub fn run<H: Threads + Wait + Sync>(
     report.line(line.as_str())
 }
 
-// Runs the cases of a stack.
+// Runs all cases of the stack `number`.
 fn run_stack<H: Threads + Wait + Sync>(
     rt: &H,
     alloc: Global,
@@ -100,7 +101,7 @@ fn run_stack<H: Threads + Wait + Sync>(
     Ok(())
 }
 
-// Runs the cases of a stack under a fuse, at both times and with both kinds of power failure.
+// Runs the cases of a stack under a fuse: at both times, and with both kinds of crash.
 fn run_fuse<H: Threads + Wait + Sync>(
     rt: &H,
     alloc: Global,
@@ -127,7 +128,7 @@ fn run_fuse<H: Threads + Wait + Sync>(
     Ok(())
 }
 
-// Runs a case, compares it with its expected result, and counts it.
+// Runs a case, compares its results with the expected results, and counts it.
 fn run_case<H: Threads + Wait + Sync>(
     rt: &H,
     alloc: Global,
@@ -161,7 +162,7 @@ impl Seen {
     }
 }
 
-// Returns how many entries were listed.
+// Returns how many entries a listing has.
 fn entries_of(listed: &Told) -> usize {
     listed.out.as_str().matches('\n').count().saturating_sub(1)
 }
@@ -177,7 +178,7 @@ fn script_of(alloc: Global, case: &Case) -> Result<String, AllocError> {
     Ok(text)
 }
 
-// Appends the layers of the log, and the fuse on top.
+// Appends the lines of the log's layers and of the fuse over them.
 fn push_layers(text: &mut String, layers: &[Layer], fuse: Option<u64>) -> Result<(), AllocError> {
     for layer in layers {
         writeln!(text, "log-layer {}", layer.line())?;
@@ -200,7 +201,7 @@ fn push_messages(text: &mut String, layers: &[Layer]) -> Result<(), AllocError> 
     Ok(())
 }
 
-// Appends how a run ends.
+// Appends the line of the crash, unless the case has none.
 fn push_ending(text: &mut String, ending: Ending) -> Result<(), AllocError> {
     let picks = match ending {
         Ending::Plain => return Ok(()),
@@ -215,8 +216,8 @@ fn push_ending(text: &mut String, ending: Ending) -> Result<(), AllocError> {
     Ok(())
 }
 
-// Checks what a run prints if its log's disk passed `passed` calls: refusal 19 if its log couldn't
-// be made, else its two requests and its status.
+// Checks what `record` prints if `passed` calls passed. If none did, the log couldn't be made, and
+// the fault is `19 Device`. Otherwise it prints its two requests and a status.
 fn check_told(
     alloc: Global,
     script: &str,
@@ -239,8 +240,8 @@ fn check_told(
     Ok(())
 }
 
-// Checks what the log lists: all entries if the super block that counts them was written, which is
-// the last call of all, else none.
+// Checks what `list` prints. If the last call passed, which writes the super block with the count
+// 3, all three entries are listed; otherwise none is.
 fn check_listed(
     alloc: Global,
     script: &str,
@@ -263,7 +264,7 @@ fn check_listed(
     Ok(())
 }
 
-// Reports what fuses of 0 to 7 calls leave on the plain disk, and what a bad block does.
+// Reports what is left by fuses of 0 to 7 calls over the plain disk, and by a bad block.
 fn tables<H: Threads + Wait + Sync>(
     rt: &H,
     alloc: Global,
@@ -288,7 +289,7 @@ fn tables<H: Threads + Wait + Sync>(
     row(rt, alloc, "bad block 3", &case, report)
 }
 
-// Reports the row of a case: the last line that it prints, and how many entries its log lists.
+// Reports a case: the last line that `record` prints, and how many entries the log lists.
 fn row<H: Threads + Wait + Sync>(
     rt: &H,
     alloc: Global,
@@ -311,7 +312,7 @@ fn row<H: Threads + Wait + Sync>(
     report.line(line.as_str())
 }
 
-// Returns the number of entries that the log of a folder lists, in words.
+// Returns as text how many entries the folder's log lists.
 fn listed_text<H: Threads + Wait + Sync>(
     rt: &H,
     alloc: Global,
@@ -324,7 +325,7 @@ fn listed_text<H: Threads + Wait + Sync>(
     format!(in alloc; "{} entries listed", entries_of(&listed))
 }
 
-// Returns the last line that was printed: of the faults if there is one, else of the output.
+// Returns the last line of the error output, or of the output if there is no error.
 fn last_line(told: &Told) -> &str {
     let text = if told.err.is_empty() {
         told.out.as_str()

@@ -1,7 +1,7 @@
-// Counts how commands that read a log ended, by their faults.
+// Counts with which fault commands that read a log ended.
 use std::fmt;
 
-/// The faults that a log can have, followed by those that a replay of it can have.
+/// The faults that reading a log can have; after them those that only a replay can have.
 const FAULTS: [&str; 10] = [
     "13 BadMagic",
     "14 BadVersion",
@@ -15,13 +15,13 @@ const FAULTS: [&str; 10] = [
     "33 PastEntries",
 ];
 
-/// The number of faults that a log can have.
+/// Reading a log can have the first `LOG_FAULTS` faults.
 pub const LOG_FAULTS: usize = 6;
 
-/// The number of faults that a replay can have.
+/// A replay can have all faults.
 pub const REPLAY_FAULTS: usize = 10;
 
-/// The number of commands without a fault, and the number with each of the first `known` faults.
+/// How many commands ended without a fault, and how many with each of the first `known` faults.
 #[derive(Drop)]
 pub struct Faults {
     known: usize,
@@ -30,7 +30,7 @@ pub struct Faults {
 }
 
 impl Faults {
-    /// Returns counts of 0. The first `known` faults are possible.
+    /// Returns counts of 0. Only the first `known` faults are possible.
     pub fn new(known: usize) -> Faults {
         Faults {
             known,
@@ -39,8 +39,8 @@ impl Faults {
         }
     }
 
-    /// Counts a command that ended with this status and these lines of faults. Returns false if it
-    /// may not end so.
+    /// Counts a command that ended with this status and this error output. Returns false if this
+    /// end isn't possible.
     pub fn count(&mut self, status: u8, err: &str) -> bool {
         if err.is_empty() {
             self.whole = self.whole.saturating_add(1);
@@ -58,7 +58,7 @@ impl Faults {
     }
 }
 
-// Returns the fault's number and name in its line, without the count of replayed entries.
+// Returns the number and name of a fault from its line, without ` after <n> entries`.
 fn fault_of(err: &str) -> &str {
     let line = err.strip_prefix("dmlw: ").unwrap_or_default();
     let line = line.strip_suffix("\n").unwrap_or_default();

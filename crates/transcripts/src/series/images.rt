@@ -1,5 +1,4 @@
-// Series: logs whose super block and first entry are given field by field, and what is printed for
-// each.
+// Series: what commands print for logs whose super block and first entry are given field by field.
 use crate::series::asking::Wanted;
 use crate::series::report::{Report, check};
 use std::alloc::{AllocError, Global};
@@ -7,12 +6,12 @@ use std::sync::Wait;
 use std::thread::Threads;
 use test_devices::Folder;
 
-// Each row is an image: its length in bytes, the size of a log sector, the count of entries, and
-// its first entry. The entry has its sector, its number of sectors, its flags and the length of its
-// data. After `=` are four results, separated by `;`. The first is the listing after the super
-// block's line; `%` means the text of 480 zero bytes, and `-` that not even the super block's line
-// is listed. The second is the fault. The third is the status, if there is no fault. The fourth is
-// what a replay of all counted entries over 16 sectors prints.
+// Rows `length size count sector sectors flags data=listing;fault;status;stop`. The image has
+// `length` bytes, log sectors of `size` bytes and `count` entries. The four next numbers are fields
+// of its first entry: its sector, its number of sectors, its flags and the length of its data.
+// `listing` is what `list` prints after the super block's line; `%` is 480 zero bytes, and `-`
+// means that `list` prints nothing. `fault` is the fault of `list` and `status`, and `status` is
+// what `status` prints. `stop` is the fault of a replay of all counted entries over 16 sectors.
 const IMAGES: &str = "4096 512 7 0 6 0 0=0 @1 write 0+6;21 CutShort;;21 CutShort after 1 entries
 4096 512 1 0 7 0 0=;21 CutShort;;21 CutShort after 0 entries
 4096 512 1 0 0 8 480=0 @1 mark %;;1 1;
@@ -29,13 +28,13 @@ const IMAGES: &str = "4096 512 7 0 6 0 0=0 @1 write 0+6;21 CutShort;;21 CutShort
 
 const TARGET_BYTES: usize = 8192;
 
-// The number of zero bytes of the longest mark in a log sector of 512 bytes, and how each is
-// listed.
+// The longest mark in a log sector of 512 bytes has this many bytes.
 const MARK_BYTES: usize = 480;
 
+// How `list` prints a zero byte of a mark.
 const ZERO_LISTED: &str = "\\00";
 
-/// Lists each image, asks for its status, replays it, and reports the number of images.
+/// Checks the row of each image, and reports how many images there are.
 pub fn run<H: Threads + Wait + Sync>(
     rt: &H,
     alloc: Global,
@@ -54,7 +53,7 @@ pub fn run<H: Threads + Wait + Sync>(
     report.line(line.as_str())
 }
 
-// Reads the image of a row in each way.
+// Checks what `list`, `status` and `replay` print for the image of a row.
 fn check_row<H: Threads + Wait + Sync>(
     rt: &H,
     alloc: Global,
@@ -97,7 +96,7 @@ fn check_row<H: Threads + Wait + Sync>(
     check(rt, alloc, row, &wanted, &mut folder, report)
 }
 
-// Returns a fault's line; nothing for an empty text.
+// Returns the line of a fault, or an empty text if there is no fault.
 fn fault_line(alloc: Global, fault: &str) -> Result<String, AllocError> {
     if fault.is_empty() {
         return Ok(String::new(alloc));
@@ -105,7 +104,7 @@ fn fault_line(alloc: Global, fault: &str) -> Result<String, AllocError> {
     format!(in alloc; "dmlw: {fault}\n")
 }
 
-// Returns a line of output; nothing for an empty text.
+// Returns the text as a line, or an empty text if there is no text.
 fn out_line(alloc: Global, text: &str) -> Result<String, AllocError> {
     if text.is_empty() {
         return Ok(String::new(alloc));
@@ -113,8 +112,8 @@ fn out_line(alloc: Global, text: &str) -> Result<String, AllocError> {
     format!(in alloc; "{text}\n")
 }
 
-// Returns the expected listing of an image with these fields, given the lines after the super
-// block's.
+// Returns what `list` must print for an image with these fields, if `lines` follow the super
+// block's line.
 fn listed_of(alloc: Global, fields: &str, lines: &str) -> Result<String, AllocError> {
     let mut text = String::new(alloc);
     if lines == "-" {
@@ -131,7 +130,7 @@ fn listed_of(alloc: Global, fields: &str, lines: &str) -> Result<String, AllocEr
     Ok(text)
 }
 
-// Appends the lines of a row that follow the super block's.
+// Appends the lines that follow the super block's line, with 480 zero bytes for `%`.
 fn push_lines(text: &mut String, lines: &str) -> Result<(), AllocError> {
     if lines.is_empty() {
         return Ok(());
@@ -148,7 +147,7 @@ fn push_lines(text: &mut String, lines: &str) -> Result<(), AllocError> {
     Ok(())
 }
 
-// Returns the image of a row's fields.
+// Returns the image with a row's fields.
 fn image_of(alloc: Global, fields: &str) -> Result<Vec<u8>, AllocError> {
     let numbers = numbers_of(alloc, fields)?;
     let mut image = Vec::from_slice(alloc, b"rhswfsj\0")?;
@@ -168,7 +167,7 @@ fn number_at(numbers: &[u64], place: usize) -> u64 {
     numbers.get(place).copied().unwrap_or_default()
 }
 
-// Returns the numbers of a row.
+// Returns the numbers of a row's fields.
 fn numbers_of(alloc: Global, fields: &str) -> Result<Vec<u64>, AllocError> {
     let mut numbers = Vec::new(alloc);
     for word in fields.split(' ') {

@@ -1,4 +1,4 @@
-// Layers under a log, and how many calls of a run pass them.
+// Layers under a log, and how many calls of a script pass them.
 use std::alloc::{AllocError, Global};
 
 /// A layer over a log's disk of 32 sectors.
@@ -6,9 +6,9 @@ use std::alloc::{AllocError, Global};
 pub enum Layer {
     Linear,
     Error,
-    /// Up for ten seconds, then down for five.
+    /// It is up for ten seconds, then down for five.
     Flakey,
-    /// Its block 3 fails one write.
+    /// Block 3 of it fails one write.
     Dust,
     Delay,
 }
@@ -21,18 +21,18 @@ const LAYERS: [Layer; 5] = [
     Layer::Delay,
 ];
 
-/// The number of stacks with no layer, one, two and three: 1 + 5 + 25 + 125.
+/// The number of stacks with at most three layers: 1 + 5 + 25 + 125.
 pub const STACKS: u64 = 156;
 
-/// The most layers of a stack.
+/// A stack has at most this many layers.
 const DEPTH: u64 = 3;
 
-/// A time at which the flakey layer is down.
+/// At this time in milliseconds the flakey layer is down.
 pub const LATE: u64 = 12_000;
 
-/// The number of calls of a run that change the log's disk. One makes the log. Two write the
-/// write's entry and its data, and two the entries of the flush and of the end mark. Two settle
-/// these three: a flush, and a write of the super block.
+/// How many calls of a whole script change the log's disk. One makes the log. Two write the write's
+/// header and data, and two more the entries of the flush and of the end mark. The last two settle
+/// the three entries: a flush, and a write of the super block.
 pub const WHOLE_RUN: u64 = 7;
 
 impl Layer {
@@ -47,9 +47,9 @@ impl Layer {
         }
     }
 
-    // Returns how many of a run's calls the layer passes before it fails one. The log is made at
-    // time 0, and the rest is done at `moment`. The fourth call is the first that writes the log's
-    // sector 3.
+    // Returns how many of a script's calls pass the layer until it fails one. The log is made at
+    // time 0, and the rest is done at `moment`. Only the fourth call writes sector 3 of the log,
+    // which is bad in a dust layer.
     fn passes(self, moment: u64) -> u64 {
         match self {
             Layer::Linear | Layer::Delay => WHOLE_RUN,
@@ -60,7 +60,7 @@ impl Layer {
     }
 }
 
-/// Returns how many of a run's calls pass these layers, and a fuse over them, before one fails.
+/// Returns how many of a script's calls pass these layers and a fuse over them until one fails.
 pub fn passed(layers: &[Layer], moment: u64, fuse: Option<u64>) -> u64 {
     let mut passed = fuse.unwrap_or(WHOLE_RUN).min(WHOLE_RUN);
     for layer in layers {
@@ -69,8 +69,8 @@ pub fn passed(layers: &[Layer], moment: u64, fuse: Option<u64>) -> u64 {
     passed
 }
 
-/// Returns stack number `number`, below `STACKS`. The layers are the digits of the number in base
-/// five, with digits from one to five.
+/// Returns stack number `number`, which is below `STACKS`. Its layers are the number's digits in
+/// base five, from the lowest on, with the digits one to five.
 pub fn stack_of(alloc: Global, number: u64) -> Result<Vec<Layer>, AllocError> {
     let mut layers = Vec::new(alloc);
     let mut rest = number;
@@ -84,7 +84,7 @@ pub fn stack_of(alloc: Global, number: u64) -> Result<Vec<Layer>, AllocError> {
     Ok(layers)
 }
 
-// Returns layer number `number`, below five.
+// Returns the layer at index `number` of the five.
 fn layer_at(number: u64) -> Layer {
     LAYERS
         .get(number as usize)

@@ -1,4 +1,4 @@
-// Series: each limit is reached once, with enough memory, and nothing is refused.
+// Series: each limit of the program is reached, and nothing is refused.
 use crate::series::asking::{Wanted, folder_of};
 use crate::series::most_seats::check_recorder;
 use crate::series::report::{Report, check};
@@ -7,27 +7,28 @@ use std::sync::Wait;
 use std::thread::Threads;
 use test_devices::Folder;
 
-// The most seats of a script, and what each prints for a write, a write with FUA and a mark.
+// A script has at most this many seats.
 const SEATS: u64 = 64;
 
+// What a seat prints for a write, a write with FUA and a mark.
 const TOLD: &str = "1 done 2 logged 0 failed 0 not logged 0 refused";
 
-// The most bytes of a script.
+// A script has at most this many bytes.
 const SCRIPT_BYTES: usize = 4_194_304;
 
-// The number of bytes of a mark's text that a log with sectors of 512 bytes keeps.
+// A log with sectors of 512 bytes keeps this many bytes of a mark's text.
 const MARK_BYTES: usize = 479;
 
-// The number of bytes of an image of the largest disk.
+// The image of the largest disk has this many bytes.
 const IMAGE_BYTES: usize = 536_870_912;
 
-// The number of requests that are open at once, more than 65,536.
+// This many requests are open at once, more than 65,536.
 const REQUESTS: u64 = 70_000;
 
-// The number of entries of a log that is read.
+// A log that is read has this many entries.
 const ENTRIES: u64 = 400_000;
 
-// A script whose numbers have 20 digits, and two scripts of disks of the largest size.
+// This script's numbers have 20 digits.
 const LONG_NUMBERS: &str = "data 00000000000000000016
 log 00000000000000000032
 at 18446744073709551615
@@ -36,6 +37,7 @@ c a
 close
 ";
 
+// The data disk of this script has the largest size.
 const LARGE_DATA: &str = "data 1048576
 log 4096
 w a 1046528 2048 41
@@ -46,6 +48,7 @@ c b
 close
 ";
 
+// The log's disk of this script has the largest size.
 const LARGE_LOG: &str = "data 2048
 log 1048576
 w a 0 2048 41
@@ -53,7 +56,7 @@ c a
 close
 ";
 
-/// Reaches each limit, and reports how many there are.
+/// Reaches each limit, and reports how many limits there are.
 pub fn run<H: Threads + Wait + Sync>(
     rt: &H,
     alloc: Global,
@@ -73,7 +76,8 @@ pub fn run<H: Threads + Wait + Sync>(
     report.line(line.as_str())
 }
 
-// Runs these command lines on a folder with this script. None may print a fault.
+// Runs each `(command line, output)` of `lines` on a folder. Each must print exactly its output,
+// and no fault.
 fn check_lines<H: Threads + Wait + Sync>(
     rt: &H,
     alloc: Global,
@@ -89,7 +93,7 @@ fn check_lines<H: Threads + Wait + Sync>(
     check(rt, alloc, case, &wanted, folder, report)
 }
 
-// Checks numbers of 20 digits, in a script and in a command line.
+// Checks that a script and a command line may have numbers of 20 digits.
 fn check_numbers<H: Threads + Wait + Sync>(
     rt: &H,
     alloc: Global,
@@ -116,7 +120,7 @@ fn check_numbers<H: Threads + Wait + Sync>(
     )
 }
 
-// Checks a script of the longest length; nearly all of its bytes are one mark's text.
+// Checks a script of 4 MiB. Nearly all of its bytes are the text of one mark.
 fn check_mark<H: Threads + Wait + Sync>(
     rt: &H,
     alloc: Global,
@@ -143,7 +147,7 @@ fn check_mark<H: Threads + Wait + Sync>(
     check_lines(rt, alloc, "a mark of 4 MiB", &lines, &mut folder, report)
 }
 
-// Checks a data disk of the largest size, and a request of the largest size at its end.
+// Checks a data disk of the largest size, with a request of the largest size at its end.
 fn check_data<H: Threads + Wait + Sync>(
     rt: &H,
     alloc: Global,
@@ -188,7 +192,7 @@ fn check_log<H: Threads + Wait + Sync>(
     )
 }
 
-// Checks writes of one sector that are all open before the first of them ends.
+// Checks 70,000 writes that are all submitted before the first of them completes.
 fn check_requests<H: Threads + Wait + Sync>(
     rt: &H,
     alloc: Global,
@@ -220,7 +224,7 @@ fn check_requests<H: Threads + Wait + Sync>(
     check_lines(rt, alloc, "140,000 events", &lines, &mut folder, report)
 }
 
-// Checks a log of flushes, which is listed, asked for its status and replayed.
+// Lists a log of 400,000 flushes, asks for its status, and replays it.
 fn check_entries<H: Threads + Wait + Sync>(
     rt: &H,
     alloc: Global,
@@ -252,7 +256,7 @@ fn check_entries<H: Threads + Wait + Sync>(
     )
 }
 
-// Returns the image of a log of flushes.
+// Returns the image of a log of 400,000 flushes.
 fn flushes(alloc: Global) -> Result<Vec<u8>, AllocError> {
     let mut image = Vec::from_slice(alloc, b"rhswfsj\0")?;
     for field in [1, ENTRIES, 512] {
@@ -260,8 +264,8 @@ fn flushes(alloc: Global) -> Result<Vec<u8>, AllocError> {
     }
     for _entry in 0..ENTRIES {
         push_sector(&mut image)?;
-        // The entry's sector and number of sectors, and then the flag of a flush and the length of
-        // its data.
+        // The entry's sector and its number of sectors, then the flag of a flush. The length of its
+        // data is 0.
         image.extend_from_slice([0; 16].as_slice())?;
         image.extend_from_slice(&1_u64.to_le_bytes())?;
     }
@@ -275,7 +279,7 @@ fn push_sector(image: &mut Vec<u8>) -> Result<(), AllocError> {
     image.resize(sectors.saturating_mul(512), 0)
 }
 
-// Checks a script with the most seats. Each writes, writes with FUA and marks.
+// Checks a script with 64 seats. Each seat writes, writes with FUA and marks.
 fn check_seats<H: Threads + Wait + Sync>(
     rt: &H,
     alloc: Global,

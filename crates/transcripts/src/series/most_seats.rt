@@ -1,4 +1,4 @@
-// A test of the maximum of a shared recorder: 64 seats and 64 readers of the status.
+// A test of a shared recorder with the most seats and readers: 64 each.
 ghost use Rattle.std.specs.Prelude.{◌≡◌};
 ghost use Rattle.lock_state.specs.PlacedItems.{ground_of};
 ghost use Rattle.sector_disk.specs.DiskView.{shown_of};
@@ -13,14 +13,15 @@ use shared::{Shared, Started, Unnamed};
 use std::alloc::{AllocError, Global};
 use std::marker::Brand;
 
-// The number of seats, and of readers.
+// The recorder has this many seats, and as many readers of its status.
 const MOST: u64 = 64;
 
-// The number of sectors of each disk.
+// Each disk has this many sectors.
 const SECTORS: u64 = 64;
 
 /// Starts a recorder with 64 seats and 64 readers, and lets each reader read the status once.
-/// Reports a difference if a seat or a reader is missing, or a reader doesn't see an empty log.
+/// Reports a difference if a seat or a reader is missing, or if a status isn't that of an empty
+/// log.
 pub fn check_recorder(alloc: Global, report: &mut Report) -> Result<(), AllocError> {
     let device = SectorDisk::new(alloc, SECTORS)?;
     let log = SectorDisk::new(alloc, SECTORS)?;
@@ -41,8 +42,8 @@ pub fn check_recorder(alloc: Global, report: &mut Report) -> Result<(), AllocErr
     Ok(())
 }
 
-// Starts a recorder. Returns the number of its seats, and the number of readers that see the status
-// of an empty log. Returns None if it can't be started.
+// Starts a recorder. Returns how many seats it has, and how many readers read the status of an
+// empty log; None if it can't be started.
 fn start_most<R: Run + Names>(
     alloc: Global,
     unnamed: Unnamed,

@@ -1,11 +1,11 @@
-// The text that is printed for a series, and the number of its cases that differ.
+// What is printed for the series, and how many of their cases differ.
 use crate::series::asking::{Told, Wanted, ask};
 use std::alloc::{AllocError, Global};
 use std::sync::Wait;
 use std::thread::Threads;
 use test_devices::Folder;
 
-/// The text of a report, and its count of differences.
+/// The text to print, and the number of cases that differ.
 #[derive(Drop)]
 pub struct Report {
     text: String,
@@ -38,7 +38,7 @@ impl Report {
         Ok(())
     }
 
-    /// Counts a case that differs. Notes the case, what was printed and what was expected.
+    /// Counts a case that differs. Appends the case, what was printed and what was expected.
     pub fn differs(&mut self, case: &str, told: &Told, wanted: &str) -> Result<(), AllocError> {
         self.differ = self.differ.saturating_add(1);
         writeln!(self.text, "differs:\n{case}\ntold [{}]:", told.status)?;
@@ -48,8 +48,8 @@ impl Report {
     }
 }
 
-/// Runs each command line on a folder's files. Notes each whose output isn't as expected, with the
-/// name of the case.
+/// Runs each command line of `wanted` on the folder's files. Notes each that doesn't print what is
+/// expected, under the name `case`.
 pub fn check<H: Threads + Wait + Sync>(
     rt: &H,
     alloc: Global,

@@ -1,30 +1,32 @@
-// Series: four seats write and mark at once, with a fuse on the log. It compares what each prints,
-// and what the log lists. Also a seat with thousands of writes that each wait for the log, and two
-// seats at once, whose marks are mixed in the log.
+// Series of scripts for `run`. Four seats write and mark at once, with a fuse under the log; what
+// is printed and listed is compared with the expected results. One seat has thousands of entries
+// and waits for each. Two seats mark at once, until their marks are mixed in the log.
 use crate::series::asking::{Told, ask, folder_of};
 use crate::series::report::Report;
 use std::alloc::{AllocError, Global};
 use std::sync::Wait;
 use std::thread::Threads;
 
+// This many seats run at once.
 const SEATS: u64 = 4;
 
+// Each of these seats writes this many sectors.
 const WRITES: u64 = 100;
 
-// The longest fuse.
+// The longest fuse has this many calls.
 const MOST_CALLS: u64 = 20;
 
-// The number of FUA writes, and of marks, in a run of a single seat.
+// A single seat makes this many FUA writes, and as many marks.
 const TURNS: u64 = 2_500;
 
-// The number of marks of each of two seats, and the most runs that are tried until their marks are
-// mixed.
+// Each of two seats makes this many marks.
 const MARKS: u64 = 1_000;
 
+// At most this many runs are tried until the marks of both seats are mixed.
 const TRIES: u64 = 20;
 
-/// Runs four seats with each fuse, a single seat, and two seats at once. Reports the number of
-/// runs.
+/// Runs four seats with each fuse, then a single seat, then two seats at once. Reports how many
+/// runs there were.
 pub fn run<H: Threads + Wait + Sync>(
     rt: &H,
     alloc: Global,
@@ -44,7 +46,7 @@ pub fn run<H: Threads + Wait + Sync>(
     report.line(line.as_str())
 }
 
-// Runs the seats with a fuse of `calls` calls.
+// Runs the four seats with a fuse of `calls` calls under the log.
 fn run_fuse<H: Threads + Wait + Sync>(
     rt: &H,
     alloc: Global,
@@ -84,8 +86,8 @@ fn run_fuse<H: Threads + Wait + Sync>(
     Ok(())
 }
 
-// Runs a seat that writes with FUA and marks, again and again. The writer takes each of its entries
-// next, so an entry may be durable before or after the seat looks for it.
+// Runs a seat that writes with FUA and marks, again and again. The writer takes an entry as soon as
+// it is queued, so the entry may be durable before or after the seat looks for it.
 fn run_alone<H: Threads + Wait + Sync>(
     rt: &H,
     alloc: Global,
@@ -101,7 +103,7 @@ fn run_alone<H: Threads + Wait + Sync>(
     Ok(())
 }
 
-// Returns the script of that seat.
+// Returns the script of the single seat.
 fn script_alone(alloc: Global) -> Result<String, AllocError> {
     let mut text = String::from_str(alloc, "data 16\nlog 7503\nseats 1\n")?;
     for _turn in 0..TURNS {
@@ -110,8 +112,8 @@ fn script_alone(alloc: Global) -> Result<String, AllocError> {
     Ok(text)
 }
 
-// Runs two seats that mark again and again, until in one run each seat has a mark before the last
-// mark of the other. This shows that neither seat waited until the other was done.
+// Runs two seats that mark again and again. Repeats this until each seat has a mark in the log
+// before the other's last mark. Then neither seat waited until the other was done.
 fn run_two<H: Threads + Wait + Sync>(
     rt: &H,
     alloc: Global,
@@ -134,7 +136,7 @@ fn run_two<H: Threads + Wait + Sync>(
     )
 }
 
-// Returns the script of these two seats.
+// Returns the script of the two seats.
 fn script_of_two(alloc: Global) -> Result<String, AllocError> {
     let mut text = String::from_str(alloc, "data 16\nlog 2002\nseats 2\n")?;
     for _mark in 0..MARKS {
@@ -143,7 +145,7 @@ fn script_of_two(alloc: Global) -> Result<String, AllocError> {
     Ok(text)
 }
 
-// Returns whether each of two texts occurs before the last occurrence of the other.
+// Returns whether `one` occurs before the last `other`, and `other` before the last `one`.
 fn are_mixed(listed: &str, one: &str, other: &str) -> bool {
     match (
         listed.find(one),
@@ -158,8 +160,8 @@ fn are_mixed(listed: &str, one: &str, other: &str) -> bool {
     }
 }
 
-// Returns the script: each seat writes a hundred sectors that no other seat writes, one after
-// another, and marks its number.
+// Returns the script of the four seats. Each writes a hundred sectors that no other seat writes,
+// one after another, and then marks its number.
 fn script_of(alloc: Global, calls: u64) -> Result<String, AllocError> {
     let mut text = String::from_str(alloc, "data 400\nlog 807\nseats 4\n")?;
     writeln!(text, "log-layer 0 807 fuse disk 0 {calls}")?;
@@ -179,14 +181,14 @@ fn push_seat(text: &mut String, seat: u64) -> Result<(), AllocError> {
 }
 
 // Returns how many marks are logged under a fuse of `calls` calls. The first call makes the log.
-// Three calls for each mark write its entry, flush, and write the super block. The other writes
-// wait for the close.
+// Each mark takes three calls: a write of its entry, a flush, and a write of the super block. The
+// plain writes are logged only by the close.
 fn marks_of(calls: u64) -> u64 {
     (calls.saturating_sub(1) / 3).min(SEATS)
 }
 
-// Returns whether the run printed the expected lines: each seat has 100 done, and its mark is
-// logged or not logged. As many marks are logged as the fuse has calls for, and logging ended.
+// Returns whether `run` printed what it must: each seat has 100 writes done, and its mark is logged
+// or not logged. The number of logged marks is that of `marks_of`, and logging ended.
 fn is_told(alloc: Global, told: &Told, calls: u64) -> Result<bool, AllocError> {
     let mut logged: u64 = 0;
     let mut is_good = told.status == 3 && told.err.is_empty();
@@ -198,12 +200,12 @@ fn is_told(alloc: Global, told: &Told, calls: u64) -> Result<bool, AllocError> {
     Ok(is_good && logged == marks_of(calls) && told.out.ends_with(" logging_disabled\n"))
 }
 
-// Returns whether a line is the line of a seat whose mark was logged.
+// Returns whether `line` is what a seat prints if its mark was logged.
 fn is_logged(alloc: Global, line: &str, seat: u64) -> Result<bool, AllocError> {
     Ok(line == seat_line(alloc, seat, true)?.as_str())
 }
 
-// Returns the line of a seat whose mark was logged or wasn't.
+// Returns what a seat prints if its mark was logged, or wasn't.
 fn seat_line(alloc: Global, seat: u64, is_logged: bool) -> Result<String, AllocError> {
     let (logged, lost) = if is_logged { (1, 0) } else { (0, 1) };
     format!(in alloc;
@@ -211,8 +213,8 @@ fn seat_line(alloc: Global, seat: u64, is_logged: bool) -> Result<String, AllocE
     )
 }
 
-// Returns whether the log lists, without a fault, its super block and the mark of each seat whose
-// mark was printed as logged.
+// Returns whether `list` prints no fault, and prints the mark of each seat that reported its mark
+// as logged.
 fn lists_marks(alloc: Global, told: &Told, listed: &Told) -> Result<bool, AllocError> {
     let mut is_good = listed.status == 0 && listed.err.is_empty();
     for (seat, line) in (0..SEATS).zip(told.out.as_str().split('\n')) {

@@ -1,5 +1,5 @@
-// Replays of a log onto devices that fail or lie: how many entries are reported as applied, and
-// what each device holds after it.
+// Series: a log is replayed onto devices that fail or lie. It reports how many entries were
+// applied, and how each device's content changed.
 use crate::series::damage::plain_log;
 use crate::series::report::Report;
 use bio::Ms;
@@ -13,25 +13,26 @@ use std::alloc::{AllocError, Global};
 use std::sync::Wait;
 use std::thread::Threads;
 
-// The device has `SECTORS` sectors of zeroes at first.
+// The device has this many sectors; at first they are zeroes.
 const SECTORS: u64 = 16;
 
+// The length of a sector in bytes.
 const SECTOR: usize = 512;
 
-// The longest log that is read here, in bytes.
+// A log that is read here has at most this many bytes.
 const MOST_BYTES: usize = 16_384;
 
-// The number of entries of the log: a write of 65 at sector 5, a flush and a mark. Their replay
-// makes one call of the device, for the write.
+// The log has this many entries: a write of sector 5, a flush and a mark. Their replay makes one
+// call of the device, the write.
 const ENTRIES: u64 = 3;
 
-// A flakey layer that is down all the time.
+// The up and down times of a flakey layer that is always down.
 const UP: u64 = 0;
 
 const DOWN: u64 = 1;
 
-/// Replays the log onto a device that fails at once, one that passes one call, and one that drops
-/// each write. Reports the result of each replay.
+/// Replays the log onto three devices, and reports the result of each replay. One fails its first
+/// call, one passes one call, and one drops each write.
 pub fn run<H: Threads + Wait + Sync>(
     rt: &H,
     alloc: Global,
@@ -48,7 +49,7 @@ pub fn run<H: Threads + Wait + Sync>(
     run_dropped(alloc, &log, report)
 }
 
-// Replays the log onto a device that drops each write.
+// Replays the log onto a device that drops each write, and reports the result.
 fn run_dropped(alloc: Global, log: &[u8], report: &mut Report) -> Result<(), AllocError> {
     let disk = SectorDisk::new(alloc, SECTORS)?;
     let mut target = Flakey::new(disk, UP, DOWN, Feature::DropWrites, Ms::new(0));
@@ -61,7 +62,7 @@ fn run_dropped(alloc: Global, log: &[u8], report: &mut Report) -> Result<(), All
     report.line(line.as_str())
 }
 
-// Returns the result of a replay of all entries, as text.
+// Replays all entries onto `target`, and returns the result as text.
 fn replayed<T: BlockDev>(alloc: Global, log: &[u8], target: &mut T) -> Result<String, AllocError> {
     let Some(mut reader) = reader_of(alloc, log)? else {
         return String::from_str(alloc, "no log");
@@ -83,7 +84,7 @@ fn reader_of(alloc: Global, log: &[u8]) -> Result<Option<LogReader<SectorDisk>>,
     Ok(LogReader::open(alloc, disk).ok())
 }
 
-// Returns how a disk's content changed, in words, by the number of bytes that aren't zeroes.
+// Returns in words how a disk's content changed from zeroes.
 fn left_on(disk: SectorDisk) -> Result<&'static str, AllocError> {
     let bytes = disk.into_bytes()?;
     let changed = bytes.iter().filter(|byte| **byte != 0).count();

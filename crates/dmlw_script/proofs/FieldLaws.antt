@@ -5,7 +5,8 @@ use Rattle.std.specs.Prelude.{◌-◌, ◌==◌, decimal, length, replicate}
 use Rattle.std.proofs.Common.{zero, suc, ◌∙◌}
 use Rattle.std.specs.Prelude.{Result}
 use Rattle.std.specs.Char.{is_ascii_digit}
-use Rattle.std.proofs.lemmas.Bool.{and_from, and_parts}
+use Rattle.std.proofs.lemmas.Bool.{and_from, and_parts, cond-true}
+use Rattle.std.proofs.lemmas.Option.{cond_some}
 use Rattle.std.proofs.lemmas.Bool.Decides.{nat_tests}
 use Rattle.std.proofs.lemmas.Fmt.{digits_decimal}
 use Rattle.std.proofs.lemmas.List.{append-nil}
@@ -14,17 +15,25 @@ use Rattle.dmlw_script.specs.declared.script_id.ScriptId.{ScriptId}
 use Rattle.dmlw_script.specs.Fields.{field_text, option_text, table_text, text_after, text_of}
 use Rattle.dmlw_script.specs.Fields.{word_text, Byte, Choice, Field, Fields, Given, HasFields}
 use Rattle.dmlw_script.specs.Fields.{IsLineWith, IsWord, Name, Number, One, Seat, Table, Text, Word}
-use Rattle.dmlw_script.specs.Ids.{is_id, is_name_byte, letters_of, script_id, IsId}
+use Rattle.dmlw_script.specs.Ids.{id_of_word, is_id, is_name_byte, letters_of, script_id}
 use Rattle.dmlw_script.specs.Lines.{is_line_byte, is_line_text}
 use Rattle.dmlw_script.specs.Plans.{IsName}
 use Rattle.dmlw_script.specs.Words.{byte_text, hex_digit}
-use Rattle.dmlw_script.proofs.WordLaws.{all_weaker, byte_lacks_space, cut_word, id_lacks_space}
+use Rattle.dmlw_script.proofs.WordLaws.{all_weaker, byte_again, byte_lacks_space, cut_word, id_lacks_space}
 use Rattle.dmlw_script.proofs.WordLaws.{lacks, number_lacks_space}
+<<<<<<< HEAD
 use Rattle.refusals.specs.WordLaws.{decimal_number, number_model}
 use Rattle.refusals.specs.Words.{after_byte, before_byte, words_of}
 use Rattle.layer_table.specs.TableLines.{line_answer}
 use Rattle.layer_table.specs.declared.layer_spec.LayerSpec.{LayerSpec}
 use Rattle.layer_table.specs.declared.table_error.TableError.{TableError}
+=======
+use Rattle.refusals.specs.WordLaws.{decimal_number, number_again, number_model}
+use Rattle.refusals.specs.Words.{after_byte, before_byte, number_of, words_of}
+use Rattle.layer_table.specs.TableLines.{line_answer}
+use Rattle.layer_table.specs.declared.layer_spec.LayerSpec.{LayerSpec}
+use Rattle.layer_table.specs.declared.table_error.TableError.{TableError}
+>>>>>>> b151d2c8d8105fbf7f63e846c432dcd4f8694716
 
 -- ---- bytes that may stand in a line
 
@@ -42,15 +51,15 @@ front_zeros word (suc n) lack = (cut_word 0 word (Some (replicate n 0)) lack).0
 name_byte_not_zero : (b : ℕ) → is_name_byte b ≡ true → not (b == 0) ≡ true
 name_byte_not_zero b letter = grind (arith, nat_tests)
 
--- the letters of an id are the id
-pub letters_id : (name : ScriptId) → IsName name → IsId (letters_of name) name
+-- the letters of an id are read as it
+pub letters_id : (name : ScriptId) → IsName name → id_of_word (letters_of name) ≡ Some name
 letters_id name is =
     let word = is.0 in
     let letters : letters_of name ≡ word =
     ap letters_of is.2 ∙ front_zeros word (16 - length word)
     (all_weaker is_name_byte (λ b. not (b == 0)) name_byte_not_zero word
     (and_parts _ _ is.1).1) in
-    (subst (λ (x : List ℕ). is_id x ≡ true) (sym letters) is.1, is.2 ∙ ap script_id (sym letters))
+    ap id_of_word letters ∙ cond-true _ _ _ is.1 ∙ ap Some (sym is.2)
 
 -- two such texts in a row
 pub line_text_append : (a b : List ℕ) → IsLineText a → IsLineText b → IsLineText (a ++ b)
@@ -73,11 +82,16 @@ line_hex half low = grind (arith, nat_tests)
 pub line_number : (n : ℕ) → n < 2 ^ 64 → IsLineText (decimal n)
 line_number n low = all_weaker _ _ line_digit (decimal n) (digits_decimal number_model n low)
 
+-- a number's digits are read as it
+read_decimal : (n : ℕ) → n < 2 ^ 64 → number_of (decimal n) ≡ Some n
+read_decimal n low = number_again (decimal n) n (decimal_number n low)
+
 -- an id's characters are such bytes
 line_id : (name : ScriptId) → IsName name → IsLineText (letters_of name)
 line_id name is =
-    all_weaker is_name_byte is_line_byte line_name_byte (letters_of name)
-    (and_parts _ _ (letters_id name is).0).1
+    let id =
+    cond_some (is_id (letters_of name)) (script_id (letters_of name)) name (letters_id name is) in
+    all_weaker is_name_byte is_line_byte line_name_byte (letters_of name) (and_parts _ _ id.0).1
 
 -- a byte's digits are such bytes
 line_byte : (byte : ℕ) → byte < 256 → IsLineText (byte_text byte)
@@ -104,29 +118,27 @@ FitsWord (Seat seat) = seat < 2 ^ 64
 -- such a word can be written
 pub writable : (word : Word) → FitsWord word → IsWritable word
 writable (Given word) fits = record { good = fits.0; whole = fits.1; is = refl }
-writable (Number n) low =
-    let number = decimal_number n low in
-    record {
-      good = line_number n low;
-      whole = number_lacks_space (decimal n) number.0;
-      is = number;
-    }
-writable (Name name) is =
-    let id = letters_id name is in
-    record {
-      good = line_id name is;
-      whole = id_lacks_space (letters_of name) id.0;
-      is = id;
-    }
+writable (Number n) low = record {
+  good = line_number n low;
+  whole = number_lacks_space (decimal n) n (read_decimal n low);
+  is = read_decimal n low;
+}
+writable (Name name) is = record {
+  good = line_id name is;
+  whole = id_lacks_space (letters_of name) name (letters_id name is);
+  is = letters_id name is;
+}
 writable (Byte byte) low =
-    record { good = line_byte byte low; whole = byte_lacks_space byte low; is = (low, refl) }
-writable (Seat seat) low =
-    let number = decimal_number seat low in
     record {
-      good = line_number seat low;
-      whole = number_lacks_space (decimal seat) number.0;
-      is = (decimal seat, number, refl);
+      good = line_byte byte low;
+      whole = byte_lacks_space byte low;
+      is = byte_again byte low;
     }
+writable (Seat seat) low = record {
+  good = line_number seat low;
+  whole = number_lacks_space (decimal seat) seat (read_decimal seat low);
+  is = (decimal seat, read_decimal seat low, refl);
+}
 
 -- ---- fields
 

@@ -29,7 +29,6 @@ use Rattle.dmlw_script.specs.Fields.{size_fields, submission_fields, submission_
 use Rattle.dmlw_script.specs.Fields.{Field, Given, HasFields, IsWord, Name, Number, One, Says, Text}
 use Rattle.dmlw_script.specs.Fields.{Word}
 use Rattle.dmlw_script.specs.Grammar.{ParsesAs}
-use Rattle.refusals.specs.WordLaws.{number_again, number_read}
 use Rattle.dmlw_script.specs.Lines.{is_line_text, is_skipped}
 use Rattle.dmlw_script.specs.Ids.{id_of_word}
 use Rattle.dmlw_script.specs.inside.LineParser.{◌>>=◌, body_words, disk_of_word, found_options}
@@ -53,8 +52,8 @@ use Rattle.dmlw_script.specs.Plans.{WritesByte}
 use Rattle.dmlw_script.proofs.FieldLaws.{Fits, FitsLine, FitsWord}
 use Rattle.dmlw_script.proofs.FoldLaws.{barred_ok}
 use Rattle.dmlw_script.proofs.WordLaws.{before_all, bind_at, bind_some}
-use Rattle.dmlw_script.proofs.WordLaws.{byte_again, byte_read, chosen, cut_alone}
-use Rattle.dmlw_script.proofs.WordLaws.{first_some, id_again, id_lacks_space, id_read}
+use Rattle.dmlw_script.proofs.WordLaws.{chosen, cut_alone}
+use Rattle.dmlw_script.proofs.WordLaws.{first_some, id_lacks_space}
 use Rattle.dmlw_script.proofs.WordLaws.{lacks, map_some, number_lacks_space, same_bytes, same_some}
 use Rattle.dmlw_script.proofs.WordLaws.{verb_read}
 
@@ -101,26 +100,20 @@ last_has word text lack is =
 -- the last number
 pub last_number_read : (text : List ℕ) (n : ℕ) → number_of text ≡ Some n
     → HasFields (number n ∷ []) (Some text)
-last_number_read text n e =
-    let is = number_read text n e in
-    last_has (Number n) text (number_lacks_space text is.0) is
+last_number_read text n e = last_has (Number n) text (number_lacks_space text n e) e
 
 pub last_number_again : (text : List ℕ) (n : ℕ) → HasFields (number n ∷ []) (Some text)
     → number_of text ≡ Some n
-last_number_again text n has =
-    ap number_of (last_word text has.1) ∙ number_again (before_byte 32 text) n has.0
+last_number_again text n has = ap number_of (last_word text has.1) ∙ has.0
 
 -- the last id
 last_id_read : (text : List ℕ) (name : ScriptId) → id_of_word text ≡ Some name
     → HasFields (One (Name name) ∷ []) (Some text)
-last_id_read text name e =
-    let is = id_read text name e in
-    last_has (Name name) text (id_lacks_space text is.0) is
+last_id_read text name e = last_has (Name name) text (id_lacks_space text name e) e
 
 last_id_again : (text : List ℕ) (name : ScriptId) → HasFields (One (Name name) ∷ []) (Some text)
     → id_of_word text ≡ Some name
-last_id_again text name has =
-    ap id_of_word (last_word text has.1) ∙ id_again (before_byte 32 text) name has.0
+last_id_again text name has = ap id_of_word (last_word text has.1) ∙ has.0
 
 -- ---- options
 
@@ -239,11 +232,11 @@ write_words_read words s e =
     × HasFields (submission_fields x) (Some words)) (same_some _ s o.2) (
       refl,
       (
-        number_read (before_byte 32 words) f.0 f.1,
+        f.1,
         left_with (number g.0 ∷ One (Byte h.0) ∷ option_fields o.0) (after_byte 32 words) b.0 b.1 (
-          number_read (before_byte 32 b.0) g.0 g.1,
+          g.1,
           left_with (One (Byte h.0) ∷ option_fields o.0) (after_byte 32 b.0) c.0 c.1 (
-            byte_read (before_byte 32 c.0) h.0 h.1,
+            h.1,
             options_read (after_byte 32 c.0) o.0 o.1,
           ),
         ),
@@ -259,7 +252,7 @@ sectors_read words sectors e =
     let c = bind_some (number_of b.0) _ sectors b.2 in
     subst (λ (x : ℕ × ℕ). HasFields (number x.0 ∷ number x.1 ∷ []) (Some words))
     (same_some (a.0, c.0) sectors c.2) (
-      number_read (before_byte 32 words) a.0 a.1,
+      a.1,
       left_with (number c.0 ∷ []) (after_byte 32 words) b.0 b.1 (last_number_read b.0 c.0 c.1),
     )
 
@@ -292,9 +285,9 @@ write_words_again words first count byte options has =
     let c = word_left (Byte byte) (option_fields options) (after_byte 32 b.0) b.3 in
     bind_at _ _ _ _ b.1
     (bind_at _ _ _ _ c.1
-    (bind_at _ _ _ _ (number_again (before_byte 32 words) first has.0)
-    (bind_at _ _ _ _ (number_again (before_byte 32 b.0) count b.2)
-    (bind_at _ _ _ _ (ap byte_of c.2.1 ∙ byte_again byte c.2.0)
+    (bind_at _ _ _ _ has.0
+    (bind_at _ _ _ _ b.2
+    (bind_at _ _ _ _ c.2
     (bind_at _ _ _ _ (options_again (after_byte 32 c.0) options c.3) refl)))))
 
 -- so are sectors
@@ -303,9 +296,15 @@ sectors_again : (words : List ℕ) (first count : ℕ)
     → sectors_of words ≡ Some (first, count)
 sectors_again words first count has =
     let c = word_left (Number count) [] (after_byte 32 words) has.1 in
-    bind_at _ _ _ _ (number_again (before_byte 32 words) first has.0)
+    bind_at _ _ _ _ has.0
     (bind_at _ _ _ _ c.1
     (bind_at _ _ _ _ (last_number_again c.0 count (c.2, c.3)) refl))
+
+-- a submission isn't a mark
+pub no_mark : (s : Submission) → bytes_eq (submission_word s) (codes "mark") ≡ false
+no_mark (submits.Write first count byte options) = refl
+no_mark submits.Flush = refl
+no_mark (submits.Discard first count) = refl
 
 -- a submission is heard as it is
 pub submission_again : (s : Submission) (verb : List ℕ) (left : Option (List ℕ))
@@ -336,7 +335,7 @@ submit_read verb words s e =
     let b = bind_some (submission_of verb (after_byte 32 words)) _ s a.2 in
     let r = submission_read verb (after_byte 32 words) b.0 b.1 in
     subst (λ (x : LineMeaning). SaysWords words verb x) (same_some _ s b.2)
-    (r.0, (id_read (before_byte 32 words) a.0 a.1, r.1))
+    (r.0, (a.1, r.1))
 
 -- a line of the body
 body_read : (verb words : List ℕ) (s : LineMeaning) → body_words verb words ≡ Some s
@@ -387,7 +386,7 @@ head_read verb words s =
     (same_some (head_lines.Log a.0 b.0) s b.2) (
       refl,
       (
-        number_read (before_byte 32 words) a.0 a.1,
+        a.1,
         size_read (after_byte 32 words) b.0 b.1,
       ),
     ))
@@ -443,7 +442,7 @@ picks_read (pick ∷ picks) (Some words) e =
     let parts : p.0 ∷ p.1 ≡ pick ∷ picks = p.4 in
     let one : p.0 ≡ pick = cc in
     let more : p.1 ≡ picks = cc in (
-      number_read (before_byte 32 words) pick (p.2 ∙ ap Some one),
+      p.2 ∙ ap Some one,
       picks_read picks (after_byte 32 words) (p.3 ∙ ap Some more),
     )
 
@@ -456,7 +455,7 @@ picks_again (pick ∷ picks) None has = absurd has
 picks_again (pick ∷ picks) (Some words) has =
     picks_first words
     ∙ ap (λ o. with_number o (picks_of (after_byte 32 words)))
-    (number_again (before_byte 32 words) pick has.0)
+    has.0
     ∙ ap (with_number (Some pick)) (picks_again picks (after_byte 32 words) has.1)
 
 -- a mark
@@ -491,7 +490,7 @@ message_read (Some words) s e =
       (
         disk_read (before_byte 32 words) d.0 d.1,
         left_with (number n.0 ∷ Text t.0 ∷ []) (after_byte 32 words) a.0 a.1 (
-          number_read (before_byte 32 a.0) n.0 n.1,
+          n.1,
           left_with (Text t.0 ∷ []) (after_byte 32 a.0) t.0 t.1 (p.0, refl),
         ),
       ),
@@ -528,7 +527,7 @@ pub log_again : (words : List ℕ) (n : ℕ) (size : SectorSize)
     → HasFields (number n ∷ size_fields size) (Some words)
     → log_of words ≡ Some (head_lines.Log n size)
 log_again words n size has =
-    bind_at _ _ _ _ (number_again (before_byte 32 words) n has.0)
+    bind_at _ _ _ _ has.0
     (bind_at _ _ _ _ (size_again size (after_byte 32 words) has.1) refl)
 
 -- a line that submits is heard as it is
@@ -536,7 +535,7 @@ submit_again : (s : Submission) (verb words : List ℕ) (name : ScriptId) → ve
     → HasFields (One (Name name) ∷ submission_fields s) (Some words)
     → submit_of verb words ≡ Some (submit name s)
 submit_again s verb words name is has =
-    bind_at _ _ _ _ (id_again (before_byte 32 words) name has.0)
+    bind_at _ _ _ _ has.0
     (bind_at _ _ _ _ (submission_again s verb (after_byte 32 words) is has.1) refl)
 
 -- a word that names a disk is heard as it is
@@ -554,7 +553,7 @@ message_again over layer text words has =
     let t = text_left text (after_byte 32 a.0) a.3 in
     bind_at _ _ _ _ (disk_again over (before_byte 32 words) has.0)
     (bind_at _ _ _ _ a.1
-    (bind_at _ _ _ _ (number_again (before_byte 32 a.0) layer a.2)
+    (bind_at _ _ _ _ a.2
     (bind_at _ _ _ _ t.0 (cond-true _ _ _ t.1))))
 
 -- a mark is heard as it is

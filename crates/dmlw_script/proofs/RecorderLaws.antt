@@ -32,7 +32,10 @@ use Rattle.dmlw_script.specs.Plans.{data_line, log_line, head_of, lines_of_body,
 use Rattle.dmlw_script.specs.Plans.{lines_of_script, top_of, with_ending, ArePicks, Disk, IsPlan}
 use Rattle.dmlw_script.specs.Plans.{ScriptValue, WritesByte}
 use Rattle.dmlw_script.specs.FirstFault.{bare, with_layer}
-use Rattle.refusals.specs.WordLaws.{number_low}
+use Rattle.refusals.specs.WordLaws.{number_low, number_read}
+use Rattle.std.proofs.lemmas.Option.{cond_some}
+use Rattle.dmlw_script.specs.Ids.{is_id, script_id}
+use Rattle.dmlw_script.proofs.WordLaws.{byte_low}
 use Rattle.refusals.specs.Words.{after_byte, before_byte}
 use Rattle.dmlw_script.specs.inside.Readers.{body_line, crash_line, finish_step, finished}
 use Rattle.dmlw_script.specs.inside.Readers.{has_begun, nothing, parsed_step, with_head, Progress}
@@ -61,7 +64,7 @@ numbers_low : (picks : List ℕ) (left : Option (List ℕ)) → HasFields (map n
 numbers_low [] left has = tt
 numbers_low (pick ∷ picks) None has = absurd has
 numbers_low (pick ∷ picks) (Some words) has =
-    (number_low (before_byte 32 words) pick has.0, numbers_low picks (after_byte 32 words) has.1)
+    (number_low (before_byte 32 words) pick (number_read (before_byte 32 words) pick has.0), numbers_low picks (after_byte 32 words) has.1)
 
 -- a write writes a byte
 pub fine_submission : (s : Submission) (left : Option (List ℕ)) → HasFields (submission_fields s) left
@@ -71,7 +74,8 @@ fine_submission (submits.Write first count byte options) left has =
     word_left (Number first) (number count ∷ One (Byte byte) ∷ option_fields options) left has in
     let m =
     word_left (Number count) (One (Byte byte) ∷ option_fields options) (after_byte 32 n.0) n.3 in
-    let b = word_left (Byte byte) (option_fields options) (after_byte 32 m.0) m.3 in b.2.0
+    let b = word_left (Byte byte) (option_fields options) (after_byte 32 m.0) m.3 in
+    byte_low (before_byte 32 b.0) byte b.2
 fine_submission s left has = tt
 
 -- what a line says is fine
@@ -79,17 +83,18 @@ fine_left : (s : LineMeaning) (verb : List ℕ) (left : Option (List ℕ))
     → Says verb left (fields_of s) → IsFineLine s
 fine_left (parsed_lines.Head said) verb left says = fine_head said verb left says
 fine_left (parsed_lines.Body (body_lines.Submit name s)) verb (Some words) says =
-    let id = says.1.0 in
-    ((before_byte 32 words, id.0, id.1), fine_submission s (after_byte 32 words) says.1.1)
+    let word = before_byte 32 words in
+    let id = cond_some (is_id word) (script_id word) name says.1.0 in
+    ((word, id.0, sym id.1), fine_submission s (after_byte 32 words) says.1.1)
 fine_left (parsed_lines.Body (body_lines.Submit name s)) verb None says = absurd says.1
 fine_left (parsed_lines.Body (body_lines.Step (steps.Mark text))) verb left says =
     let t = text_left text left says.1 in t.1
 fine_left (parsed_lines.Body (body_lines.Step (steps.At moment))) verb left says =
-    let n = word_left (Number moment) [] left says.1 in number_low (before_byte 32 n.0) moment n.2
+    let n = word_left (Number moment) [] left says.1 in number_low (before_byte 32 n.0) moment (number_read (before_byte 32 n.0) moment n.2)
 fine_left (parsed_lines.Body (body_lines.Step (steps.Message over layer text))) verb left says =
     let d = word_left (Given (disk_word over)) (number layer ∷ Text text ∷ []) left says.1 in
     let n = word_left (Number layer) (Text text ∷ []) (after_byte 32 d.0) d.3 in
-    let t = text_left text (after_byte 32 n.0) n.3 in (number_low (before_byte 32 n.0) layer n.2, t.1)
+    let t = text_left text (after_byte 32 n.0) n.3 in (number_low (before_byte 32 n.0) layer (number_read (before_byte 32 n.0) layer n.2), t.1)
 fine_left (parsed_lines.Crash picks) verb left says = numbers_low picks left says.1
 fine_left s verb left says = tt
 

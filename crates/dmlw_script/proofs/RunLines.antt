@@ -4,10 +4,8 @@ use Rattle.std.proofs.Common.{None, ⊎_elim, refl, ap, subst, ◌∙◌, sym}
 use Rattle.std.specs.Prelude.{◌==◌, codes}
 use Rattle.std.specs.Option.{option_map, option_or}
 use Rattle.std.specs.Str.{bytes_eq}
-use Rattle.std.proofs.lemmas.Bool.{cases_Bool, cond-true, eqb-true}
+use Rattle.std.proofs.lemmas.Bool.{cases_Bool, cond-false, cond-true, eqb-true}
 use Rattle.std.proofs.lemmas.Option.{cond_some}
-use Rattle.dmlw_script.specs.declared.command.Submission.{Submission}
-use Rattle.dmlw_script.specs.declared.command.Submission.TheVariants as submits
 use Rattle.dmlw_script.specs.declared.disk_name.DiskName.TheVariants as disks
 use Rattle.dmlw_script.specs.declared.line.HeadLine.{HeadLine}
 use Rattle.dmlw_script.specs.declared.line.HeadLine.TheVariants as head_lines
@@ -26,10 +24,9 @@ use Rattle.dmlw_script.specs.inside.RunLineParser.{seat_of}
 use Rattle.dmlw_script.proofs.WordLaws.{bind_at, bind_some, chosen, first_some, map_some}
 use Rattle.dmlw_script.proofs.WordLaws.{same_bytes, same_some, verb_read}
 use Rattle.dmlw_script.proofs.LineParserLaws.{head_read, kept_by, last_number_again}
-use Rattle.dmlw_script.proofs.LineParserLaws.{last_number_read, log_again, submission_again}
+use Rattle.dmlw_script.proofs.LineParserLaws.{last_number_read, log_again, no_mark, submission_again}
 use Rattle.dmlw_script.proofs.LineParserLaws.{submission_read, text_left}
-use Rattle.refusals.specs.WordLaws.{number_again, number_read}
-use Rattle.refusals.specs.Words.{after_byte, before_byte, number_of, IsNumber}
+use Rattle.refusals.specs.Words.{after_byte, before_byte, number_of}
 
 -- ---- what is heard is said
 
@@ -67,7 +64,7 @@ seat_read : (verb : List ℕ) (seat : ℕ) → seat_of verb ≡ Some seat → Is
 seat_read [] seat e = absurd (cc)
 seat_read (byte ∷ word) seat e =
     chosen (byte == 115) _ _ (Some seat) e (λ s is.
-    (word, number_read word seat is, ap (λ (b : ℕ). b ∷ word) (eqb-true byte 115 s)))
+    (word, is, ap (λ (b : ℕ). b ∷ word) (eqb-true byte 115 s)))
     (λ other none. absurd (cc none))
 
 -- the line says this, by its first word and the others
@@ -111,39 +108,32 @@ says_run line said e = run_parts_read (before_byte 32 line) (after_byte 32 line)
 
 -- ---- what is said is heard
 
--- a submission is heard of its first word and others, since that isn't `mark`
-submitted : (verb : List ℕ) (left : Option (List ℕ)) (s : Submission) → verb ≡ submission_word s
-    → submission_of verb left ≡ Some s → call_of verb left ≡ Some (calls.Submit s)
-submitted verb left (submits.Write first count byte options) is heard =
-    rw is (ap (option_map calls.Submit) (rw is at heard))
-submitted verb left (submits.Discard first count) is heard =
-    rw is (ap (option_map calls.Submit) (rw is at heard))
-submitted verb left submits.Flush is heard =
-    rw is (ap (option_map calls.Submit) (rw is at heard))
-
 -- what a seat does is heard as it is
 call_again : (call : Call) (words : List ℕ) → IsLineWith words (call_fields call)
     → call_of (before_byte 32 words) (after_byte 32 words) ≡ Some call
 call_again (calls.Submit submission) words says =
-    submitted (before_byte 32 words) (after_byte 32 words) submission says.0
-    (submission_again submission (before_byte 32 words) (after_byte 32 words) says.0 says.1)
+    let left = after_byte 32 words in
+    let heard = submission_again submission (submission_word submission) left refl says.1 in
+    ap (λ (v : List ℕ). call_of v left) says.0 ∙ cond-false _ _ _ (no_mark submission)
+    ∙ ap (option_map calls.Submit) heard
 call_again (calls.Mark text) words says =
     let t = text_left text (after_byte 32 words) says.1 in
     ap (λ (v : List ℕ). call_of v (after_byte 32 words)) says.0
     ∙ ap (call_of (codes "mark")) t.0 ∙ cond-true _ _ _ t.1
 
 -- a seat's first word isn't that of the number of seats
-not_seats : (word : List ℕ) (seat : ℕ) → IsNumber word seat → bytes_eq word (codes "eats") ≡ false
+not_seats : (word : List ℕ) (seat : ℕ) → number_of word ≡ Some seat
+    → bytes_eq word (codes "eats") ≡ false
 not_seats word seat is =
     ⊎_elim
     (λ (same : bytes_eq word (codes "eats") ≡ true).
-    absurd (let both = sym (number_again word seat is)
+    absurd (let both = sym is
     ∙ ap number_of (same_bytes word (codes "eats") same) in cc))
     (λ (other : bytes_eq word (codes "eats") ≡ false). other)
     (cases_Bool (bytes_eq word (codes "eats")))
 
 -- a seat's line is no line of a head
-not_head : (word words : List ℕ) (seat : ℕ) → IsNumber word seat
+not_head : (word words : List ℕ) (seat : ℕ) → number_of word ≡ Some seat
     → run_head_line (codes "s" ++ word) words ≡ None
 not_head word words seat is =
     ap (λ (t : Bool). cond t (option_map run_lines.Seats (number_of words)) None)
@@ -174,7 +164,7 @@ run_parts_again (run_lines.Body said) verb left says =
     ∙ ap (λ (v : List ℕ). run_line_parts v (Some l.0)) says.0.2
     ∙ ap (λ (head : Option RunLine). option_or head (seat_line (115 ∷ says.0.0) l.0))
     (not_head says.0.0 l.0 said.seat says.0.1)
-    ∙ bind_at _ _ _ _ (number_again says.0.0 said.seat says.0.1)
+    ∙ bind_at _ _ _ _ says.0.1
     (bind_at _ _ _ _ (call_again said.call l.0 l.2) refl)
 run_parts_again said verb left says = absurd says.1
 

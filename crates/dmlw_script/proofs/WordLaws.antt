@@ -14,11 +14,11 @@ use Rattle.std.proofs.lemmas.List.{append-nil}
 use Rattle.std.proofs.lemmas.Slice.Eq.{bytes_eq-Decides}
 use Rattle.std.proofs.lemmas.Option.{cond_some}
 use Rattle.dmlw_script.specs.declared.script_id.ScriptId.{ScriptId}
-use Rattle.dmlw_script.specs.Fields.{number}
-use Rattle.dmlw_script.specs.Ids.{is_id, is_name_byte, id_of_word, IsId}
+use Rattle.dmlw_script.specs.Ids.{is_id, is_name_byte, id_of_word, script_id}
+use Rattle.refusals.specs.WordLaws.{number_read}
 use Rattle.dmlw_script.specs.inside.LineParser.{◌>>=◌}
 use Rattle.dmlw_script.specs.Words.{byte_from, byte_of, byte_text, half_of, hex_digit}
-use Rattle.refusals.specs.Words.{after_byte, before_byte, is_number}
+use Rattle.refusals.specs.Words.{after_byte, before_byte, number_of}
 
 -- ---- choices
 
@@ -133,71 +133,51 @@ cut_alone mark word lack =
     (append-nil word) (cut_word mark word None lack)
 
 -- no space stands in a number
-pub number_lacks_space : (word : List ℕ) → is_number word ≡ true → lacks 32 word ≡ true
-number_lacks_space word number =
-    let digits : list_all is_ascii_digit word ≡ true = (and_parts _ _ (and_parts _ _ number).0).1 in
+pub number_lacks_space : (word : List ℕ) (n : ℕ) → number_of word ≡ Some n → lacks 32 word ≡ true
+number_lacks_space word n e =
+    let number = number_read word n e in
+    let digits : list_all is_ascii_digit word ≡ true =
+    (and_parts _ _ (and_parts _ _ number.0).0).1 in
     all_weaker _ _ digit_not_space word digits
 
 -- no space stands in an id
-pub id_lacks_space : (word : List ℕ) → is_id word ≡ true → lacks 32 word ≡ true
-id_lacks_space word id = all_weaker _ _ name_byte_not_space word (and_parts _ _ id).1
+pub id_lacks_space : (word : List ℕ) (name : ScriptId) → id_of_word word ≡ Some name
+    → lacks 32 word ≡ true
+id_lacks_space word name e =
+    let id = cond_some (is_id word) (script_id word) name e in
+    all_weaker _ _ name_byte_not_space word (and_parts _ _ id.0).1
 
 -- ---- numbers, ids and bytes
 
--- what is read as an id is one
-pub id_read : (word : List ℕ) (name : ScriptId) → id_of_word word ≡ Some name → IsId word name
-id_read word name e = let parts = cond_some _ _ _ e in (parts.0, sym parts.1)
+-- a digit is below 16
+half_low : (digit half : ℕ) → half_of digit ≡ Some half → half < 16
+half_low digit half e =
+    chosen _ _ _ _ e (λ low is. decimal_low low (same_some _ half is))
+    (λ other is. let high = cond_some _ _ _ is in letter_low high.0 high.1)
+  where
+    decimal_low : (nat_le 48 digit && nat_le digit 57) ≡ true → digit - 48 ≡ half → half < 16
+    decimal_low range value = grind (arith, nat_tests)
 
--- an id is read as it is
-pub id_again : (word : List ℕ) (name : ScriptId) → IsId word name → id_of_word word ≡ Some name
-id_again word name is = cond-true _ _ _ is.0 ∙ ap Some (sym is.1)
-
--- a digit from 0 to 9
-half_low : (digit half : ℕ) → (nat_le 48 digit && nat_le digit 57) ≡ true → digit - 48 ≡ half
-    → (half < 16) × (digit ≡ hex_digit half)
-half_low digit half range value = (grind (arith, nat_tests), grind (arith, nat_tests))
-
--- a digit from a to f
-half_high : (digit half : ℕ) → (nat_le 97 digit && nat_le digit 102) ≡ true → digit - 87 ≡ half
-    → (half < 16) × (digit ≡ hex_digit half)
-half_high digit half range value = (grind (arith, nat_tests), grind (arith, nat_tests))
-
--- what is read as a digit is one
-half_read : (digit half : ℕ) → half_of digit ≡ Some half → (half < 16) × (digit ≡ hex_digit half)
-half_read digit half e =
-    chosen _ _ _ _ e (λ low is. half_low digit half low (cc)) (λ other is.
-    let high = cond_some _ _ _ is in half_high digit half high.0 high.1)
+    letter_low : (nat_le 97 digit && nat_le digit 102) ≡ true → digit - 87 ≡ half → half < 16
+    letter_low range value = grind (arith, nat_tests)
 
 -- a digit is read as it is
 half_again : (half : ℕ) → half < 16 → half_of (hex_digit half) ≡ Some half
 half_again half low = grind (arith, nat_tests)
 
--- a byte has two digits
-byte_parts : (h l : Option ℕ) (byte : ℕ) → byte_from h l ≡ Some byte
-    → (x : ℕ) × (y : ℕ) × (h ≡ Some x) × (l ≡ Some y) × (16 * x + y ≡ byte)
-byte_parts (Some x) (Some y) byte e = (x, y, refl, refl, cc)
-byte_parts h l byte e = absurd (cc)
-
--- two digits are a byte's
-byte_two : (high low byte x y : ℕ) → x < 16 → high ≡ hex_digit x → y < 16 → low ≡ hex_digit y
-    → 16 * x + y ≡ byte → (byte < 256) × (high ∷ low ∷ [] ≡ byte_text byte)
-byte_two high low byte x y x_low is_x y_low is_y sum =
-    let over : x ≡ byte / 16 = omega arith in
-    let rest : y ≡ byte % 16 = omega arith in (
-      omega arith,
-      ap (λ d. d ∷ low ∷ []) (is_x ∙ ap hex_digit over)
-          ∙ ap (λ d. hex_digit (byte / 16) ∷ d ∷ []) (is_y ∙ ap hex_digit rest),
-    )
-
--- the byte of two digits
-pub byte_read : (word : List ℕ) (byte : ℕ) → byte_of word ≡ Some byte
-    → (byte < 256) × (word ≡ byte_text byte)
-byte_read (high ∷ low ∷ []) byte e =
-    let parts = byte_parts (half_of high) (half_of low) byte e in
-    let h = half_read high parts.0 parts.2 in
-    let l = half_read low parts.1 parts.3 in
-    byte_two high low byte parts.0 parts.1 h.0 h.1 l.0 l.1 parts.4
-byte_read word byte e = absurd (cc)
+-- what is read as a byte is one
+pub byte_low : (word : List ℕ) (byte : ℕ) → byte_of word ≡ Some byte → byte < 256
+byte_low (high ∷ low ∷ []) byte e =
+    from_halves (half_of high) (half_of low) (half_low high) (half_low low) e
+  where
+    from_halves : (h l : Option ℕ) → ((x : ℕ) → h ≡ Some x → x < 16)
+        → ((y : ℕ) → l ≡ Some y → y < 16) → byte_from h l ≡ Some byte → byte < 256
+    from_halves (Some x) (Some y) h_low l_low e =
+        let first = h_low x refl in
+        let second = l_low y refl in
+        let sum : 16 * x + y ≡ byte = cc in omega arith
+    from_halves h l h_low l_low e = absurd (cc)
+byte_low word byte e = absurd (cc)
 
 -- a byte is read as it is
 pub byte_again : (byte : ℕ) → byte < 256 → byte_of (byte_text byte) ≡ Some byte

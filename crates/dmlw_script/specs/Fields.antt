@@ -1,6 +1,6 @@
 -- What the words of a script's lines are: each kind of line has a first word, and after it these
 -- fields. The grammar and the canonical text of a line follow from them.
-use Rattle.std.specs.Prelude.{◌≡◌, ℕ, ◌<◌, Bool, true, false, List, [], ◌∷◌, ◌++◌, Option, Some}
+use Rattle.std.specs.Prelude.{◌≡◌, ℕ, Bool, true, false, List, [], ◌∷◌, ◌++◌, Option, Some}
 use Rattle.std.specs.Prelude.{None, Result, Ok, Err, codes, decimal, map, if◌then◌else◌}
 use Rattle.bio.specs.declared.sector_size.SectorSize.{SectorSize}
 use Rattle.bio.specs.declared.sector_size.SectorSize.TheVariants as sizes
@@ -20,16 +20,25 @@ use Rattle.dmlw_script.specs.declared.run_line.RunLine.TheVariants as run_lines
 use Rattle.dmlw_script.specs.declared.script_id.ScriptId.{ScriptId}
 use Rattle.dmlw_script.specs.declared.seat_call.Call.{Call}
 use Rattle.dmlw_script.specs.declared.seat_call.Call.TheVariants as calls
-use Rattle.dmlw_script.specs.Ids.{letters_of, IsId}
+use Rattle.dmlw_script.specs.Ids.{id_of_word, letters_of}
 use Rattle.dmlw_script.specs.LineMeaning.{LineMeaning}
 use Rattle.dmlw_script.specs.LineMeaning as parsed_lines
 use Rattle.dmlw_script.specs.Lines.{is_line_text}
+<<<<<<< HEAD
 use Rattle.dmlw_script.specs.Words.{byte_text}
 use Rattle.refusals.specs.Words.{after_byte, before_byte, words_of, IsNumber}
 use Rattle.layer_table.specs.TableLines.{line_answer}
 use Rattle.layer_table.specs.Texts as table_texts
 use Rattle.layer_table.specs.declared.layer_spec.LayerSpec.{LayerSpec}
 use Rattle.layer_table.specs.declared.table_error.TableError.{TableError}
+=======
+use Rattle.dmlw_script.specs.Words.{byte_of, byte_text}
+use Rattle.refusals.specs.Words.{after_byte, before_byte, number_of, words_of}
+use Rattle.layer_table.specs.TableLines.{line_answer}
+use Rattle.layer_table.specs.Texts as table_texts
+use Rattle.layer_table.specs.declared.layer_spec.LayerSpec.{LayerSpec}
+use Rattle.layer_table.specs.declared.table_error.TableError.{TableError}
+>>>>>>> b151d2c8d8105fbf7f63e846c432dcd4f8694716
 
 -- one word: a given one, a number, an id, a byte, or the name of a seat, which is `s` and a number
 pub data Word : Type 0 where
@@ -149,10 +158,11 @@ run_fields (run_lines.Body said) =
 -- these bytes are the word
 abbrev pub IsWord : List ℕ → Word → Type 0
 IsWord bytes (Given word) = bytes ≡ word
-IsWord bytes (Number n) = IsNumber bytes n
-IsWord bytes (Name name) = IsId bytes name
-IsWord bytes (Byte byte) = (byte < 256) × (bytes ≡ byte_text byte)
-IsWord bytes (Seat seat) = (digits : List ℕ) × IsNumber digits seat × (bytes ≡ 115 ∷ digits)
+IsWord bytes (Number n) = number_of bytes ≡ Some n
+IsWord bytes (Name name) = id_of_word bytes ≡ Some name
+IsWord bytes (Byte byte) = byte_of bytes ≡ Some byte
+IsWord bytes (Seat seat) =
+    (digits : List ℕ) × (number_of digits ≡ Some seat) × (bytes ≡ 115 ∷ digits)
 
 -- what is left of a line has these fields, in their order. Each word ends before the next space,
 -- or at the end of the line. A text or a table line is all that is left

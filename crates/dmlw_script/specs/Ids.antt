@@ -1,6 +1,6 @@
 -- Ids, and the names that are stored for them.
-use Rattle.std.specs.Prelude.{◌≡◌, ℕ, ◌-◌, Bool, true, ◌&&◌, ◌||◌, List, ◌++◌, Option, Some, None}
-use Rattle.std.specs.Prelude.{length, nat_lt, nat_le, replicate, if◌then◌else◌, nat_eq}
+use Rattle.std.specs.Prelude.{ℕ, ◌-◌, Bool, ◌&&◌, ◌||◌, List, ◌++◌, Option, Some, None, length}
+use Rattle.std.specs.Prelude.{nat_lt, nat_le, replicate, if◌then◌else◌, nat_eq}
 use Rattle.std.specs.Char.{is_ascii_digit}
 use Rattle.std.specs.Cmp.Lexicographic.{pointwise}
 use Rattle.std.specs.List.{list_all}
@@ -26,10 +26,6 @@ letters_of name = before_byte 0 name.letters
 -- the name of a word, if it is an id
 abbrev pub id_of_word : List ℕ → Option ScriptId
 id_of_word word = if is_id word then Some (script_id word) else None
-
--- the word is the id with this name
-abbrev pub IsId : List ℕ → ScriptId → Type 0
-IsId word name = (is_id word ≡ true) × (name ≡ script_id word)
 
 -- two names are equal
 abbrev pub same_name : ScriptId → ScriptId → Bool

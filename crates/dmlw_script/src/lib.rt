@@ -19,6 +19,7 @@
 pub use command::{Command, Step, Submission, WriteOptions};
 pub use disk::DiskSpec;
 pub use disk_name::DiskName;
+pub use line::{recorder_forms, seat_forms};
 pub use printing::print_script;
 pub use reader::{line_of, read_script};
 pub use run_printing::print_run_script;

@@ -25,6 +25,39 @@ use bio::{Ms, SectorSize};
 use layer_table::{LayerSpec, TableError, parse_line};
 use refusals::{cut, number_of};
 
+// The lines that a recorder's script can have: angle brackets have the kind of a word, and square
+// ones a word that may be left out.
+const RECORDER_FORMS: [&str; 15] = [
+    "data <sectors>",
+    "log <sectors> [4096]",
+    "data-layer 0 <length> <target> ..",
+    "log-layer 0 <length> <target> ..",
+    "at <ms>",
+    "w <id> <first> <count> <byte> [flush] [fua] [meta]",
+    "f <id>",
+    "d <id> <first> <count>",
+    "c <id>",
+    "r <first> <count>",
+    "turn",
+    "mark <text>",
+    "message <disk> <layer> <text>",
+    "close",
+    "crash <pick> ..",
+];
+
+// The lines that a script of seats can have.
+const SEAT_FORMS: [&str; 9] = [
+    "data <sectors>",
+    "log <sectors> [4096]",
+    "seats <n>",
+    "data-layer 0 <length> <target> ..",
+    "log-layer 0 <length> <target> ..",
+    "s<k> w <first> <count> <byte> [flush] [fua] [meta]",
+    "s<k> f",
+    "s<k> d <first> <count>",
+    "s<k> mark <text>",
+];
+
 /// The meaning of a line that is no crash.
 #[derive(Drop)]
 pub(crate) enum Line {
@@ -69,6 +102,17 @@ pub(crate) enum BodyLine {
     /// `close`, `r <first> <count>`, `turn`, `mark <text>`,
     /// `message data|log <layer> <text>`, or `at <ms>`
     Step(Step),
+}
+
+/// Returns the forms of the lines that a recorder's script can have, for a reader. Angle brackets
+/// have the kind of a word, and square ones a word that may be left out.
+pub fn recorder_forms() -> &'static [&'static str] {
+    &RECORDER_FORMS
+}
+
+/// Returns the forms of the lines that a script of seats can have.
+pub fn seat_forms() -> &'static [&'static str] {
+    &SEAT_FORMS
 }
 
 /// Parses a line that was already split into its first word and the other words, if it has any. The

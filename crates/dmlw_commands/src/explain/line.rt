@@ -2,42 +2,10 @@
 //! first word that doesn't fit, or what its place asks for.
 use crate::explain::places::write_place;
 use crate::explain::script_text::{Grammar, Numbered, is_space};
+use dmlw_script::{recorder_forms, seat_forms};
 use refusals::number_of;
 use std::fmt;
 use std::fmt::Write;
-
-// The lines that a script can have; angle brackets have the kind of a word, and square ones a word
-// that may be left out.
-const RECORDER_FORMS: [&str; 15] = [
-    "data <sectors>",
-    "log <sectors> [4096]",
-    "data-layer 0 <length> <target> ..",
-    "log-layer 0 <length> <target> ..",
-    "at <ms>",
-    "w <id> <first> <count> <byte> [flush] [fua] [meta]",
-    "f <id>",
-    "d <id> <first> <count>",
-    "c <id>",
-    "r <first> <count>",
-    "turn",
-    "mark <text>",
-    "message <disk> <layer> <text>",
-    "close",
-    "crash <pick> ..",
-];
-
-// The lines that a script of seats can have.
-const SEAT_FORMS: [&str; 9] = [
-    "data <sectors>",
-    "log <sectors> [4096]",
-    "seats <n>",
-    "data-layer 0 <length> <target> ..",
-    "log-layer 0 <length> <target> ..",
-    "s<k> w <first> <count> <byte> [flush] [fua] [meta]",
-    "s<k> f",
-    "s<k> d <first> <count>",
-    "s<k> mark <text>",
-];
 
 // Stands for a seat in a form.
 const SEAT: &[u8] = b"s<k>";
@@ -118,8 +86,8 @@ pub(crate) fn write_forms<W: Write>(grammar: Grammar, to: &mut W) -> fmt::Result
 
 fn forms_of(grammar: Grammar) -> &'static [&'static str] {
     match grammar {
-        Grammar::Recorder => &RECORDER_FORMS,
-        Grammar::Seats => &SEAT_FORMS,
+        Grammar::Recorder => recorder_forms(),
+        Grammar::Seats => seat_forms(),
     }
 }
 

@@ -21,19 +21,11 @@ use Rattle.dmlw_script.specs.Plans.{IsName}
 use Rattle.dmlw_script.specs.Words.{byte_text, hex_digit}
 use Rattle.dmlw_script.proofs.WordLaws.{all_weaker, byte_again, byte_lacks_space, cut_word, id_lacks_space}
 use Rattle.dmlw_script.proofs.WordLaws.{lacks, number_lacks_space}
-<<<<<<< HEAD
-use Rattle.refusals.specs.WordLaws.{decimal_number, number_model}
-use Rattle.refusals.specs.Words.{after_byte, before_byte, words_of}
-use Rattle.layer_table.specs.TableLines.{line_answer}
-use Rattle.layer_table.specs.declared.layer_spec.LayerSpec.{LayerSpec}
-use Rattle.layer_table.specs.declared.table_error.TableError.{TableError}
-=======
 use Rattle.refusals.specs.WordLaws.{decimal_number, number_again, number_model}
 use Rattle.refusals.specs.Words.{after_byte, before_byte, number_of, words_of}
 use Rattle.layer_table.specs.TableLines.{line_answer}
 use Rattle.layer_table.specs.declared.layer_spec.LayerSpec.{LayerSpec}
 use Rattle.layer_table.specs.declared.table_error.TableError.{TableError}
->>>>>>> b151d2c8d8105fbf7f63e846c432dcd4f8694716
 
 -- ---- bytes that may stand in a line
 

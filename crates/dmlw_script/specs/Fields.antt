@@ -24,21 +24,12 @@ use Rattle.dmlw_script.specs.Ids.{id_of_word, letters_of}
 use Rattle.dmlw_script.specs.LineMeaning.{LineMeaning}
 use Rattle.dmlw_script.specs.LineMeaning as parsed_lines
 use Rattle.dmlw_script.specs.Lines.{is_line_text}
-<<<<<<< HEAD
-use Rattle.dmlw_script.specs.Words.{byte_text}
-use Rattle.refusals.specs.Words.{after_byte, before_byte, words_of, IsNumber}
-use Rattle.layer_table.specs.TableLines.{line_answer}
-use Rattle.layer_table.specs.Texts as table_texts
-use Rattle.layer_table.specs.declared.layer_spec.LayerSpec.{LayerSpec}
-use Rattle.layer_table.specs.declared.table_error.TableError.{TableError}
-=======
 use Rattle.dmlw_script.specs.Words.{byte_of, byte_text}
 use Rattle.refusals.specs.Words.{after_byte, before_byte, number_of, words_of}
 use Rattle.layer_table.specs.TableLines.{line_answer}
 use Rattle.layer_table.specs.Texts as table_texts
 use Rattle.layer_table.specs.declared.layer_spec.LayerSpec.{LayerSpec}
 use Rattle.layer_table.specs.declared.table_error.TableError.{TableError}
->>>>>>> b151d2c8d8105fbf7f63e846c432dcd4f8694716
 
 -- one word: a given one, a number, an id, a byte, or the name of a seat, which is `s` and a number
 pub data Word : Type 0 where

@@ -108,9 +108,9 @@ not_true true e = cc
 not_true false e = refl
 
 -- If a request has a value for the sector, its index is within the list of events.
-pub stands_within : (events : List CoreEvent) (sector id : ℕ) (value : List ℕ)
+pub value-within : (events : List CoreEvent) (sector id : ℕ) (value : List ℕ)
     → values_at (slice_get events id) sector ≡ Some value → id < length events
-stands_within events sector id value is = elim (option_cases (slice_get events id)) [
+value-within events sector id value is = elim (option_cases (slice_get events id)) [
   | inl none ↦
       absurd (let contra : None ≡ Some value = sym (ap (λ e. values_at e sector) none) ∙ is in cc)
   | inr some ↦ slice_get-within events id some.0 some.1
@@ -147,5 +147,5 @@ pub held_somewhere : (events : List CoreEvent) (now : Content) (sector id : ℕ)
     → any_below (is_held_from events now sector) (length events) ≡ true
 held_somewhere events now sector id value stays =
     any_below-at (is_held_from events now sector) (length events) id
-    (stands_within events sector id (now sector) value)
+    (value-within events sector id (now sector) value)
     (parts-held events now sector id value stays)

@@ -8,7 +8,7 @@ ghost use Rattle.std.specs.Str.{bytes_eq};
 ghost use Rattle.judge.specs.Accounts.{IsAccount, place_at};
 ghost use Rattle.judge.specs.Firsts.{IsFirstOf, first_on};
 ghost use Rattle.judge.specs.Verdicts.{IsVerdict};
-ghost use Rattle.judge.specs.inside.Accounts.{IsFound, is_at_first, is_fine};
+ghost use Rattle.judge.specs.inside.Accounts.{IsFound, is_at_first, could_hold_value};
 
 use crate::ends::{end_at, ends_of};
 use crate::first::First;
@@ -108,7 +108,7 @@ fn is_at_first(last: &[Option<usize>], first: First, image: &[u8], sector: usize
 }
 
 // Returns whether `held` has a request for the sector, or the sector passes `is_at_first`.
-fn is_fine(
+fn could_hold_value(
     held: &[Option<usize>],
     last: &[Option<usize>],
     first: First,
@@ -117,7 +117,7 @@ fn is_fine(
 ) -> bool
     requires within { sector < length image.now / 512 }
     requires same { IsFirstOf (length image.now) first }
-    ensures { result ≡ is_fine held.now last.now (first_on first.entry (length image.now))
+    ensures { result ≡ could_hold_value held.now last.now (first_on first.entry (length image.now))
         (sector_of image.now) sector }
 {
     end_at(held, sector).is_some() || is_at_first(last, first, image, sector)
@@ -133,7 +133,7 @@ fn last_over(last: &[Option<usize>], sector: usize) -> Option<Id>
     }
 }
 
-// Returns `Yes` if all sectors pass `is_fine`, or else `No` with the lowest sector that doesn't.
+// Returns `Yes` if all sectors pass `could_hold_value`, or else `No` with the lowest sector that doesn't.
 fn lowest_failing(
     held: &[Option<usize>],
     last: &[Option<usize>],
@@ -145,7 +145,7 @@ fn lowest_failing(
         (sector_of image.now) (length image.now / 512) result }
 {
     for sector in 0..image.len() / SECTOR {
-        if !is_fine(held, last, first, image, sector) {
+        if !could_hold_value(held, last, first, image, sector) {
             return Verdict::No {
                 sector: sector as u64,
                 by: last_over(last, sector),

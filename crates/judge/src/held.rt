@@ -6,7 +6,7 @@ ghost use Rattle.std.specs.Prelude.{ℕ};
 ghost use Rattle.bio.specs.declared.event.CoreEvent.TheVariants.{Submit};
 ghost use Rattle.bio.specs.Possible.{values_at, values_of};
 ghost use Rattle.bio.specs.Content.{discards, sector_of, writes};
-ghost use Rattle.judge.specs.inside.Accounts.{AreFit, AreHeld, is_fit};
+ghost use Rattle.judge.specs.inside.Accounts.{AreFit, AreHeld, has_value_of};
 ghost use Rattle.judge.specs.inside.Last.{AreEnds, AreLastKept};
 ghost use Rattle.judge.specs.Accounts.{is_value, place_at};
 
@@ -95,7 +95,7 @@ fn fits(
     sector: usize,
 ) -> bool
     requires { sector < length image.now / 512 }
-    ensures { result ≡ is_fit (Some event.now) end last.now (sector_of image.now) sector }
+    ensures { result ≡ has_value_of (Some event.now) end last.now (sector_of image.now) sector }
 {
     !is_before(end, end_at(last, sector)) && has_value(event, sector, sector_bytes(image, sector))
 }
@@ -137,7 +137,7 @@ fn hold_values(
     requires image { length held.old.items ≤ length image.now / 512 }
     ensures size { length held.new.items ≡ length held.old.items }
     ensures held { (sector : ℕ) → sector < length held.old.items → place_at held.new.items sector
-        ≡ (if is_fit (Some event.now) end last.now
+        ≡ (if has_value_of (Some event.now) end last.now
         (sector_of image.now) sector then Some place else place_at held.old.items sector) }
 {
     let range = covered(event, held.len());

@@ -85,6 +85,7 @@ fn read_image(image: &Image, first: u64, sector: u64, buffer: &mut [u8])
 }
 
 // Reads the value that the call put in the sector; zeroes if it put none.
+#[tactic(auto, using(crate::specs::inside::Storage::change_values, crate::proofs::SectorValues::discarded))]
 fn read_call(call: &Call, sector: u64, buffer: &mut [u8])
     requires { length buffer.old ≡ 512 }
     ensures { buffer.new ≡ value_in (Some call.now) sector }

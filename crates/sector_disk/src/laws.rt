@@ -9,12 +9,14 @@ ghost use Rattle.sector_disk.specs.DiskView.{Does, cache_of, shown_of};
 ghost use Rattle.bio.specs.Content.{Content, Patched, discards, sector_of, writes};
 
 /// A crash may leave the content that `picks` leave, whatever `picks` are.
+#[tactic(auto, using(crate::proofs::Lawful::picks_leave))]
 pub fn picks_leave_one()
     ensures { (disk : SectorDisk) (picks : List ℕ)
         → (shown_of disk).crash (left_by (cache_of disk) picks) }
 {}
 
 /// For each content that a crash may leave, some picks leave it in all sectors of the disk.
+#[tactic(auto, using(crate::specs::PickLaws::each_is_picked, crate::specs::DiskView::cache_of))]
 pub fn each_crash_is_picked()
     ensures { (disk : SectorDisk) (left : Content) → (shown_of disk).crash left →
         (picks : List ℕ) × ((sector : ℕ) → sector < (shown_of disk).size →

@@ -35,6 +35,7 @@ impl Model for PackedSectors {
 
 // Returns how many of a sector's first bytes to store. The last stored byte fills the rest of the
 // sector.
+#[tactic(auto, using(crate::proofs::PackedParts::refilled_held))]
 fn count_held(sector: &[u8]) -> usize
     requires { length sector.now ≡ 512 }
     ensures within { result ≤ 512 }

@@ -65,7 +65,7 @@ pub record IsFresh (first : List ℕ) (world : WorldState) : Type 0 where
   pub image : world.image ≡ first
 
 -- `a` and `b` have the same lists for each sector, the same calls, and the same `off`
-pub record IsLike (a b : Machine) : Type 0 where
+pub record IsSameMachine (a b : Machine) : Type 0 where
   pub landed : (sector : ℕ) → a.landed sector ≡ b.landed sector
   pub settled : (sector : ℕ) → a.settled sector ≡ b.settled sector
   pub calls : a.calls ≡ b.calls
@@ -93,7 +93,7 @@ pub record IsPut (patch : Patch) (at : ℕ) (old new : List ℕ) : Type 0 where
 -- size.
 pub record Steps (events : List CoreEvent) (step : Step) (old new : WorldState) : Type 0 where
   pub may : has_step events (machine_of old) step ≡ true
-  pub after : IsLike (machine_of new) (after (machine_of old) step)
+  pub after : IsSameMachine (machine_of new) (after (machine_of old) step)
   pub left : (sector : ℕ) → sector < length old.cells → sector_of new.image sector
       ≡ left_after events (machine_of old) step (sector_of old.image) sector
   pub sectors : length new.cells ≡ length old.cells

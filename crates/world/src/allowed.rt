@@ -12,8 +12,8 @@ ghost use Rattle.world.specs.Cells.{landed_of, settled_of};
 ghost use Rattle.world.specs.Machine.{before_submit, is_among, is_end, is_submit, newest};
 ghost use Rattle.world.specs.inside.StepTests.{end_settled, is_allowed, is_in, is_landed};
 ghost use Rattle.world.specs.inside.StepTests.{is_settled};
-ghost use Rattle.world.specs.inside.StepTests.{pends, succeeds};
-ghost use Rattle.world.specs.inside.Plan.{AllEnd};
+ghost use Rattle.world.specs.inside.StepTests.{is_pending_in, succeeds};
+ghost use Rattle.world.specs.inside.Plan.{EndsFit};
 
 use crate::cell::Cell;
 use crate::step::Step;
@@ -21,19 +21,20 @@ use bio::{Bio, CoreEvent, Id};
 
 /// Returns whether the step may be taken, if power hasn't failed.
 pub fn is_allowed(cells: &[Cell], calls: &[Step], events: &[CoreEvent], step: &Step) -> bool
-    requires { AllEnd events.now }
+    requires { EndsFit events.now }
     ensures { result ≡ is_allowed events.now cells.now (reverse calls.now) step.now }
 {
     match step {
         Step::Submit(id) => is_request_at(events, id.place()) && !was_submitted(calls, id.place()),
         Step::Land(id, sector) => {
-            pends(calls, id.place())
+            is_pending_in(calls, id.place())
                 && covers_at(events, id.place(), *sector)
                 && !has_landed_at(cells, *sector as usize, id.place())
         }
         Step::Destage(sector) => newest_at(cells, *sector as usize).is_some(),
         Step::End(id, ok) => {
-            pends(calls, id.place()) && (!*ok || may_succeed(cells, calls, events, id.place()))
+            is_pending_in(calls, id.place())
+                && (!*ok || may_succeed(cells, calls, events, id.place()))
         }
         Step::Power => true,
     }
@@ -108,8 +109,8 @@ fn has_ended(calls: &[Step], id: u64) -> bool
 }
 
 // Returns whether the request was submitted and hasn't ended.
-fn pends(calls: &[Step], id: u64) -> bool
-    ensures { result ≡ pends (reverse calls.now) id }
+fn is_pending_in(calls: &[Step], id: u64) -> bool
+    ensures { result ≡ is_pending_in (reverse calls.now) id }
 {
     was_submitted(calls, id) && !has_ended(calls, id)
 }
@@ -208,7 +209,7 @@ fn has_settled(cells: &[Cell], bio: &Bio, id: u64) -> bool
 
 // Returns whether the request that the event submits has landed on each of its sectors.
 fn is_landed(cells: &[Cell], events: &[CoreEvent], event: &CoreEvent, id: u64) -> bool
-    requires within { AllEnd events.now }
+    requires within { EndsFit events.now }
     requires there { slice_get events.now id ≡ Some event.now }
     ensures { result ≡ is_landed cells.now id (Some event.now) }
 {
@@ -221,7 +222,7 @@ fn is_landed(cells: &[Cell], events: &[CoreEvent], event: &CoreEvent, id: u64) -
 
 // Returns whether the event's request is settled in each of its sectors.
 fn is_settled(cells: &[Cell], events: &[CoreEvent], event: &CoreEvent, id: u64) -> bool
-    requires within { AllEnd events.now }
+    requires within { EndsFit events.now }
     requires there { slice_get events.now id ≡ Some event.now }
     ensures { result ≡ is_settled cells.now id (Some event.now) }
 {
@@ -235,7 +236,7 @@ fn is_settled(cells: &[Cell], events: &[CoreEvent], event: &CoreEvent, id: u64) 
 // Returns whether the request of the event at index `id` is settled in each of its sectors; true if
 // there is no such event.
 fn is_settled_at(cells: &[Cell], events: &[CoreEvent], id: u64) -> bool
-    requires { AllEnd events.now }
+    requires { EndsFit events.now }
     ensures { result ≡ is_settled cells.now id (slice_get events.now id) }
 {
     match events.get(id as usize) {
@@ -246,7 +247,7 @@ fn is_settled_at(cells: &[Cell], events: &[CoreEvent], id: u64) -> bool
 
 // Returns whether the call's request is settled; true if the call is no end with success.
 fn end_settled(cells: &[Cell], events: &[CoreEvent], call: &Step) -> bool
-    requires { AllEnd events.now }
+    requires { EndsFit events.now }
     ensures { result ≡ end_settled events.now cells.now call.now }
 {
     match call {
@@ -257,7 +258,7 @@ fn end_settled(cells: &[Cell], events: &[CoreEvent], call: &Step) -> bool
 
 // Returns whether each call passes `end_settled`.
 fn ends_settled(cells: &[Cell], events: &[CoreEvent], calls: &[Step]) -> bool
-    requires { AllEnd events.now }
+    requires { EndsFit events.now }
     ensures { result ≡ list_all (end_settled events.now cells.now) (reverse calls.now) }
 {
     for call in calls {
@@ -289,7 +290,7 @@ fn succeeds(
     event: &CoreEvent,
     id: u64,
 ) -> bool
-    requires within { AllEnd events.now }
+    requires within { EndsFit events.now }
     requires there { slice_get events.now id ≡ Some event.now }
     ensures { result ≡ succeeds events.now cells.now (reverse calls.now) id (Some event.now) }
 {
@@ -301,7 +302,7 @@ fn succeeds(
 // Returns whether the request of the event at index `id` may end with success; true if there is no
 // such event.
 fn may_succeed(cells: &[Cell], calls: &[Step], events: &[CoreEvent], id: u64) -> bool
-    requires { AllEnd events.now }
+    requires { EndsFit events.now }
     ensures { result ≡ succeeds events.now cells.now (reverse calls.now) id
         (slice_get events.now id) }
 {

@@ -13,7 +13,7 @@ ghost use Rattle.bio.specs.Content.{sector_of};
 ghost use Rattle.bio.specs.Places.{collect};
 ghost use Rattle.world.specs.Findings.{IsFinding};
 ghost use Rattle.world.specs.Runs.{IsReachable, Leaves};
-ghost use Rattle.world.specs.inside.Plan.{AllEnd, by_sector, lands_late, plan, steps_left};
+ghost use Rattle.world.specs.inside.Plan.{EndsFit, by_sector, lands_late, plan, steps_left};
 ghost use Rattle.world.specs.inside.Plan.{steps_of, sure_by};
 
 use crate::allowed::is_request;
@@ -81,7 +81,7 @@ pub fn find(
 // Returns the run of the plan that the account gives.
 fn run_of(alloc: Global, events: &[CoreEvent], account: &Account) -> Result<Vec<Step>, AllocError>
     requires ends { (id : ℕ) → place_at account.now.ends.items id ≡ end_of events.now id }
-    requires within { AllEnd events.now }
+    requires within { EndsFit events.now }
     ensures { IfOk result (λ run.
         run.items ≡ plan events.now (place_at account.now.held.items)
         (sure_by account.now.last.items)) }
@@ -96,7 +96,7 @@ fn run_of(alloc: Global, events: &[CoreEvent], account: &Account) -> Result<Vec<
 // Adds the plan's steps for all events.
 fn follow(run: &mut Vec<Step>, events: &[CoreEvent], account: &Account) -> Result<(), AllocError>
     requires ends { (id : ℕ) → place_at account.now.ends.items id ≡ end_of events.now id }
-    requires within { AllEnd events.now }
+    requires within { EndsFit events.now }
     ensures { OnOk result (run.new.items ≡ run.old.items ++ collect (λ place. steps_of events.now
         (place_at account.now.held.items) (sure_by account.now.last.items) place
         (slice_get events.now place)) (length events.now)) }
@@ -116,7 +116,7 @@ fn take_event(
     event: &CoreEvent,
 ) -> Result<(), AllocError>
     requires ends { (id : ℕ) → place_at account.now.ends.items id ≡ end_of events.now id }
-    requires within { AllEnd events.now }
+    requires within { EndsFit events.now }
     requires there { slice_get events.now place ≡ Some event.now }
     ensures { OnOk result (run.new.items ≡ run.old.items ++ steps_of events.now
         (place_at account.now.held.items) (sure_by account.now.last.items) place (Some event.now)) }
@@ -164,7 +164,7 @@ fn land_at(
     account: &Account,
     id: usize,
 ) -> Result<(), AllocError>
-    requires { AllEnd events.now }
+    requires { EndsFit events.now }
     ensures { OnOk result (run.new.items ≡ run.old.items
         ++ by_sector (lands_late (place_at account.now.held.items) id) (slice_get events.now id)) }
 {
@@ -182,7 +182,7 @@ fn land_event(
     id: usize,
     event: &CoreEvent,
 ) -> Result<(), AllocError>
-    requires within { AllEnd events.now }
+    requires within { EndsFit events.now }
     requires there { slice_get events.now id ≡ Some event.now }
     ensures { OnOk result (run.new.items ≡ run.old.items
         ++ by_sector (lands_late (place_at account.now.held.items) id) (Some event.now)) }
@@ -197,7 +197,7 @@ fn land_event(
 // Adds the plan's steps for all requests that haven't ended.
 fn finish(run: &mut Vec<Step>, events: &[CoreEvent], account: &Account) -> Result<(), AllocError>
     requires ends { (id : ℕ) → place_at account.now.ends.items id ≡ end_of events.now id }
-    requires within { AllEnd events.now }
+    requires within { EndsFit events.now }
     ensures { OnOk result (run.new.items ≡ run.old.items
         ++ collect (steps_left events.now (place_at account.now.held.items)) (length events.now)) }
 {
@@ -215,7 +215,7 @@ fn land_left(
     id: usize,
 ) -> Result<(), AllocError>
     requires ends { (id : ℕ) → place_at account.now.ends.items id ≡ end_of events.now id }
-    requires within { AllEnd events.now }
+    requires within { EndsFit events.now }
     ensures { OnOk result (run.new.items ≡ run.old.items
         ++ steps_left events.now (place_at account.now.held.items) id) }
 {

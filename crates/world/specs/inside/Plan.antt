@@ -80,8 +80,8 @@ abbrev pub sure_by : List (Option ℕ) → ℕ → ℕ → Bool
 sure_by last id sector = is_upto id (place_at last sector)
 
 -- for each submitted request, the first sector plus the number of sectors is below 2^64
-abbrev pub AllEnd : List CoreEvent → Type 0
-AllEnd events =
+abbrev pub EndsFit : List CoreEvent → Type 0
+EndsFit events =
     (id : ℕ) (bio : Bio) → slice_get events id ≡ Some (core_events.Submit bio)
     → first_sector bio + sector_count bio < 2 ^ 64
 

@@ -42,8 +42,8 @@ succeeds events cells calls id event =
     && (not (is_flush_submit event) || list_all (end_settled events cells) (before_submit id calls))
 
 -- the request `id` was submitted and hasn't ended
-abbrev pub pends : List Step → ℕ → Bool
-pends calls id = list_any (is_submit id) calls && not (list_any (is_end id) calls)
+abbrev pub is_pending_in : List Step → ℕ → Bool
+is_pending_in calls id = list_any (is_submit id) calls && not (list_any (is_end id) calls)
 
 -- the sector is one of the `count` sectors from `first` on
 abbrev pub is_in : ℕ → ℕ → ℕ → Bool
@@ -54,10 +54,10 @@ abbrev pub is_allowed : List CoreEvent → List CellState → List Step → Step
 is_allowed events cells calls (Submit id) =
     is_request (slice_get events id) && not (list_any (is_submit id) calls)
 is_allowed events cells calls (Land id sector) =
-    pends calls id && covers_at sector (slice_get events id)
+    is_pending_in calls id && covers_at sector (slice_get events id)
     && not (is_among (landed_of (slice_get cells sector)) id)
 is_allowed events cells calls (Destage sector) =
     is_some (newest (landed_of (slice_get cells sector)))
 is_allowed events cells calls (End id ok) =
-    pends calls id && (not ok || succeeds events cells calls id (slice_get events id))
+    is_pending_in calls id && (not ok || succeeds events cells calls id (slice_get events id))
 is_allowed events cells calls Power = true

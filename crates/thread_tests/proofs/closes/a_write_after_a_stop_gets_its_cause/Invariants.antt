@@ -1,5 +1,5 @@
 use Rattle.thread_tests.specs.Disks.{disk_ground}
-use Rattle.thread_tests.proofs.closes.a_write_behind_a_stop_is_told_its_cause.Given as goal
+use Rattle.thread_tests.proofs.closes.a_write_after_a_stop_gets_its_cause.Given as goal
 
 abbrev pub ghosts-stopped-R-Ledger : goal.ghosts-stopped-R-Ledger
 ghosts-stopped-R-Ledger g a =

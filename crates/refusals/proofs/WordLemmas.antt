@@ -32,17 +32,17 @@ behind_step false n b bytes rest same =
     rw (test, one) same
 
 -- what stands before the first such byte, by its place
-pub before_byte-position : (mark : ℕ) (bytes : List ℕ)
+pub before_byte_position : (mark : ℕ) (bytes : List ℕ)
     → take (position_or_len (λ b. b == mark) bytes) bytes ≡ before_byte mark bytes
-before_byte-position mark [] = refl
-before_byte-position mark (b ∷ bytes) = front_step (b == mark) _ b bytes _ (before_byte-position mark bytes)
+before_byte_position mark [] = refl
+before_byte_position mark (b ∷ bytes) = front_step (b == mark) _ b bytes _ (before_byte_position mark bytes)
 
 -- what stands after the first such byte, by its place
-pub after_byte-position : (mark : ℕ) (bytes : List ℕ)
+pub after_byte_position : (mark : ℕ) (bytes : List ℕ)
     → after_byte mark bytes ≡ cond (nat_lt (position_or_len (λ b. b == mark) bytes) (length bytes))
     (Some (drop (position_or_len (λ b. b == mark) bytes + 1) bytes)) None
-after_byte-position mark [] = refl
-after_byte-position mark (b ∷ bytes) = behind_step (b == mark) _ b bytes _ (after_byte-position mark bytes)
+after_byte_position mark [] = refl
+after_byte_position mark (b ∷ bytes) = behind_step (b == mark) _ b bytes _ (after_byte_position mark bytes)
 
 -- the number that digits write after those of n, where they are digits and it is below 2 ^ 64
 abbrev pub number_after_checked : ℕ → List ℕ → Option ℕ
@@ -103,8 +103,8 @@ cut_some mark bytes place e =
     × (place ≡ position_or_len (λ b. b == mark) bytes) = chosen_some _ _ _ e in
     rw h.1 (
       ltb-true _ _ h.0,
-      before_byte-position mark bytes,
-      after_byte-position mark bytes ∙ cond-true _ _ _ h.0,
+      before_byte_position mark bytes,
+      after_byte_position mark bytes ∙ cond-true _ _ _ h.0,
     )
 
 -- what no cut leaves
@@ -113,8 +113,8 @@ pub cut_none : (mark : ℕ) (bytes : List ℕ) → None ≡ position (λ b. b ==
 cut_none mark bytes e =
     let h : nat_lt (position_or_len (λ b. b == mark) bytes) (length bytes) ≡ false =
     chosen_none _ _ e in (
-      sym (take_all _ bytes (ltb-false _ _ h)) ∙ before_byte-position mark bytes,
-      after_byte-position mark bytes ∙ cond-false _ _ _ h,
+      sym (take_all _ bytes (ltb-false _ _ h)) ∙ before_byte_position mark bytes,
+      after_byte_position mark bytes ∙ cond-false _ _ _ h,
     )
 
 -- the start of a word of 1 to 20 bytes

@@ -1,5 +1,5 @@
 -- The content of a device's sectors, and the values that a write or a discard puts there. The law
--- of block devices and the replay of logs are stated with them.
+-- of block devices and the replay of logs are stated with these definitions.
 use Rattle.std.specs.Prelude.{◌≡◌, ℕ, ◌+◌, ◌-◌, ◌*◌, ◌/◌, ◌<◌, ◌≤◌, ◌&&◌, nat_le, nat_lt, Option}
 use Rattle.std.specs.Prelude.{Some, None, unwrap_or, List, length, take, drop, replicate, ◌⊎◌}
 use Rattle.std.specs.Prelude.{if◌then◌else◌}
@@ -30,7 +30,7 @@ AgreeBelow end old new = (sector : ℕ) → sector < end → new sector ≡ old 
 abbrev pub AgreeWithin : ℕ → ℕ → Content → Content → Type 0
 AgreeWithin from to old new = (sector : ℕ) → from ≤ sector → sector < to → new sector ≡ old sector
 
--- the content from sector `offset` on, counted from 0
+-- the content without its first `offset` sectors: its sector 0 is sector `offset` of `content`
 abbrev pub moved : ℕ → Content → Content
 moved offset content sector = content (offset + sector)
 
@@ -38,7 +38,7 @@ moved offset content sector = content (offset + sector)
 abbrev pub HasWholeSectors : ℕ → Content → Type 0
 HasWholeSectors disk content = (sector : ℕ) → sector < disk → length (content sector) ≡ 512
 
--- the values that a call puts: for each sector a value, or none
+-- the values that a call of a device puts: for each sector a value, or none
 abbrev pub Patch : Type 0
 Patch = ℕ → Option (List ℕ)
 

@@ -1,4 +1,4 @@
--- The values of a patch over a range (the interface of `over`), and the content after a patch.
+-- Laws of `over`, for proofs that don't unfold it, and of the content after a patch.
 use Rattle.std.proofs.Common.{◌≡◌, ℕ, ◌+◌, ◌-◌, ◌*◌, ◌/◌, ◌<◌, ◌≤◌, false, ◌&&◌, Option, Some, None}
 use Rattle.std.proofs.Common.{List, length, drop, replicate, refl, ap, sym, ◌∙◌, inl, inr, arith}
 use Rattle.std.proofs.lemmas.Bool.{cases_lt, lt-ltb, le-ltb, le-leb, leb-true}
@@ -10,7 +10,7 @@ use Rattle.bio.specs.Content.{AgreeBelow, Content, HasBytes, HasNoneBelow, HasWh
 use Rattle.bio.specs.Content.{HasWholeValues, Patch, Patched, discards, nothing, over, put}
 use Rattle.bio.specs.Content.{sector_of, writes}
 
--- The `k`th sector of the range has its value.
+-- The patch `over first count value` has `value k` for sector `first + k`.
 pub over-in : (first count : ℕ) (value : ℕ → List ℕ) (k : ℕ) → k < count
     → over first count value (first + k) ≡ Some (value k)
 unfolding over
@@ -111,12 +111,12 @@ pub put-in : (first count : ℕ) (value : ℕ → List ℕ) (content : Content) 
 put-in first count value content k h =
     put-some (over first count value) content (first + k) (value k) (over-in first count value k h)
 
--- after a write the content has its bytes
+-- After a write, the content has the write's bytes.
 pub HasBytes-put : (first : ℕ) (bytes : List ℕ) (content : Content)
     → HasBytes (put (writes first bytes) content) first bytes
 HasBytes-put first bytes content = put-in first (length bytes / 512) (sector_of bytes) content
 
--- after a discard its sectors are zeroes
+-- After a discard, each of its sectors is zeroes.
 pub discards-zeroes : (first count : ℕ) (content : Content) (k : ℕ) → k < count
     → put (discards first count) content (first + k) ≡ replicate 512 0
 discards-zeroes first count content k h = put-in first count (λ _. replicate 512 0) content k h
@@ -135,7 +135,8 @@ below-patched end patch old new none patched = λ sector below. elim (patched se
   | inr is ↦ is ∙ put-none patch old sector (none sector below)
 ]
 
--- a patch of whole values leaves whole sectors
+-- If the patch's values have 512 bytes each, a disk of whole sectors has whole sectors after the
+-- patch.
 pub whole-patched : (disk : ℕ) (patch : Patch) (old new : Content) → HasWholeValues patch
     → Patched patch old new
     → HasWholeSectors disk old → HasWholeSectors disk new
@@ -148,7 +149,7 @@ whole-patched disk patch old new values patched whole = λ sector below. elim (p
   ]
 ]
 
--- a range of whole values has whole values
+-- If each `value k` of a range has 512 bytes, so has each value of its patch.
 pub over-whole : (first count : ℕ) (value : ℕ → List ℕ)
     → ((k : ℕ) → k < count → length (value k) ≡ 512) → HasWholeValues (over first count value)
 over-whole first count value whole sector found is = elim (over_cases first count value sector) [
@@ -160,7 +161,7 @@ over-whole first count value whole sector found is = elim (over_cases first coun
   | inr none ↦ cc
 ]
 
--- a write has whole values
+-- Each value of a write has 512 bytes.
 pub writes-whole : (first : ℕ) (bytes : List ℕ) → HasWholeValues (writes first bytes)
 writes-whole first bytes =
     let whole : (k : ℕ) → k < length bytes / 512 → length (sector_of bytes k) ≡ 512 =
@@ -168,16 +169,16 @@ writes-whole first bytes =
     length-drop (512 * k) bytes in length-take-le 512 (drop (512 * k) bytes) (omega arith) in
     over-whole first (length bytes / 512) (sector_of bytes) whole
 
--- a discard has whole values
+-- Each value of a discard has 512 bytes.
 pub discards-whole : (first count : ℕ) → HasWholeValues (discards first count)
 discards-whole first count =
     over-whole first count (λ _. replicate 512 0) (λ k h. length-replicate {A = ℕ} 512 0)
 
--- a call that changes nothing has whole values
+-- `nothing` has no values, so each of its values has 512 bytes.
 pub nothing-whole : HasWholeValues nothing
 nothing-whole sector value is = cc
 
--- a sector in the range of a write gets its bytes
+-- A write puts its bytes in each sector of its range.
 pub put-writes : (first : ℕ) (bytes : List ℕ) (content : Content) (sector : ℕ) → first ≤ sector
     → sector < first + length bytes / 512
     → put (writes first bytes) content sector ≡ sector_of bytes (sector - first)
@@ -185,7 +186,7 @@ put-writes first bytes content sector low high =
     ap (put (writes first bytes) content) (omega arith)
     ∙ put-in first (length bytes / 512) (sector_of bytes) content (sector - first) (omega arith)
 
--- a sector in the range of a discard gets zeroes
+-- A discard puts zeroes in each sector of its range.
 pub put-discards : (first count : ℕ) (content : Content) (sector : ℕ) → first ≤ sector
     → sector < first + count
     → put (discards first count) content sector ≡ replicate 512 0
@@ -203,10 +204,10 @@ put-outside first count value content sector outside =
       | inr after ↦ over-after first count value sector after
     ])
 
--- If a content gets none of the patch's values, it is patched.
+-- A content that gets none of the patch's values satisfies `Patched`.
 pub patched-same : (patch : Patch) (content : Content) → Patched patch content content
 patched-same patch content = λ sector. inl refl
 
--- If a content gets all of the patch's values, it is patched.
+-- A content that gets all of the patch's values satisfies `Patched`.
 pub patched-whole : (patch : Patch) (content : Content) → Patched patch content (put patch content)
 patched-whole patch content = λ sector. inr refl

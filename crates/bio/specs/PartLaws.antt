@@ -13,7 +13,7 @@ use Rattle.bio.specs.ContentLaws.{over-after, over-before, over-in, put-none, pu
 use Rattle.bio.specs.ContentLaws.{range_cases}
 use Rattle.bio.specs.Parts.{HasNoneFrom, IsPart, Joins, SameValues, below, between}
 
--- A part of a patch has the patch's value for a sector within it, and none outside.
+-- `below` and `between` have the patch's value for a sector within their range, and none outside.
 pub below-in : (end : ℕ) (patch : Patch) (sector : ℕ) → sector < end
     → below end patch sector ≡ patch sector
 below-in end patch sector h = ap (λ b. if b then patch sector else None) (lt-ltb sector end h)
@@ -124,7 +124,8 @@ patched-part part whole old new is patched = λ sector. elim (patched sector) [
   ]
 ]
 
--- If a content is patched twice by the same patch, it is patched by it.
+-- If parts of a patch lead from `old` to `mid`, and from `mid` to `new`, a part of it leads from
+-- `old` to `new`.
 pub patched_twice : (patch : Patch) (old mid new : Content) → Patched patch old mid
     → Patched patch mid new → Patched patch old new
 patched_twice patch old mid new before after = λ sector. elim (after sector) [
@@ -180,7 +181,8 @@ put-joined first second whole old mid sector joins before = elim (joins sector) 
       put-some second mid sector late.0 late.1 ∙ sym (put-some whole old sector late.0 late.2)
 ]
 
--- A range within a larger range has the larger range's values between its ends.
+-- If a part of a range has the range's values, the part's patch is the range's patch between the
+-- part's ends.
 pub over-between : (first count k n : ℕ) (value piece : ℕ → List ℕ) → k + n ≤ count
     → ((i : ℕ) → i < n → piece i ≡ value (k + i))
     → SameValues (over (first + k) n piece)
@@ -218,7 +220,7 @@ sector_of-part bytes k n i h within =
     ∙ ap (take 512) (drop-drop (512 * i) (512 * k) bytes
     ∙ ap (λ (m : ℕ). drop m bytes) (omega arith))
 
--- a write of a part of the bytes has the values of that part
+-- A write of `n` sectors of the bytes has the values of the whole write for these sectors.
 pub writes-between : (first k n : ℕ) (bytes : List ℕ) → 512 * (k + n) ≤ length bytes
     → SameValues (writes (first + k) (take (512 * n) (drop (512 * k) bytes)))
     (between (first + k) (first + k + n) (writes first bytes))
@@ -233,7 +235,7 @@ writes-between first k n bytes within =
     (sector_of (take (512 * n) (drop (512 * k) bytes))) (omega arith)
     (λ i h. sector_of-part bytes k n i h within) sector
 
--- a discard of a part of the sectors has the values of that part
+-- A discard of `n` of the sectors has the values of the whole discard for these sectors.
 pub discards-between : (first count k n : ℕ) → k + n ≤ count
     → SameValues (discards (first + k) n)
     (between (first + k) (first + k + n) (discards first count))

@@ -20,7 +20,7 @@ HasNoneFrom end patch = (sector : ℕ) → end ≤ sector → patch sector ≡ N
 abbrev pub SameValues : Patch → Patch → Type 0
 SameValues patch other = (sector : ℕ) → patch sector ≡ other sector
 
--- `part` has, for each sector, none or the value of `whole`
+-- for each sector, `part` has no value or the same as `whole`
 abbrev pub IsPart : Patch → Patch → Type 0
 IsPart part whole = (sector : ℕ) → (part sector ≡ None) ⊎ (part sector ≡ whole sector)
 

@@ -12,7 +12,7 @@ use Rattle.bio.specs.Possible.{covers_at, values_at}
 use Rattle.bio.specs.RequestLaws.{covers-parts}
 use Rattle.bio.specs.Requests.{covers}
 
--- a request has no value for a sector that it doesn't cover
+-- If a request doesn't cover a sector, it has no value for it.
 request_uncovered : (bio : Bio) (sector : ℕ) → covers bio sector ≡ false
     → values_at (Some (Submit bio)) sector ≡ None
 unfolding over
@@ -23,7 +23,7 @@ request_uncovered (Discard first count) sector passes =
     ap (λ b. if b then Some (replicate 512 0) else None) passes
 request_uncovered (Read first count) sector passes = refl
 
--- an event has no value for a sector that it doesn't cover
+-- If an event's request doesn't cover a sector, the event has no value for it.
 pub uncovered_value : (event : Option CoreEvent) (sector : ℕ) → covers_at sector event ≡ false
     → values_at event sector ≡ None
 uncovered_value (Some (Submit bio)) sector passes = request_uncovered bio sector passes
@@ -56,7 +56,7 @@ covered_value (Some (Stop cause)) sector covered = cc
 covered_value (Some Close) sector covered = cc
 covered_value None sector covered = cc
 
--- an event with a value for a sector covers it
+-- If an event has a value for a sector, its request covers the sector.
 pub value_covers : (event : Option CoreEvent) (sector : ℕ) (value : List ℕ)
     → values_at event sector ≡ Some value → covers_at sector event ≡ true
 value_covers event sector value is = elim (bool_cases (covers_at sector event)) [

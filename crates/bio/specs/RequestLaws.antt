@@ -177,7 +177,7 @@ is_text-nonzero (byte ∷ text) = (
     each_of byte text here others zero less = here
     each_of byte text here others (suc k) less = others k (omega arith)
 
--- the result for a range, by its three tests
+-- the result for a range whose three tests of `range_answer` give `none`, `long` and `past`
 range_of_tests : Bool → Bool → Bool → Result (Unit {0}) BadBio
 range_of_tests none long past =
     if none then Err NotWhole else if long then Err TooLong else if past then Err PastEnd else Ok tt
@@ -201,7 +201,8 @@ range_answer-larger first count n m passed more =
     ∙ sym (ap (range_of_tests (count == 0) (nat_lt 2048 count)) within)
     ∙ passed
 
--- As above, for a write. `whole` is true if its data is whole sectors.
+-- a write that may be sent to a device may be sent to a larger one; `whole` says whether its data
+-- is whole sectors
 write_answer-larger : (whole : Bool) (first count n m : ℕ)
     → (if whole then range_answer first count n else Err NotWhole) ≡ Ok tt → n ≤ m
     → (if whole then range_answer first count m else Err NotWhole) ≡ Ok tt
@@ -254,7 +255,7 @@ pub submits_within : (bio : Bio) (sectors : ℕ) → is_within sectors (Some (Su
 submits_within bio sectors within =
     passed_within bio sectors (is_ok-ok (check_answer bio sectors) within)
 
--- an event that is within a device covers no sector past its end
+-- if an event is within a device, its request covers no sector past the device's end
 pub event_within : (event : Option CoreEvent) (sectors sector : ℕ) → is_within sectors event ≡ true
     → sectors ≤ sector → covers_at sector event ≡ false
 event_within (Some (Submit bio)) sectors sector within past =

@@ -1,5 +1,5 @@
--- The properties of a request: which sectors it covers, whether it flushes, has FUA, is aligned,
--- and whether two overlap.
+-- The properties of a request: which sectors it covers, and whether it flushes, has FUA or is
+-- aligned. Also whether two requests overlap.
 use Rattle.std.specs.Prelude.{ℕ, ◌+◌, ◌/◌, ◌%◌, ◌==◌, Bool, true, false, ◌&&◌, length, nat_lt}
 use Rattle.std.specs.Prelude.{nat_le}
 use Rattle.bio.specs.declared.request.Bio.{Bio}

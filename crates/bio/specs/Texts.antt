@@ -4,7 +4,7 @@ use Rattle.std.specs.Fmt.{decimal}
 use Rattle.refusals.specs.declared.end.End.{End}
 use Rattle.bio.specs.declared.outcome.Status.{Status}
 
--- the word that reports that logging has ended, whatever the cause
+-- ` logging_disabled` if logging has ended, whatever the cause; nothing if it goes on
 abbrev pub end_text : Option End → List ℕ
 end_text None = []
 end_text (Some end) = codes " logging_disabled"

@@ -8,8 +8,8 @@ use std::sync::Arc;
 
 /// A list of bytes, such as a request's data or a mark's text. Contracts see it as that list.
 ///
-/// Shared bytes are in memory once, however often they are cloned. Bytes that are made from a
-/// vector have one owner until they are cloned or `into_shared` is called.
+/// Shared bytes are in memory once: a clone shares them. `from_vec` makes bytes with one owner: a
+/// clone copies them, and clones of the copy share the copy.
 #[derive(Debug, Drop)]
 pub struct Bytes {
     storage: Storage,
@@ -43,8 +43,8 @@ impl Bytes {
         }
     }
 
-    /// Returns the same bytes, so that a clone takes no more memory. Takes memory for a few words,
-    /// and none if they are shared already.
+    /// Returns the same bytes as shared bytes, so that their clones take no memory. Takes memory
+    /// for a few words, or none if the bytes are shared already.
     pub fn into_shared(self) -> Result<Bytes, AllocError>
         ensures { IfOk result (λ shared. shared ≡ self) }
     {
@@ -57,8 +57,8 @@ impl Bytes {
         })
     }
 
-    /// Returns the vector. Takes memory only if a clone that shares the bytes still exists: then
-    /// they are copied.
+    /// Returns the vector. If a clone or a prefix that shares the bytes still exists, they are
+    /// copied; otherwise takes no memory.
     pub fn into_vec(self) -> Result<Vec<u8>, AllocError>
         ensures { IfOk result (λ bytes. bytes.items ≡ self) }
     {
@@ -82,8 +82,8 @@ impl Bytes {
         }
     }
 
-    /// Returns the first `length` bytes, or all if there are fewer. Takes no memory if they are
-    /// shared; else they are copied.
+    /// Returns the first `length` bytes, or all if there are fewer. If the bytes are shared, takes
+    /// no memory; otherwise all of them are copied first.
     pub fn prefix(&self, length: usize) -> Result<Bytes, AllocError>
         ensures { IfOk result (λ prefix. prefix ≡ take length self.now) }
     {
@@ -108,7 +108,7 @@ impl Bytes {
     }
 }
 
-// Makes a vector shared.
+// Moves the vector into shared storage.
 fn share(bytes: Vec<u8>) -> Result<Storage, AllocError>
     ensures { IfOk result (λ shared. stored shared ≡ bytes.items) }
 {
@@ -120,8 +120,8 @@ fn share(bytes: Vec<u8>) -> Result<Storage, AllocError>
 impl Clone for Bytes {
     ghost is_clone = { λ from to. to ≡ from };
 
-    /// Returns the same bytes. Takes no memory if they are shared or empty; else they are copied
-    /// once, and clones of the copy share it.
+    /// Returns the same bytes. If the bytes are shared or empty, takes no memory; otherwise copies
+    /// them, and clones of the copy share the copy.
     fn clone(&self) -> Result<Bytes, AllocError>
         ensures { IfOk result (λ copy. copy ≡ self.now) }
     {

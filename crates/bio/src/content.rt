@@ -1,5 +1,5 @@
-//! Sectors of 512 bytes, and laws of a device's content. A law's function does nothing, and its
-//! clauses are the law: the content of each sector after a write and a discard.
+//! Sectors of 512 bytes, and laws of a device's content after a write or a discard. The function of
+//! a law does nothing; its clauses are the law.
 ghost use Rattle.std.specs.Prelude.{◌≡◌, ◌⊎◌, ◌+◌, ◌-◌, ◌/◌, ◌<◌, ◌≤◌, List, None, Some, length};
 ghost use Rattle.std.specs.Prelude.{replicate, ℕ};
 ghost use Rattle.bio.specs.Content.{Content, HasBytes, HasWholeSectors, HasWholeValues, Patch};
@@ -11,7 +11,7 @@ pub const SECTOR_BYTES: u64 = 512;
 /// The maximum number of sectors of a device.
 pub const MAX_DEVICE_SECTORS: u64 = 1_048_576;
 
-/// The sizes of a sector and of a device: 512 bytes, and at most 1,048,576 sectors.
+/// `SECTOR_BYTES` is 512, and `MAX_DEVICE_SECTORS` is 1,048,576.
 pub fn sizes()
     ensures sector { SECTOR_BYTES ≡ 512 }
     ensures device { MAX_DEVICE_SECTORS ≡ 1048576 }
@@ -40,7 +40,8 @@ pub fn discards_put_zeroes()
         put (discards first count) content sector ≡ content sector }
 {}
 
-/// After a patch is put, a sector has its value in the patch, or is unchanged if there is none.
+/// After a patch is put, each sector for which the patch has a value has this value. Each other
+/// sector is unchanged.
 pub fn values_are_put()
     ensures value { (patch : Patch) (content : Content) (sector : ℕ) (value : List ℕ) →
         patch sector ≡ Some value → put patch content sector ≡ value }
@@ -48,8 +49,8 @@ pub fn values_are_put()
         patch sector ≡ None → put patch content sector ≡ content sector }
 {}
 
-/// Each value of a write or a discard is a whole sector. If a patch has only such values, a disk of
-/// whole sectors has whole sectors after any part of the patch.
+/// Each value of a write or a discard has 512 bytes. If each value of a patch has 512 bytes, a disk
+/// of whole sectors still has whole sectors after any part of the patch.
 pub fn sectors_stay_whole()
     ensures writes { (first : ℕ) (bytes : List ℕ) → HasWholeValues (writes first bytes) }
     ensures discards { (first count : ℕ) → HasWholeValues (discards first count) }

@@ -55,15 +55,15 @@ pub fn larger_devices_take_more()
         check_answer bio more ≡ Ok tt }
 {}
 
-/// A request may be recorded in a log with sectors of `size` bytes exactly if it passes two tests:
-/// it may be sent to the device, and is aligned to that size.
+/// A request may be recorded in a log with sectors of `size` bytes exactly if it passes two tests.
+/// It may be sent to the device, and it is aligned to `size`.
 pub fn sized_requests_pass_both()
     ensures { (size : ℕ) (bio : Bio) (sectors : ℕ) → (check_sized_answer size bio sectors ≡ Ok tt)
         ↔ ((check_answer bio sectors ≡ Ok tt) × IsTrue (is_aligned size bio)) }
 {}
 
-/// With log sectors of 512 bytes each request is aligned: `check_sized` returns the result of
-/// `check`, and each lawful event list is lawful for such a log.
+/// With log sectors of 512 bytes each request is aligned. So `check_sized` returns the result of
+/// `check`, and `is_lawful_sized` is `is_lawful`.
 pub fn small_sectors_take_each_request()
     ensures answer { (bio : Bio) (sectors : ℕ)
         → check_sized_answer 512 bio sectors ≡ check_answer bio sectors }

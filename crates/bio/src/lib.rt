@@ -2,17 +2,17 @@
 //!
 //! A sector has 512 bytes. The `Content` of a device is the bytes of each sector. `specs/Content`
 //! and `content` define the bytes of a range of sectors, and the content after a write or a
-//! discard. Each crate about a device or a log builds on them. `specs/Places` has searches and
-//! tests over indices.
+//! discard. Each crate about devices or logs uses these definitions. `specs/Places` has searches
+//! and tests over indices.
 //!
 //! A request is a `Bio`. `check` decides whether it may be sent to a device, and `check_sized`
 //! whether it also suits a log with sectors of a given `SectorSize`. The events of requests are a
 //! list of `CoreEvent`s. An `Id` is the index of a request's submission, or of a mark, in that
 //! list.
 //!
-//! `specs/Requests` defines which sectors a request covers. `specs/Events` defines where in an
-//! event list requests end, and `specs/Lawful` which lists are lawful. `laws` has the laws of these
-//! definitions.
+//! `specs/Requests` defines which sectors a request covers. `specs/Events` defines at which index
+//! of an event list a request ends, and `specs/Lawful` which lists are lawful. `laws` has the laws
+//! of these definitions.
 #![tactic(auto)]
 
 pub use bytes::Bytes;

@@ -2,19 +2,20 @@
 -- `BlockDev` (src/device) use them, and so does each layer's statement of what it does.
 use Rattle.std.specs.Prelude.{◌≡◌, ℕ, ◌+◌, ◌/◌, ◌%◌, ◌<◌, ◌≤◌, Bool, List}
 
--- A call of a device. A read has the bytes of its buffer before it and after it.
+-- A call of a device. `Reads` has the bytes of the buffer before and after the call.
 pub data Call : Type 0 where
   Reads : (first : ℕ) (before after : List ℕ) → Call
   Writes : (first : ℕ) (bytes : List ℕ) (fua : Bool) → Call
   Discards : (first count : ℕ) → Call
   Flushes : Call
 
--- the range is at least one sector, and all of it within the device
+-- the range of `count` sectors has at least one, and is within the device of `size` sectors
 pub record IsRange (size first count : ℕ) : Type 0 where
   pub some : 0 < count
   pub within : first + count ≤ size
 
--- the bytes are whole sectors, at least one, and their range is within the device
+-- `length` bytes are whole sectors, at least one, and their range is within the device of `size`
+-- sectors
 pub record IsByteRange (size first length : ℕ) : Type 0 where
   pub whole : length % 512 ≡ 0
   pub some : 0 < length

@@ -12,7 +12,7 @@ pub after-torn : (patch : Patch) (before : Content → Type 0) (left : Content)
     → AfterPatch patch before left → IsTorn patch before left
 after-torn patch before left after = (after.0, after.1, patched_cases patch after.0 left after.2)
 
--- If a write is done and then flushed, whatever a crash leaves has its bytes.
+-- If a write is done, and then a flush, whatever a crash leaves has the write's bytes.
 pub landed-flushed : (u v w : View) (first : ℕ) (bytes : List ℕ) (fua : Bool) (left : Content)
     → WriteDone (writes first bytes) fua u v
     → DeviceFrame nothing v w → FlushDone w → w.crash left → HasBytes left first bytes
@@ -22,7 +22,7 @@ landed-flushed u v w first bytes fua left lands goes syncs may = λ sector h.
     ∙ lands.content (first + sector)
     ∙ HasBytes-put first bytes u.content sector h
 
--- If a write with FUA is done, whatever a crash leaves has its bytes.
+-- If a write with FUA is done, whatever a crash leaves has the write's bytes.
 pub landed-durable : (v w : View) (first : ℕ) (bytes : List ℕ) (left : Content)
     → WriteDone (writes first bytes) true v w
     → w.crash left → HasBytes left first bytes
@@ -30,7 +30,7 @@ landed-durable v w first bytes left lands may = λ sector h.
     let old = lands.durable refl left may in
     old.2 (first + sector) ∙ HasBytes-put first bytes old.0 sector h
 
--- If a crash during a call may have left a content, the content is torn.
+-- If a crash since the start of a call may have left a content, the content is torn.
 pub gained-torn : (v w : View) (patch : Patch) (left : Content) → IsLawful v → DeviceFrame patch v w
     → w.since v.moment left
     → IsTorn patch v.crash left

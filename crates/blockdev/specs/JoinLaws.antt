@@ -8,7 +8,8 @@ use Rattle.bio.specs.PartLaws.{between-part, patched-part, patched_twice, put-jo
 use Rattle.blockdev.specs.View.{IsLawful, View}
 use Rattle.blockdev.specs.Law.{AfterPatch, DeviceFrame, WriteDone, NoLie, CrashSetKept}
 
--- If each content of `mid` is a patched content of `set`, so is a patched content of `mid`.
+-- If each content of `mid` is a patched content of `set`, each patched content of `mid` is also one
+-- of `set`.
 after_twice : (patch : Patch) (set mid : Content → Type 0) (left : Content)
     → ((c : Content) → mid c → AfterPatch patch set c)
     → AfterPatch patch mid left → AfterPatch patch set left
@@ -32,8 +33,8 @@ goes_none patch v = record {
   honest = λ none. refl;
 }
 
--- The frame of a part of a call implies the frame of the whole call. So a call that fails after a
--- part of its work satisfies its frame.
+-- If a device satisfies the frame of a part of a call, it satisfies the frame of the whole call. So
+-- a call may fail after a part of its work.
 pub goes_part : (part whole : Patch) (v w : View) → IsPart part whole → DeviceFrame part v w
     → DeviceFrame whole v w
 goes_part part whole v w is goes = record {
@@ -57,7 +58,7 @@ goes_part part whole v w is goes = record {
     wider : (left : Content) → AfterPatch part v.crash left → AfterPatch whole v.crash left
     wider left after = (after.0, after.1, patched-part part whole after.0 left is after.2)
 
--- If two calls in turn each satisfy a frame, together they satisfy it.
+-- If each of two calls in turn satisfies the frame of a patch, both together satisfy it.
 pub goes_both : (patch : Patch) (u v w : View) → DeviceFrame patch u v → DeviceFrame patch v w
     → DeviceFrame patch u w
 goes_both patch u v w first second = record {
@@ -96,8 +97,8 @@ pub goes_cut : (end : ℕ) (patch : Patch) (v w : View) → DeviceFrame (below e
     → DeviceFrame patch v w
 goes_cut end patch v w = goes_part (below end patch) patch v w (below-part end patch)
 
--- If the part of a call below `from` satisfies its frame, and then the next part does, the part
--- below `to` satisfies its frame.
+-- The frame for the values below `from`, and then the frame for those from there to `to`, give the
+-- frame for the values below `to`.
 pub goes_next : (from to : ℕ) (patch piece : Patch) (u v w : View) → from ≤ to
     → SameValues piece (between from to patch)
     → DeviceFrame (below from patch) u v → DeviceFrame piece v w → DeviceFrame (below to patch) u w
@@ -111,7 +112,7 @@ goes_next from to patch piece u v w h same before after =
       | inr value ↦ inr (same sector ∙ value)
     ]
 
--- If a call is done, another call with the same values is done.
+-- If a call is done (`WriteDone`), each call with the same values is done.
 pub lands_same : (patch other : Patch) (fua : Bool) (v w : View) → SameValues patch other
     → WriteDone patch fua v w → WriteDone other fua v w
 lands_same patch other fua v w same lands = record {
@@ -147,7 +148,7 @@ lands_joined first second whole fua u v w joins before after = record {
       );
 }
 
--- If a call is done below `from`, and then its next part is done, it is done below `to`.
+-- If a call is done below `from`, and then from `from` to `to`, it is done below `to`.
 pub lands_next : (from to : ℕ) (patch piece : Patch) (fua : Bool) (u v w : View) → from ≤ to
     → SameValues piece (between from to patch)
     → WriteDone (below from patch) fua u v → WriteDone piece fua v w
@@ -169,7 +170,7 @@ pub lands_all : (end : ℕ) (patch : Patch) (fua : Bool) (v w : View) → HasNon
 lands_all end patch fua v w none =
     lands_same (below end patch) patch fua v w (below_all end patch none)
 
--- if two calls together didn't lie, neither lied
+-- If two calls in turn together didn't lie, neither of them lied.
 pub no_lie_parts : (first second : Patch) (u v w : View) → DeviceFrame first u v
     → DeviceFrame second v w → NoLie u w → NoLie u v × NoLie v w
 no_lie_parts first second u v w before after told =
@@ -189,12 +190,12 @@ stays_both u v w first second =
 pub stays_none : (v : View) → CrashSetKept v v
 stays_none v = record { crash = λ left may. may }
 
--- a content that a crash leaves has whole sectors
+-- Each content that a crash may leave has whole sectors.
 pub crash-whole : (v : View) (left : Content) → IsLawful v → v.crash left
     → HasWholeSectors v.size left
 crash-whole v left lawful may =
     lawful.whole v.moment left (omega arith) (lawful.nested v.moment left (omega arith) may)
 
--- the content of a device has whole sectors
+-- The content of a device has whole sectors.
 pub content-whole : (v : View) → IsLawful v → HasWholeSectors v.size v.content
 content-whole v lawful = crash-whole v v.content lawful lawful.current

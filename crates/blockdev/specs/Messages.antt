@@ -1,4 +1,4 @@
--- How an error of a message is reported as a refusal, and when a view is unchanged.
+-- The refusals that report errors of messages, and views that a message leaves unchanged.
 use Rattle.std.proofs.Common.{◌≡◌, ℕ, refl, ◌∙◌}
 use Rattle.refusals.specs.declared.refusal.Refusal.{Refusal}
 use Rattle.refusals.specs.declared.refusal.Refusal.TheVariants as refusals
@@ -14,7 +14,7 @@ message_refusal errors.AlreadyBad = refusals.AlreadyBad
 message_refusal errors.NotBad = refusals.NotBad
 message_refusal errors.Memory = refusals.Memory
 
--- The view of a device is unchanged.
+-- The view `w` of a device is the earlier view `v`, unchanged.
 pub record Unchanged (v w : View) : Type 0 where
   pub size : w.size ≡ v.size
   pub place : w.place ≡ v.place

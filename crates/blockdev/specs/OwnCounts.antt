@@ -1,4 +1,5 @@
--- The view of a layer that adds faults and lies of its own to those of the device below it.
+-- The view of a layer that counts its own faults and lies in addition to those of the device below
+-- it.
 use Rattle.std.proofs.Common.{◌≡◌, ℕ, ◌+◌, ◌<◌, ◌≤◌, Bool, false, Err, ap, ◌∙◌, inl, inr, arith}
 use Rattle.std.proofs.lemmas.Bool.{cases_lt, or_parts}
 use Rattle.std.specs.Prelude.{◌⊎◌, ◌||◌, Result, min}
@@ -16,7 +17,7 @@ abbrev pub one_more : ℕ → ℕ
 one_more count = sum_of count 1
 
 -- the view of a layer over a device with the view `v`: the layer's own `faults` and `lies` are
--- added, and the layer can lie if it drops calls (`drops`) or the device can lie
+-- added to the counts. The layer can lie if it drops calls (`drops`) or the device can lie.
 abbrev pub counted : View → ℕ → ℕ → Bool → View
 counted v faults lies drops = record {
   size = v.size;
@@ -44,8 +45,8 @@ lawful_counted v faults lies drops lawful = record {
   lies = omega arith;
 }
 
--- Let the layer's own counts not decrease, and its own lies stay unless it drops calls. If the
--- lower device satisfies the frame of a call, so does the layer.
+-- Suppose that the layer's own counts don't decrease, and that its own lies stay unless it drops
+-- calls. If the lower device satisfies the frame of a call, so does the layer.
 pub goes_counted : (patch : Patch) (v w : View) (faults more_faults lies more_lies : ℕ)
     (drops later : Bool) → faults ≤ more_faults → lies ≤ more_lies
     → later ≡ drops → (drops ≡ false → more_lies ≡ lies)
@@ -71,7 +72,7 @@ goes_counted patch v w faults more_faults lies more_lies drops later h k stays h
           omega arith;
     }
 
--- If a layer adds a lie of its own, the call lied.
+-- If a layer counts one more lie of its own, `NoLie` doesn't hold.
 pub own_lie : (v : View) (faults lies : ℕ) (drops later : Bool) → lies ≤ last_count
     → NoLie (counted v faults lies drops) (counted v faults (one_more lies) later) → ⊥
 own_lie v faults lies drops later h told =
@@ -79,7 +80,7 @@ own_lie v faults lies drops later h told =
     let below = told.counted in
     omega arith
 
--- If the lower device's result has its cause, the layer's same result has its cause.
+-- If a result of the lower device has its cause (`HasCause`), so has the same result of the layer.
 pub cause_counted : (now : ℕ) (v w : View) (result : Result ℕ DevError)
     (faults more_faults lies more_lies : ℕ) (drops later : Bool) → faults ≤ more_faults
     → HasCause now v w result
@@ -100,7 +101,7 @@ cause_counted now v w result faults more_faults lies more_lies drops later h cau
       | inr same ↦ inr (omega arith)
     ]
 
--- If a layer adds a fault of its own, its error has its cause.
+-- If a layer counts one more fault of its own, each error that it returns has its cause.
 pub own_cause : (now : ℕ) (v : View) (faults lies : ℕ) (drops later : Bool) (error : DevError)
     → HasCause now (counted v faults lies drops) (counted v (one_more faults) lies later)
     (Err error)

@@ -1,6 +1,6 @@
 //! The trait `BlockDev`: sectors that are read, written, discarded and flushed, under contracts.
-//! Disks, layers and stacks implement it; recorders, readers and replays call devices only through
-//! it.
+//! Disks, layers and stacks implement the trait; recorders, readers and replays call devices only
+//! through the trait.
 ghost use Rattle.std.specs.Prelude.{◌≡◌, ◌/◌, OnOk, Result, false, length, ℕ};
 ghost use Rattle.bio.specs.declared.outcome.DevError.{DevError};
 ghost use Rattle.blockdev.specs.Calls.{Call, Discards, Flushes, IsByteRange, IsRange, Reads};
@@ -17,14 +17,14 @@ use bio::{DevError, Ms};
 /// A call begins at the time `now`, and an Ok returns the time of its end. The caller ensures that
 /// a range that is read, written or discarded is at least one whole sector, all within the device.
 /// A flush and FUA promise what Linux's Documentation/block/writeback_cache_control.rst asks of a
-/// device. The promises of a write, a discard or a flush that returns Ok hold if the call doesn't
-/// lie (`NoLie`): if it doesn't report work that wasn't done.
+/// device. If a write, a discard or a flush returns Ok, its promises hold unless the call lied
+/// (`NoLie`): unless it reported work that wasn't done.
 pub trait BlockDev {
     /// The view of the device in contracts.
     ghost shown: { Self → View };
 
-    /// Whether the device, before a call and after it, can have done this call at this time with
-    /// this result.
+    /// Whether this call, made at this time, can return this result and take the device from the
+    /// first state to the second.
     ghost does: { Self → Call → ℕ → Result ℕ DevError → Self → Type 0 };
 
     /// Returns the number of sectors, which never changes.
@@ -89,7 +89,7 @@ pub trait BlockDev {
         ensures cause { HasCause now (shown self.old) (shown self.new) result }
         ensures does { does self.old Flushes now result self.new };
 
-    /// Returns how many calls of the device, or of a device below, failed; at most 2^64 - 1.
+    /// Returns how many calls of the device, or of a device below it, failed; at most 2^64 - 1.
     fn faults(&self) -> u64
         ensures { result ≡ (shown self.now).faults };
 

@@ -1,5 +1,5 @@
-//! Laws of block devices: what a crash leaves of flushed and FUA writes, and of a call that it
-//! interrupts. Each function does nothing; its clauses are the law.
+//! Laws of block devices: what a crash leaves of flushed and FUA writes, and of a call that the
+//! crash interrupts. Each function does nothing; its clauses are the law.
 ghost use Rattle.std.specs.Prelude.{◌≡◌, ◌<◌, ◌≤◌, Bool, List, None, true, ℕ};
 ghost use Rattle.blockdev.specs.Law.{DeviceFrame, IsTorn, WriteDone, FlushDone};
 ghost use Rattle.bio.specs.Content.{Content, HasBytes, HasWholeSectors, Patch, nothing, writes};
@@ -16,7 +16,7 @@ pub fn flushed_writes_outlive_crashes<D: BlockDev>()
         (D.shown flushed).crash left → HasBytes left first bytes }
 {}
 
-/// If a write with FUA is done, whatever a crash then leaves has its bytes.
+/// If a write with FUA is done, whatever a crash then leaves has the write's bytes.
 pub fn fua_writes_outlive_crashes<D: BlockDev>()
     ensures { (before written : D) (first : ℕ) (bytes : List ℕ) (left : Content) →
         WriteDone (writes first bytes) true (D.shown before) (D.shown written) →
@@ -32,16 +32,16 @@ pub fn durable_sectors_stay<D: BlockDev>()
         (left : Content) → (D.shown after).crash left → left sector ≡ value }
 {}
 
-/// A call, even a failed one, tears at most its own sectors. If a crash comes after it, each sector
-/// is as a crash could leave it before the call, or has the call's value.
+/// A call, even a failed one, tears at most its own sectors. A crash after the call leaves a
+/// content that it could leave before the call, with the call's values in some sectors.
 pub fn calls_tear_their_own_sectors<D: BlockDev>()
     ensures { (before after : D) (patch : Patch) (left : Content) →
         DeviceFrame patch (D.shown before) (D.shown after) → (D.shown after).crash left →
         IsTorn patch (D.shown before).crash left }
 {}
 
-/// A crash during a call tears at most the call's own sectors too. It leaves a content that it
-/// could leave before, with the call's values in some of their sectors.
+/// A crash during a call tears at most the call's own sectors too. Such a crash leaves a content
+/// that a crash could leave before the call, with the call's values in some of their sectors.
 pub fn calls_tear_their_own_sectors_at_any_moment<D: BlockDev>()
     ensures { (before after : D) (patch : Patch) (left : Content) →
         DeviceFrame patch (D.shown before) (D.shown after) →
@@ -49,7 +49,8 @@ pub fn calls_tear_their_own_sectors_at_any_moment<D: BlockDev>()
         IsTorn patch (D.shown before).crash left }
 {}
 
-/// Each content that a crash may leave has whole sectors of 512 bytes, and so has the content.
+/// Each content that a crash may leave has whole sectors of 512 bytes, and so has the device's
+/// content.
 pub fn crashes_leave_whole_sectors<D: BlockDev>()
     ensures crash { (device : D) (left : Content) → (D.shown device).crash left →
         HasWholeSectors (D.shown device).size left }

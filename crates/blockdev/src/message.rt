@@ -11,8 +11,8 @@ use thiserror::Error;
 /// Why a message is refused.
 #[derive(Clone, Copy, Debug, PartialEq, Eq, Error)]
 pub enum MessageError {
-    /// The layer takes no such message, the block isn't within the layer, or there is no such
-    /// layer.
+    /// The layer takes no such message, the message's block isn't within the layer, or there is no
+    /// such layer.
     #[error("no such message")]
     BadMessage,
     /// The block is already listed as bad.
@@ -53,8 +53,8 @@ impl<T: Drop> From<AllocFailed<T>> for MessageError {
 pub trait Message: BlockDev {
     ghost use Rattle.blockdev.specs.declared.message.MessageError.{MessageError};
 
-    /// Whether the device, before a message to this layer and after it, can have returned this
-    /// result.
+    /// Whether this message to this layer can return this result and take the device from the first
+    /// state to the second.
     ghost answers: { Self → ℕ → List ℕ → Result (Unit {0}) MessageError → Self → Type 0 };
 
     /// Passes a message to a layer; the layers are numbered from 1. Whatever the result, the

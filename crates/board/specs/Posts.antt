@@ -1,4 +1,4 @@
--- The statuses that a writer posts one after another, and the number that stands for a status.
+-- The statuses that a writer posts one after another, and a status as a number.
 use Rattle.std.specs.Prelude.{◌≡◌, ℕ, ◌+◌, ◌*◌, ◌≤◌, List, [], ◌∷◌, ◌++◌, Option, Some, None}
 use Rattle.std.specs.Prelude.{slice_get}
 use Rattle.refusals.specs.declared.end.End.{End}
@@ -24,7 +24,8 @@ pub record IsFit (status : Status) : Type 0 where
 abbrev pub Stays : Option End → Option End → Type 0
 Stays last end = (cause : End) → last ≡ Some cause → end ≡ Some cause
 
--- `next` may follow `status`: it has at least as many entries, and keeps the end if there is one.
+-- `next` may follow `status`: `next` has at least as many entries, and the same end if `status` has
+-- one.
 pub record MayFollow (status next : Status) : Type 0 where
   pub entries : status.entries ≤ next.entries
   pub end : Stays status.end next.end

@@ -38,28 +38,29 @@ told_by pass other = record { writes = pass.writes; seen = pass.seen; told = oth
 abbrev pub as_reader : Knows → Knows
 as_reader pass = reader_of pass.seen
 
--- The writer posts: if the step stores the number of a status that fits, the writer's pass has this
--- status as its last.
+-- The writer posts: if the step stores the number of a status that fits, this status is added to
+-- what the writer's pass has seen.
 abbrev pub Publishes : Step (Unit {0}) → Me (Unit {0}) Knows → ℕ → Me (Unit {0}) Knows → Type 0
 Publishes step before found after =
     (status : Status) → IsFit status → step.first ≡ word_of status
     → after ≡ (writer_of (before.0.seen ++ status ∷ []), [])
 
--- A reader looks. What it has seen then begins with what it had seen before, and no status of it
--- goes back. The number that the step finds is that of the last status.
+-- A reader looks. The statuses that it has seen then begin with those that it had seen before, and
+-- none goes back. The step finds the number of the last one.
 abbrev pub Looks : Step (Unit {0}) → Me (Unit {0}) Knows → ℕ → Me (Unit {0}) Knows → Type 0
 Looks step before found after =
     Begins before.0.seen after.0.seen × IsRising after.0.seen
     × (after ≡ (reader_of after.0.seen, [])) × (found ≡ word_of (last_of after.0.seen))
 
--- The writer compares: what it has learned is a prefix of what it posted. Then it forgets it.
+-- The writer compares: the statuses that its pass has learned are a prefix of those that it posted.
+-- Its pass then forgets the learned ones.
 abbrev pub Compares : Step (Unit {0}) → Me (Unit {0}) Knows → ℕ → Me (Unit {0}) Knows → Type 0
 Compares step before found after =
     Begins before.0.told before.0.seen × (after ≡ (writer_of before.0.seen, []))
 
 -- The rule for the pass at index `by`; the writer's is at `place`, and `statuses` were posted.
 pub record Fits (place : ℕ) (statuses : List Status) (by : ℕ) (pass : Knows) : Type 0 where
-  -- only the pass at `place` can be the writer's, which has seen all that was posted
+  -- only the pass at `place` can be the writer's; the writer's pass has seen all that was posted
   pub writes : pass.writes ≡ true → (by ≡ place) × (pass.seen ≡ statuses)
   -- what the pass has seen, and what it has learned, are prefixes of what was posted
   pub seen : Begins pass.seen statuses

@@ -1,9 +1,9 @@
 //! A board on which one writer posts the status of a log, and readers look at it. No call waits.
 //!
-//! A status is one number in one shared word, so a reader never sees a part of one. The clauses
-//! about readers are about lists. Each reader has seen a prefix of the statuses that the writer
-//! posted. A look leaves this prefix or makes it longer, and returns its last status. So no reader
-//! sees a status go back. Only the call that makes the board takes memory.
+//! A status is one number in one shared word, so a reader always sees a whole status. Contracts see
+//! a reader as a list: the statuses that it has seen, a prefix of those that the writer posted. A
+//! look keeps this list or makes it longer, and returns its last status. So no reader sees a status
+//! go back. Only the call that makes the board takes memory.
 #![tactic(auto)]
 
 ghost use Rattle.std.specs.Prelude.{◌≡◌, List, [], ◌∷◌, ◌++◌, Option, MatchBool};
@@ -33,8 +33,8 @@ impl Names for Brand {
     ghost board = { no_table };
 }
 
-/// A new board with its writer's seat, which has no name yet. Its status is that of an empty log.
-/// Contracts see it as the id of its table.
+/// A new board that has no name yet, with its writer's seat. The board has the status of an empty
+/// log. Contracts see a `Blank` as the id of its table.
 #[derive(Drop)]
 pub struct Blank {
     post: Post,
@@ -66,7 +66,7 @@ pub struct Board<N: Names> {
     ghost one_word: { post.shared.table_id.words ≡ 1 },
 }
 
-/// The seat of the one writer. Contracts see it as the statuses that were posted, in order.
+/// The seat of the one writer. Contracts see the seat as the statuses that were posted, in order.
 #[derive(Drop)]
 pub struct WriterSeat<N: Names> {
     pass: Seat<(), Knows>,
@@ -88,8 +88,8 @@ impl<N: Names> Model for WriterSeat<N> {
         × (w.pass.me ≡ (writer_of w.pass.me.0.seen, [])) × (w.last ≡ last_of w.pass.me.0.seen) };
 }
 
-/// The seat of a reader. Contracts see it as the statuses
-/// that it has seen, a prefix of what was posted.
+/// The seat of a reader. Contracts see the seat as the statuses that the reader has seen, a prefix
+/// of those that were posted.
 #[derive(Drop)]
 pub struct StatusSeat<N: Names> {
     pass: Seat<(), Knows>,
@@ -159,10 +159,10 @@ impl<N: Names> WriterSeat<N> {
     }
 }
 
-// The maximum number of a log's sectors, and of its entries.
+// The maximum number of sectors of a log, and the maximum number of its entries.
 const MOST: u64 = 1_048_576;
 
-// Returns whether `end` has the same cause as `last`, if `last` has one.
+// Returns whether `end` has the cause of `last`; true if `last` has no cause.
 fn keeps(last: Option<End>, end: Option<End>) -> bool
     ensures { MatchBool result (Stays last end) (Stays last end → ⊥) }
 {
@@ -183,8 +183,8 @@ impl<N: Names> Board<N> {
         }
     }
 
-    /// Posts a status of a log of at most 1,048,576 sectors. It has at least as many entries as the
-    /// last one, and if that one had an end, the same end.
+    /// Posts a status of a log of at most 1,048,576 sectors. The status has at least as many
+    /// entries as the last posted one. If the last one had an end, the status has the same end.
     pub fn publish(&self, writer: &mut WriterSeat<N>, status: Status)
         requires { MayPost writer.old status }
         ensures { writer.new ≡ writer.old ++ status ∷ [] }
@@ -194,8 +194,8 @@ impl<N: Names> Board<N> {
         writer.last = status;
     }
 
-    /// Returns the last status that the reader has then seen. That may be one that it saw before,
-    /// but none older. What it has seen begins with what it had seen before, and no status of it
+    /// Looks at the board, and returns the last status that the reader has now seen: the same as
+    /// before, or a later status. The list of seen statuses begins as before, and no status in it
     /// goes back. It isn't proved that no newer status was posted.
     pub fn read(&self, mine: &mut StatusSeat<N>) -> Status
         ensures later { MayFollow (last_of mine.old) result }

@@ -1,12 +1,13 @@
-// The rule for the passes of a board's writer and readers, and the steps that keep the rule.
+// The rule of a board's word and passes, and the steps that keep the rule.
 
 use atomic_table::{Join, Play, Split, Table, TableRule};
 use bio::Status;
 use std::alloc::Global;
 use std::collections::LinkedList;
 
-// What the seat of a writer or a reader knows: the statuses that it has seen, and those that it has
-// learned from another pass. The writer's pass has seen all. No value of this type is made.
+// A pass: what the seat of the writer or of a reader knows. `seen` are the statuses that it has
+// seen, `told` those that it has learned from another pass. The writer's pass has seen all. No
+// value of this type is made.
 pub struct Knows {
     pub writes: bool,
     pub seen: LinkedList<Status>,
@@ -27,6 +28,7 @@ impl TableRule<(), Knows, ()> for Law {
     ghost first = { λ _. writer_of (opening ∷ []) };
 }
 
+// The table of a board: its one word and its passes.
 pub type Post = Table<(), Knows, (), Law, Global>;
 
 // The writer posts a status.

@@ -1,5 +1,5 @@
-// A status as one number: the entries from bit 26 on, the sector from bit 5 on, and the number of
-// the end below it.
+// A status as one number: the entries from bit 26 on, the sector from bit 5 on, and the end's
+// number below.
 ghost use Rattle.std.specs.Prelude.{◌≡◌, ◌≤◌, Option};
 ghost use Rattle.refusals.specs.declared.end.End.{End};
 ghost use Rattle.bio.specs.declared.outcome.Status.{Status as Said};
@@ -9,7 +9,7 @@ use bio::{End, Status};
 
 // The amount by which one entry increases the number.
 const ENTRY: u64 = 67_108_864;
-// The amount by which one sector increases it.
+// The amount by which one sector increases the number.
 const SECTOR: u64 = 32;
 
 /// Returns the number of a status.
@@ -20,7 +20,7 @@ pub fn word_of(status: Status) -> u64
     status.entries * ENTRY + status.sector * SECTOR + number_of(status.end)
 }
 
-/// Returns the status with the number `word`.
+/// Returns the status whose number is `word`, if a status that fits has this number.
 pub fn status_of(word: u64) -> Status
     ensures { (status : Said) → IsFit status → word ≡ word_said status → result ≡ status }
 {
@@ -44,7 +44,7 @@ fn number_of(end: Option<End>) -> u64
     }
 }
 
-// Returns the end with this number; none for any other number.
+// Returns the end with this number; none if no end has this number.
 fn end_of(number: u64) -> Option<End>
     ensures { (end : Option End) → number ≡ end_number end → result ≡ end }
 {

@@ -27,7 +27,7 @@ use Rattle.dmlw_commands.specs.Replays.{PrintsReplay, Replays}
 use Rattle.judge.specs.declared.verdict.Verdict.{Verdict}
 use Rattle.judge.specs.declared.verdict.Verdict.TheVariants as verdicts
 use Rattle.replay.specs.declared.upto.Upto.{Upto}
-use Rattle.dmlw_cli.specs.Commands.{AsksForOne, EndsCommand, EndsTask, EndsUntasked, IsFaultLine}
+use Rattle.dmlw_cli.specs.Commands.{AsksForOneWrite, EndsCommand, EndsTask, EndsUntasked, IsFaultLine}
 use Rattle.dmlw_cli.specs.Commands.{LeavesBy, ReportsBy, ReportsOneLine, ReportsUntasked}
 use Rattle.clap.specs.Words.{Text, kind_of}
 use Rattle.clap.specs.declared.error.Error.{Error}
@@ -66,7 +66,7 @@ ends_silently writes_old writes_new exit same =
 -- what is refused has asked for no file, or for its log, which couldn't be written
 refused_writing : (prints : Status → Type 0) (writes_old writes_new : Option (List Write))
     (fault : RunError)
-    → ((status : Status) → prints status → AsksForOne writes_old writes_new)
+    → ((status : Status) → prints status → AsksForOneWrite writes_old writes_new)
     → ((writes_new ≡ writes_old) ⊎ (IsFileError fault × (status : Status) × prints status))
     → EndsCommand writes_old writes_new 1
 refused_writing prints writes_old writes_new fault asks (inl same) =
@@ -79,7 +79,7 @@ refused_writing prints writes_old writes_new fault asks (inr (file, status, prin
 
 -- a recording that came so far has asked for its log
 ends_logged : (end : Option End) (writes_old writes_new : Option (List Write))
-    → AsksForOne writes_old writes_new
+    → AsksForOneWrite writes_old writes_new
     → EndsCommand writes_old writes_new (status_of (exit_at end))
 ends_logged None writes_old writes_new asked =
     record { known = omega arith; once = inr asked; unwritten = λ usage. absurd (omega arith) }
@@ -143,7 +143,7 @@ known_by (Err (faults.StoppedAfter applied refusal)) = (omega arith, λ usage. a
 
 -- a replay or a copy that has asked for nothing, or for its image
 image_asks : (writes_old writes_new : Option (List Write)) (done : Result ℕ RunError)
-    → ((writes_new ≡ writes_old) ⊎ AsksForOne writes_old writes_new)
+    → ((writes_new ≡ writes_old) ⊎ AsksForOneWrite writes_old writes_new)
     → EndsCommand writes_old writes_new (status_of (exit_by done))
 image_asks writes_old writes_new done once =
     let known = known_by done in
@@ -153,7 +153,7 @@ image_asks writes_old writes_new done once =
 printed_asks : (log_file first_file : Option (List ℕ)) (name : List ℕ) (upto : Upto)
     (writes_old writes_new : Option (List Write)) (old new : Option (List ℕ))
     (count : ℕ) → PrintsReplay log_file first_file name upto writes_old writes_new old new count
-    → AsksForOne writes_old writes_new
+    → AsksForOneWrite writes_old writes_new
 printed_asks log_file first_file name upto writes_old writes_new old new count prints =
     (name, (prints.image, prints.asked))
 
@@ -187,7 +187,7 @@ ends_replayed log_file first_file out_file name upto writes_old writes_new old n
 copied_asks : (log_file : Option (List ℕ)) (name : List ℕ) (sectors : ℕ)
     (writes_old writes_new : Option (List Write)) (old new : Option (List ℕ))
     (count : ℕ) → PrintsCopy log_file name sectors writes_old writes_new old new count
-    → AsksForOne writes_old writes_new
+    → AsksForOneWrite writes_old writes_new
 copied_asks log_file name sectors writes_old writes_new old new count prints =
     (name, (prints.image, prints.asked))
 
@@ -244,7 +244,7 @@ ends_task (tasks.Formats page) contents writes_old writes_new old new t ended en
     ends_silently writes_old writes_new ended.exit ends.unwritten
 ends_task (tasks.Show error) contents writes_old writes_new old new t ended ends =
     ends_silently writes_old writes_new ended.exit ends.unwritten
-ends_task (tasks.Flawed flaw word) contents writes_old writes_new old new t ended ends =
+ends_task (tasks.HasBadWord flaw word) contents writes_old writes_new old new t ended ends =
     ends_silently writes_old writes_new ended.exit ends.unwritten
 
 -- a line with nothing behind it
@@ -364,7 +364,7 @@ task_tells (tasks.Formats page) contents writes_old writes_new old new t ended e
     told_by t ends.told.done ended off ends.told.tells
 task_tells (tasks.Show error) contents writes_old writes_new old new t ended ends off =
     text_tells (kind_of error) t ended ends.ends ends.tells off
-task_tells (tasks.Flawed flaw word) contents writes_old writes_new old new t ended ends off =
+task_tells (tasks.HasBadWord flaw word) contents writes_old writes_new old new t ended ends off =
     subst (λ (e : Exit). ReportsBy e ended t.before t.after) (sym ends.usage) tt
 
 -- where there was no memory to read words, that is what they are read as
@@ -379,7 +379,7 @@ memory_read words error is = read_as (is_formats words) words error is
 
 -- a log that was asked for is one file
 pub asks_for_one : (log : List ℕ) (kept : Type 0) (old new : Option (List Write))
-    → kept ⊎ AsksFor log old new → kept ⊎ AsksForOne old new
+    → kept ⊎ AsksFor log old new → kept ⊎ AsksForOneWrite old new
 asks_for_one log kept old new (inl keeps) = inl keeps
 asks_for_one log kept old new (inr asked) = inr (log, asked)
 

@@ -33,12 +33,12 @@ use Rattle.refusals.specs.Words.{IsNumber, is_number, number_value}
 use Rattle.dmlw_cli.specs.CommandLine.{Enters, command_words, has_explain, is_explain}
 use Rattle.dmlw_cli.specs.CommandLine.{is_positional, without_explain}
 use Rattle.dmlw_cli.specs.Commands.{DoesWords, EndsTask, EndsText, LeavesLog, LeavesRun}
-use Rattle.dmlw_cli.specs.Commands.{LeavesReplayed, ReplaysWhat, TaskLeaves}
+use Rattle.dmlw_cli.specs.Commands.{LeavesReplayed, EndsReplayingUpTo, TaskLeaves}
 use Rattle.dmlw_cli.specs.Names.{HasWords, name_text}
 use Rattle.dmlw_cli.specs.Tasks.{AsksBy, IsRead, IsReadByClap}
 use Rattle.dmlw_cli.specs.declared.name.Name.{Name}
 use Rattle.dmlw_cli.specs.declared.name.Name.TheVariants as names
-use Rattle.dmlw_cli.specs.declared.task.Flaw.TheVariants as flaws
+use Rattle.dmlw_cli.specs.declared.task.BadWord.TheVariants as flaws
 use Rattle.dmlw_cli.specs.declared.task.Task.{Task}
 use Rattle.dmlw_cli.specs.declared.task.Task.TheVariants as tasks
 use Rattle.dmlw_cli.proofs.TaskOfWords.{asks_for, read_asks}
@@ -343,12 +343,12 @@ replay_ends : (task : Task) (log first out what : Text) (given : Upto)
     (old new : Option (List ℕ)) (t : ErrStream) (ended : Ended) → IsWhat what given
     → AsksBy names.Replay (plain_rows names.Replay (log ∷ first ∷ out ∷ what ∷ [])) task
     → EndsTask task contents before after old new t ended
-    → ReplaysWhat what (contents log) (contents first) (contents out) out before after old new t ended
+    → EndsReplayingUpTo what (contents log) (contents first) (contents out) out before after old new t ended
 replay_ends (tasks.Replay files upto) log first out what given contents before after old new t ended
     is asks ends =
     of_words files upto log first out what
     (λ l f o u. EndsReplaying (contents l) (contents f) (contents o) o u before after old new t ended) asks ends
-replay_ends (tasks.Flawed flaws.What told) log first out what given contents before after old new t
+replay_ends (tasks.HasBadWord flaws.What told) log first out what given contents before after old new t
     ended is asks ends =
     let (is_word, none) = asks in
     absurd (subst (λ (w : Text). IsWhat w given → ⊥) (sym (same_some what told.now is_word))
@@ -375,7 +375,7 @@ image_left (tasks.Replay files upto) log first out what given contents later bef
     ended is asks ends leaves done =
     of_words files upto log first out what
     (λ l f o u. HoldsReplayed (contents l) (contents f) u (later o)) asks (leaves done)
-image_left (tasks.Flawed flaws.What told) log first out what given contents later before after old
+image_left (tasks.HasBadWord flaws.What told) log first out what given contents later before after old
     new t ended is asks ends leaves done =
     let (is_word, none) = asks in
     absurd (subst (λ (w : Text). IsWhat w given → ⊥) (sym (same_some what told.now is_word))
@@ -421,7 +421,7 @@ copy_ends (tasks.Copy files asked) log out word sectors contents before after ol
     asks ends =
     of_copy files asked log out word sectors
     (λ l o n. EndsCopying (contents l) o n before after old new t ended) is asks ends
-copy_ends (tasks.Flawed flaws.Sectors told) log out word sectors contents before after old new t
+copy_ends (tasks.HasBadWord flaws.Sectors told) log out word sectors contents before after old new t
     ended is asks ends =
     let (is_word, none) = asks in absurd (copy_named word sectors told.now is is_word none)
 copy_ends (tasks.Show error) log out word sectors contents before after old new t ended is asks
@@ -442,7 +442,7 @@ copy_left (tasks.Copy files asked) log out word sectors contents later before af
     is asks ends leaves done =
     of_copy files asked log out word sectors (λ l o n. HoldsCopied (contents l) n (later o)) is asks
     (leaves done)
-copy_left (tasks.Flawed flaws.Sectors told) log out word sectors contents later before after old new
+copy_left (tasks.HasBadWord flaws.Sectors told) log out word sectors contents later before after old new
     t ended is asks ends leaves done =
     let (is_word, none) = asks in absurd (copy_named word sectors told.now is is_word none)
 copy_left (tasks.Show error) log out word sectors contents later before after old new t ended is
@@ -493,7 +493,7 @@ judge_ends (tasks.Judge s n i) script m image moment contents before after old n
     of_question contents script image m s.now i.now word moment n
     (λ asked. EndsJudging asked before after old new t ended) number is_script is_image is_word
     named ends
-judge_ends (tasks.Flawed flaws.Moment told) script m image moment contents before after old new t
+judge_ends (tasks.HasBadWord flaws.Moment told) script m image moment contents before after old new t
     ended number asks ends =
     let (is_word, none) = asks in absurd (number_named m told.now moment number is_word none)
 judge_ends (tasks.Show error) script m image moment contents before after old new t ended number
@@ -517,7 +517,7 @@ path_ends (tasks.Path s n i) script m image moment contents before after old new
     of_question contents script image m s.now i.now word moment n
     (λ asked. EndsFinding asked before after old new t ended) number is_script is_image is_word
     named ends
-path_ends (tasks.Flawed flaws.Moment told) script m image moment contents before after old new t
+path_ends (tasks.HasBadWord flaws.Moment told) script m image moment contents before after old new t
     ended number asks ends =
     let (is_word, none) = asks in absurd (number_named m told.now moment number is_word none)
 path_ends (tasks.Show error) script m image moment contents before after old new t ended number asks
@@ -672,7 +672,7 @@ pub replay_done : (contents later : List ℕ → Option (List ℕ)) (before afte
     → IsWhat what given
     → DoesWords (command_words program names.Replay
     (log ∷ first ∷ out ∷ what ∷ [])) contents later before after old new errors_old errors_new ended
-    → ReplaysWhat what (contents log) (contents first) (contents out) out before after old new
+    → EndsReplayingUpTo what (contents log) (contents first) (contents out) out before after old new
     (err_stream false errors_old errors_new) ended
 replay_done contents later before after old new errors_old errors_new ended program log first out
     what given plain_log plain_first plain_out is does =
@@ -684,7 +684,7 @@ replay_done contents later before after old new errors_old errors_new ended prog
     (plain_rows names.Replay (log ∷ first ∷ out ∷ what ∷ [])) does.task plain
     (replay_enters program log first out what plain_log plain_first plain_out plain_what)
     (refl, (refl, (refl, (refl, tt)))) does.read in
-    subst (λ (explains : Bool). ReplaysWhat what (contents log)
+    subst (λ (explains : Bool). EndsReplayingUpTo what (contents log)
     (contents first) (contents out) out before after old new
     (err_stream explains errors_old errors_new) ended)
     (stays_silent names.Replay program (log ∷ first ∷ out ∷ what ∷ []) plain)

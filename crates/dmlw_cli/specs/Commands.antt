@@ -10,8 +10,8 @@ use Rattle.clap.specs.declared.error.kind.ErrorKind.{ErrorKind}
 use Rattle.clap.specs.declared.error.kind.ErrorKind.TheVariants.{DisplayHelp, DisplayVersion}
 use Rattle.clap.specs.declared.error.kind.ErrorKind.TheVariants.{OutOfMemory}
 use Rattle.clap.specs.Words.{kind_of}
-use Rattle.dmlw_cli.specs.declared.task.Flaw.{Flaw}
-use Rattle.dmlw_cli.specs.declared.task.Flaw.TheVariants as flaws
+use Rattle.dmlw_cli.specs.declared.task.BadWord.{BadWord}
+use Rattle.dmlw_cli.specs.declared.task.BadWord.TheVariants as flaws
 use Rattle.dmlw_cli.specs.declared.task.Task.{Task}
 use Rattle.dmlw_cli.specs.declared.task.Task.TheVariants as tasks
 use Rattle.dmlw_commands.specs.declared.exit.Exit.{Exit}
@@ -50,8 +50,8 @@ is_asked_for _ = false
 -- How printing help or the version is reported. It may succeed. If it fails, the output can't be
 -- written or memory ran out, and the error stream gets the line of this fault. Nothing is claimed
 -- about the output.
-abbrev pub TellsPrinting : ErrStream → Ended → Type 0
-TellsPrinting t ended =
+abbrev pub ReportsPrinting : ErrStream → Ended → Type 0
+ReportsPrinting t ended =
     (done : Result (Unit {0}) RunError) × IfErr done IsFileError × Tells t done ended
 
 -- The exit if the words of the command line can't be read: `Usage` if a word isn't UTF-8 text,
@@ -61,13 +61,13 @@ unread_exit InvalidData = Usage
 unread_exit _ = Refused
 
 -- If the writes are known, `new` are the writes `old` and one more, of any file.
-abbrev pub AsksForOne : Option (List Write) → Option (List Write) → Type 0
-AsksForOne old new = (name : List ℕ) × AsksFor name old new
+abbrev pub AsksForOneWrite : Option (List Write) → Option (List Write) → Type 0
+AsksForOneWrite old new = (name : List ℕ) × AsksFor name old new
 
 -- The exit status is at most 3, and at most one file write was asked for. With status 2, none was.
 pub record EndsCommand (old new : Option (List Write)) (status : ℕ) : Type 0 where
   pub known : status ≤ 3
-  pub once : (new ≡ old) ⊎ AsksForOne old new
+  pub once : (new ≡ old) ⊎ AsksForOneWrite old new
   pub unwritten : status ≡ 2 → new ≡ old
 
 -- What the error stream gets from a command that only shows clap's text. If memory ran out, it gets
@@ -75,8 +75,8 @@ pub record EndsCommand (old new : Option (List Write)) (status : ℕ) : Type 0 w
 -- For other kinds nothing is claimed.
 abbrev pub ReportsUntasked : ErrorKind → ErrStream → Ended → Type 0
 ReportsUntasked OutOfMemory t ended = Tells {T = Unit {0}} t (Err memory_error) ended
-ReportsUntasked DisplayHelp t ended = TellsPrinting t ended
-ReportsUntasked DisplayVersion t ended = TellsPrinting t ended
+ReportsUntasked DisplayHelp t ended = ReportsPrinting t ended
+ReportsUntasked DisplayVersion t ended = ReportsPrinting t ended
 ReportsUntasked _ t ended = Unit {0}
 
 -- How a command ends that only shows clap's text. It asks for no file write, and exits as
@@ -104,10 +104,10 @@ pub record EndsPage (page : List ℕ) (writes_old writes_new : Option (List Writ
   pub told : ReportsPage page old new t ended
 
 -- How the command `replay` ends if the word `what` names the end of the replay.
-abbrev pub ReplaysWhat : List ℕ → Option (List ℕ) → Option (List ℕ) → Option (List ℕ) → List ℕ
+abbrev pub EndsReplayingUpTo : List ℕ → Option (List ℕ) → Option (List ℕ) → Option (List ℕ) → List ℕ
     → Option (List Write) → Option (List Write) → Option (List ℕ)
     → Option (List ℕ) → ErrStream → Ended → Type 0
-ReplaysWhat what log_file first_file out_file name writes_old writes_new old new t ended =
+EndsReplayingUpTo what log_file first_file out_file name writes_old writes_new old new t ended =
     (upto : Upto) × IsWhat what upto
     × EndsReplaying log_file first_file out_file name upto writes_old writes_new old new t ended
 
@@ -118,30 +118,30 @@ LeavesReplayed what log_file first_file written =
 
 -- What follows a word of a wrong form in its message: the argument's name, the forms that the
 -- argument may have, and the command that prints help.
-abbrev pub flaw_forms : Flaw → List ℕ
-flaw_forms flaws.What =
+abbrev pub allowed_forms : BadWord → List ℕ
+allowed_forms flaws.What =
     codes
     "'<WHAT>'\n  [possible values: entries:<n>, mark:<text>, flush]\n\nFor more information, try 'dmlw help replay'."
-flaw_forms flaws.Sectors =
+allowed_forms flaws.Sectors =
     codes
     "'<SECTORS>'\n  [possible values: a number from 8 to 1048576]\n\nFor more information, try 'dmlw help copy'."
-flaw_forms flaws.Moment =
+allowed_forms flaws.Moment =
     codes
     "'<M>'\n  [possible values: a number of 1 to 20 digits, below 2^64]\n\nFor more information, try 'dmlw help judge'."
 
 -- The message about the word `word`, which has a wrong form.
-abbrev pub flaw_text : Flaw → List ℕ → List ℕ
-flaw_text flaw word =
-    codes "error: invalid value '" ++ (word ++ (codes "' for " ++ (flaw_forms flaw ++ codes "\n")))
+abbrev pub bad_word_text : BadWord → List ℕ → List ℕ
+bad_word_text flaw word =
+    codes "error: invalid value '" ++ (word ++ (codes "' for " ++ (allowed_forms flaw ++ codes "\n")))
 
 -- How a command line with a word of a wrong form ends. It exits with `Usage`, and asks for no file
 -- write. If the error stream can be written, it gets the message. The output gets nothing.
-pub record EndsFlawed (flaw : Flaw) (word : List ℕ) (writes_old writes_new : Option (List Write))
+pub record EndsBadWord (flaw : BadWord) (word : List ℕ) (writes_old writes_new : Option (List Write))
     (old new : Option (List ℕ)) (t : ErrStream) (ended : Ended) : Type 0 where
   pub unwritten : writes_new ≡ writes_old
   pub usage : ended.exit ≡ Usage
   pub silent : new ≡ old
-  pub told : ended.err_taken ≡ true → Appends t.before t.after (flaw_text flaw word)
+  pub told : ended.err_taken ≡ true → Appends t.before t.after (bad_word_text flaw word)
 
 -- How a task ends if the files hold `contents` before it.
 abbrev pub EndsTask : Task → (List ℕ → Option (List ℕ)) → Option (List Write) → Option (List Write)
@@ -175,8 +175,8 @@ EndsTask (tasks.Formats page) contents writes_old writes_new old new t ended =
     EndsPage page.now writes_old writes_new old new t ended
 EndsTask (tasks.Show error) contents writes_old writes_new old new t ended =
     EndsText (kind_of error) writes_old writes_new old new t ended
-EndsTask (tasks.Flawed flaw word) contents writes_old writes_new old new t ended =
-    EndsFlawed flaw word.now writes_old writes_new old new t ended
+EndsTask (tasks.HasBadWord flaw word) contents writes_old writes_new old new t ended =
+    EndsBadWord flaw word.now writes_old writes_new old new t ended
 
 -- What `record` or `run` leaves in the file `log`. If the command is done, `holds` is true for the
 -- file's new content. If logging ended early, either no file changed, or `holds` is true for that

@@ -6,7 +6,7 @@ ghost use Rattle.dmlw_cli.specs.Tasks.{AsksBy};
 ghost use Rattle.dmlw_cli.specs.declared.name.Name.TheVariants as names;
 
 use crate::sector_count::SectorCount;
-use crate::task::{Flaw, Task};
+use crate::task::{BadWord, Task};
 use clap::ArgMatches;
 use dmlw_commands::explain::{CopyNames, ReplayNames};
 use dmlw_commands::replay_log::upto_of;
@@ -68,7 +68,7 @@ pub fn replay_task<'a>(found: &ArgMatches<'a>) -> Option<Task<'a>>
             let names = ReplayNames { log, first, out };
             Some(Task::Replay { names, upto })
         }
-        None => Some(Task::Flawed(Flaw::What, what)),
+        None => Some(Task::HasBadWord(BadWord::What, what)),
     }
 }
 
@@ -86,7 +86,7 @@ pub fn copy_task<'a>(found: &ArgMatches<'a>) -> Option<Task<'a>>
             let names = CopyNames { log, out };
             Some(Task::Copy { names, sectors })
         }
-        None => Some(Task::Flawed(Flaw::Sectors, sectors)),
+        None => Some(Task::HasBadWord(BadWord::Sectors, sectors)),
     }
 }
 
@@ -105,7 +105,7 @@ pub fn judge_task<'a>(found: &ArgMatches<'a>) -> Option<Task<'a>>
             moment,
             image,
         }),
-        None => Some(Task::Flawed(Flaw::Moment, moment)),
+        None => Some(Task::HasBadWord(BadWord::Moment, moment)),
     }
 }
 
@@ -123,7 +123,7 @@ pub fn path_task<'a>(found: &ArgMatches<'a>) -> Option<Task<'a>>
             moment,
             image,
         }),
-        None => Some(Task::Flawed(Flaw::Moment, moment)),
+        None => Some(Task::HasBadWord(BadWord::Moment, moment)),
     }
 }
 

@@ -4,9 +4,9 @@ ghost use Rattle.std.specs.Io.KnownBytes.{Appends, Keeps};
 ghost use Rattle.std.specs.IoError.{error_kind};
 ghost use Rattle.clap.specs.Words.{kind_of};
 ghost use Rattle.dmlw_cli.specs.CommandLine.{has_explain};
-ghost use Rattle.dmlw_cli.specs.Commands.{AsksForOne, DoesWords, EndsCommand, EndsTask};
+ghost use Rattle.dmlw_cli.specs.Commands.{AsksForOneWrite, DoesWords, EndsCommand, EndsTask};
 ghost use Rattle.dmlw_cli.specs.Commands.{EndsUntasked, TaskLeaves, ReportsBy, ReportsPage};
-ghost use Rattle.dmlw_cli.specs.Commands.{ReportsUntasked, flaw_text, is_asked_for, unread_exit};
+ghost use Rattle.dmlw_cli.specs.Commands.{ReportsUntasked, bad_word_text, is_asked_for, unread_exit};
 ghost use Rattle.dmlw_commands.specs.Ends.{err_stream};
 ghost use Rattle.refusals.specs.Errors.{IsFileError};
 ghost use Rattle.dmlw_files.specs.Files.{KeepsFiles};
@@ -14,7 +14,7 @@ ghost use Rattle.dmlw_commands.specs.declared.exit.Exit.TheVariants.{LoggingEnde
 ghost use Rattle.dmlw_commands.specs.Exits.{IsRefusal, status_of};
 
 use crate::command_line::{has_explain, read_words, unread, without_explain};
-use crate::task::{Flaw, Task};
+use crate::task::{BadWord, Task};
 use clap::Error;
 use clap::error::ErrorKind;
 use dmlw_commands::copy_log::copy;
@@ -63,7 +63,7 @@ pub fn execute<'a, S: AsStr, F: Files, O: Write, E: Write, H: Threads + Wait + S
         → KeepsFiles (F.contents session.old.files) (F.contents session.new.files) }
     ensures unmade { result.exit ≡ LoggingEnded
         → KeepsFiles (F.contents session.old.files) (F.contents session.new.files)
-        ⊎ AsksForOne (F.writes session.old.files) (F.writes session.new.files) }
+        ⊎ AsksForOneWrite (F.writes session.old.files) (F.writes session.new.files) }
 
     // Without `--explain`, `err` gets nothing if the command is done. If the command is refused and
     // `err` can be written, `err` gets one line.
@@ -103,7 +103,7 @@ fn perform<F: Files, O: Write, E: Write, H: Threads + Wait + Sync>(
         → KeepsFiles (F.contents session.old.files) (F.contents session.new.files) }
     ensures unmade { result.exit ≡ LoggingEnded
         → KeepsFiles (F.contents session.old.files) (F.contents session.new.files)
-        ⊎ AsksForOne (F.writes session.old.files) (F.writes session.new.files) }
+        ⊎ AsksForOneWrite (F.writes session.old.files) (F.writes session.new.files) }
 {
     match task {
         Task::Record { script, log } => record(script, log, session),
@@ -126,7 +126,7 @@ fn perform<F: Files, O: Write, E: Write, H: Threads + Wait + Sync>(
             print_page(session.alloc, page, &mut session.out, &mut session.err)
         }
         Task::Show(text) => show(session.alloc, text, &mut session.out, &mut session.err),
-        Task::Flawed(flaw, word) => tell_flaw(flaw, word, &mut session.err),
+        Task::HasBadWord(flaw, word) => report_bad_word(flaw, word, &mut session.err),
     }
 }
 
@@ -164,20 +164,20 @@ fn write_page<O: Write>(page: &str, out: &mut O) -> Result<(), RunError>
 }
 
 // Prints the message about a word that has a wrong form for its argument.
-fn tell_flaw<E: Write>(flaw: Flaw, word: &str, err: &mut E) -> Ended
+fn report_bad_word<E: Write>(flaw: BadWord, word: &str, err: &mut E) -> Ended
     ensures usage { result.exit ≡ Usage }
     ensures told { result.err_taken ≡ true
-        → Appends (E.contents err.old) (E.contents err.new) (flaw_text flaw word.now) }
+        → Appends (E.contents err.old) (E.contents err.new) (bad_word_text flaw word.now) }
 {
     Ended {
         exit: Exit::Usage,
-        err_taken: write_flaw(flaw, word, err).is_ok(),
+        err_taken: write_bad_word(flaw, word, err).is_ok(),
     }
 }
 
-fn write_flaw<E: Write>(flaw: Flaw, word: &str, err: &mut E) -> io::Result<()>
+fn write_bad_word<E: Write>(flaw: BadWord, word: &str, err: &mut E) -> io::Result<()>
     ensures { OnOk result (Appends (E.contents err.old) (E.contents err.new)
-        (flaw_text flaw word.now)) }
+        (bad_word_text flaw word.now)) }
 {
     let forms = flaw.forms();
     writeln!(err, "error: invalid value '{word}' for {forms}")?;

@@ -2,7 +2,7 @@
 ghost use Rattle.std.specs.Prelude.{◌≡◌, ◌∷◌, [], List, Option, Some, false, true, ℕ};
 ghost use Rattle.dmlw_cli.specs.CommandLine.{command_words, is_positional};
 ghost use Rattle.dmlw_cli.specs.Commands.{DoesWords, LeavesLog, LeavesReplayed, LeavesRun};
-ghost use Rattle.dmlw_cli.specs.Commands.{ReplaysWhat};
+ghost use Rattle.dmlw_cli.specs.Commands.{EndsReplayingUpTo};
 ghost use Rattle.dmlw_cli.specs.Names.{name_of, name_text};
 ghost use Rattle.dmlw_cli.specs.declared.name.Name.{Name};
 ghost use Rattle.dmlw_cli.specs.declared.name.Name.TheVariants as names;
@@ -101,7 +101,7 @@ pub fn plain_words_replay()
         IsWhat what upto →
         DoesWords (command_words program names.Replay (log ∷ first ∷ out ∷ what ∷ [])) contents
         later before after old new errors_old errors_new ended →
-        ReplaysWhat what (contents log) (contents first) (contents out) out before after old new
+        EndsReplayingUpTo what (contents log) (contents first) (contents out) out before after old new
         (err_stream false errors_old errors_new) ended }
     // If the command is done, the file OUT holds the resulting image.
     ensures leaves { (contents later : List ℕ → Option (List ℕ))

@@ -1,6 +1,6 @@
 //! The tasks for which a command line can ask.
 ghost use Rattle.std.specs.Prelude.{◌≡◌};
-ghost use Rattle.dmlw_cli.specs.Commands.{flaw_forms};
+ghost use Rattle.dmlw_cli.specs.Commands.{allowed_forms};
 
 use crate::sector_count::SectorCount;
 use clap::Error;
@@ -57,13 +57,13 @@ pub enum Task<'a> {
     Formats(&'static str),
     /// Print clap's text: help, the version, or why the command line has no task.
     Show(Error),
-    /// Report that a word has a wrong form for its argument (`Flaw`).
-    Flawed(Flaw, &'a str),
+    /// Report that a word has a wrong form for its argument (`BadWord`).
+    HasBadWord(BadWord, &'a str),
 }
 
 /// Why a word is wrong, though `clap` accepts it.
 #[derive(Clone, Copy, Debug, PartialEq, Eq)]
-pub enum Flaw {
+pub enum BadWord {
     /// WHAT isn't `entries:<n>`, `mark:<text>` or `flush`.
     What,
     /// SECTORS isn't a number from 8 to 1,048,576.
@@ -72,20 +72,20 @@ pub enum Flaw {
     Moment,
 }
 
-impl Flaw {
+impl BadWord {
     /// Returns the argument's name, the forms that the argument may have, and the command that
     /// prints help.
     pub fn forms(self) -> &'static str
-        ensures { result.now ≡ flaw_forms self }
+        ensures { result.now ≡ allowed_forms self }
     {
         match self {
-            Flaw::What => {
+            BadWord::What => {
                 "'<WHAT>'\n  [possible values: entries:<n>, mark:<text>, flush]\n\nFor more information, try 'dmlw help replay'."
             }
-            Flaw::Sectors => {
+            BadWord::Sectors => {
                 "'<SECTORS>'\n  [possible values: a number from 8 to 1048576]\n\nFor more information, try 'dmlw help copy'."
             }
-            Flaw::Moment => {
+            BadWord::Moment => {
                 "'<M>'\n  [possible values: a number of 1 to 20 digits, below 2^64]\n\nFor more information, try 'dmlw help judge'."
             }
         }

@@ -10,9 +10,9 @@ use Rattle.bio.specs.Events.{is_stop}
 use Rattle.pending.specs.Moments.{last_moment}
 
 -- an element that was read stands there
-pub stands_there : {A : Type 0} (xs : List A) (k : ℕ) (x : A) → k < length xs → x ≡ get_or xs k x
+pub slice_get-of_get_or : {A : Type 0} (xs : List A) (k : ℕ) (x : A) → k < length xs → x ≡ get_or xs k x
     → slice_get xs k ≡ Some x
-stands_there {A} xs k x within is = slice_get-get_or xs k x within ∙ ap (λ (y : A). Some y) (sym is)
+slice_get-of_get_or {A} xs k x within is = slice_get-get_or xs k x within ∙ ap (λ (y : A). Some y) (sym is)
 
 -- the event of this place is a Stop
 abbrev pub stops_at : List CoreEvent → ℕ → Bool

@@ -263,22 +263,16 @@ told_ok (Err bad) x e = absurd (cc)
 step_ok : (bytes sectors moment : ℕ) (step : Step) (x : Unit {0})
     → step_test bytes sectors moment step ≡ Ok x
     → (step_answer bytes sectors step ≡ Ok tt) × IsInTime moment step
-step_ok bytes sectors moment steps.Close x e = (refl, tt)
-step_ok bytes sectors moment (steps.Read first count) x e =
-    (told_ok (step_answer bytes sectors (steps.Read first count)) x e, tt)
-step_ok bytes sectors moment steps.Turn x e = (refl, tt)
-step_ok bytes sectors moment (steps.Mark text) x e = (refl, tt)
-step_ok bytes sectors moment (steps.Message over layer text) x e = (refl, tt)
 step_ok bytes sectors moment (steps.At later) x e =
     (refl, ltb-false _ _ (barred_ok (nat_lt later moment) BadLine (Ok tt) x e).0)
+step_ok bytes sectors moment step x e = (told_ok (step_answer bytes sectors step) x e, tt)
 
 -- so is one that may come
 step_again : (bytes sectors moment : ℕ) (step : Step) → step_answer bytes sectors step ≡ Ok tt
     → IsInTime moment step → step_test bytes sectors moment step ≡ Ok tt
-step_again bytes sectors moment (steps.Read first count) fine in_time = ap as_refusal fine
 step_again bytes sectors moment (steps.At later) fine in_time =
     cond-false _ _ _ (le-ltb _ _ in_time)
-step_again bytes sectors moment step fine in_time = refl
+step_again bytes sectors moment step fine in_time = ap as_refusal fine
 
 -- an end
 end_grows : (bytes sectors : ℕ) (b c : Body) (name : ScriptId) (o : Option ℕ)

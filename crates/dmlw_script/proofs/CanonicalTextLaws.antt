@@ -1,22 +1,15 @@
 -- The one text of a script is a text of it, and lines with line feeds make a text.
 -- Serves the laws `each_script_has_a_text` and `lines_make_a_text`.
-use Rattle.std.proofs.Common.{◌≡◌, ◌≢◌, ℕ, zero, suc, ◌+◌, ◌-◌, ◌^◌, ◌<◌, ◌≤◌, Bool, true, false}
+use Rattle.std.proofs.Common.{◌≡◌, ◌≢◌, ℕ, ◌+◌, ◌^◌, ◌<◌, ◌≤◌, Bool, true, false}
 use Rattle.std.proofs.Common.{not, ◌&&◌, cond, List, [], ◌∷◌, ◌++◌, length, Option, Some, None, Ok}
 use Rattle.std.proofs.Common.{refl, ap, ◌∙◌, sym, subst, arith, append_assoc}
-use Rattle.std.specs.Prelude.{◌/◌, ◌%◌, ◌==◌, codes, decimal, flat_map, map, nat_eq, nat_lt}
-use Rattle.std.specs.Prelude.{unwrap_or, replicate}
-use Rattle.std.specs.Char.{is_ascii_digit}
-use Rattle.std.specs.List.{AllByRecursion, AllZip}
-use Rattle.std.proofs.lemmas.Bool.{and_from, and_parts, ltb-false}
+use Rattle.std.specs.Prelude.{◌==◌, flat_map, map, nat_eq, nat_lt, unwrap_or}
+use Rattle.std.specs.List.{join_with_byte, AllByRecursion}
 use Rattle.std.proofs.lemmas.Bool.Decides.{nat_tests}
-use Rattle.std.proofs.lemmas.Fmt.{digits_decimal}
 use Rattle.std.proofs.lemmas.List.Elements.{All-from_recursion}
-use Rattle.std.proofs.lemmas.List.Folds.{list_all-append}
-use Rattle.bio.specs.SizeLaws.{sized_passed}
 use Rattle.bio.specs.Sizes.{bytes_of}
 use Rattle.bio.specs.declared.sector_size.SectorSize.{SectorSize}
 use Rattle.bio.specs.declared.sector_size.SectorSize.TheVariants as sizes
-use Rattle.bio.specs.declared.request.Bio.TheVariants.{Read}
 use Rattle.dmlw_script.specs.declared.command.Command.{Command}
 use Rattle.dmlw_script.specs.declared.command.Command.TheVariants as commands
 use Rattle.dmlw_script.specs.declared.disk_name.DiskName.{DiskName}
@@ -27,23 +20,19 @@ use Rattle.dmlw_script.specs.LineMeaning as parsed_lines
 use Rattle.dmlw_script.specs.declared.line.HeadLine.TheVariants as head_lines
 use Rattle.dmlw_script.specs.declared.line.BodyLine.TheVariants as body_lines
 use Rattle.dmlw_script.specs.declared.command.Submission.{Submission}
-use Rattle.dmlw_script.specs.declared.command.Submission.TheVariants as submits
-use Rattle.dmlw_script.specs.declared.command.Step.{Step}
-use Rattle.dmlw_script.specs.declared.command.Step.TheVariants as steps
-use Rattle.dmlw_script.specs.inside.LineParser.{step, submit}
-use Rattle.dmlw_script.specs.Grammar.{layer_verb, message_verb, spaced, IsId, ParsesAs, IsTextOf}
-use Rattle.refusals.specs.WordLaws.{decimal_number, number_model}
-use Rattle.dmlw_script.specs.Lines.{with_line_feeds, is_line_byte, is_line_text, is_skipped}
-use Rattle.dmlw_script.specs.Lines.{lines_of, IsUnbroken}
-use Rattle.dmlw_script.specs.Ids.{is_id, is_name_byte, letters_of, script_id}
+use Rattle.dmlw_script.specs.Fields.{fields_of, head_fields, layer_word, number}
+use Rattle.dmlw_script.specs.Fields.{text_of, Fields, Given}
+use Rattle.dmlw_script.specs.Fields.{IsLineWith}
+use Rattle.dmlw_script.specs.Grammar.{IsTextOf}
+use Rattle.dmlw_script.specs.Lines.{with_line_feeds, is_line_byte, is_skipped, lines_of}
+use Rattle.dmlw_script.specs.Lines.{IsUnbroken}
+use Rattle.dmlw_script.specs.Ids.{script_id}
 use Rattle.dmlw_script.specs.Plans.{ArePicks, CanFollow, count_after_command, head_of, layer_line}
 use Rattle.dmlw_script.specs.Plans.{line_at, lines_after_head, lines_of_body, name_at}
-use Rattle.dmlw_script.specs.Plans.{lines_of_script, range_test, step_answer, submission_answer}
-use Rattle.dmlw_script.specs.Plans.{submissions, top_of, with_ending, Disk, HasLineText, IsDisk}
-use Rattle.dmlw_script.specs.Plans.{IsName, IsWellFormed, IsPlan, ScriptValue, WritesByte}
-use Rattle.dmlw_script.specs.CanonicalText.{line_text, canonical_text}
-use Rattle.dmlw_script.specs.Words.{byte_text, hex_digit}
-use Rattle.refusals.specs.Words.{before_byte, IsNumber}
+use Rattle.dmlw_script.specs.Plans.{lines_of_script}
+use Rattle.dmlw_script.specs.Plans.{submissions, top_of, with_ending, Disk, IsDisk}
+use Rattle.dmlw_script.specs.Plans.{IsName, IsWellFormed, IsPlan, ScriptValue}
+use Rattle.dmlw_script.specs.CanonicalText.{canonical_text}
 use Rattle.layer_table.specs.LineLaws.{printed_again}
 use Rattle.layer_table.specs.Ranges.{IsLayerSpec, IsTargetInRange}
 use Rattle.layer_table.specs.Texts as table_texts
@@ -51,58 +40,19 @@ use Rattle.layer_table.specs.Texts.{feature_words, set_words, target_words}
 use Rattle.fault_layers.specs.declared.feature.Feature.{Feature}
 use Rattle.fault_layers.specs.declared.feature.Feature.TheVariants as features
 use Rattle.layer_table.specs.declared.layer_spec.LayerSpec.{LayerSpec}
-use Rattle.layer_table.specs.declared.layer_spec.Target.{Target}
-use Rattle.layer_table.specs.declared.layer_spec.Target.TheVariants as targets
+use Rattle.fault_layers.specs.declared.target.Target.{Target}
+use Rattle.fault_layers.specs.declared.target.Target.TheVariants as targets
 use Rattle.dmlw_script.proofs.DiskLaws.{disk_small, layer_specs, top_small}
-use Rattle.dmlw_script.proofs.FoldLaws.{all_append, all_map, barred_ok, tells_said, Tells}
+use Rattle.dmlw_script.proofs.FieldLaws.{line_number, line_text_append, text_good, text_has, Fits}
+use Rattle.dmlw_script.proofs.FieldLaws.{FitsLine, FitsWord, IsLineText}
+use Rattle.dmlw_script.proofs.FoldLaws.{all_append, all_map, tells_said, Tells}
 use Rattle.dmlw_script.proofs.BodyLaws.{count_after_command-is, submissions-cons}
 use Rattle.dmlw_script.proofs.BodyLaws.{submissions-push}
-use Rattle.dmlw_script.specs.declared.command.WriteOptions.{WriteOptions}
-use Rattle.dmlw_script.specs.Options.{option_text, option_words, options_text}
-use Rattle.dmlw_script.proofs.LineParserLaws.{all_weaker, cut_alone, cut_word, lacks}
-use Rattle.dmlw_script.proofs.LineParserLaws.{options_spelled, said_kept}
+use Rattle.dmlw_script.proofs.WordLaws.{all_weaker, cut_alone, cut_word, lacks}
+use Rattle.dmlw_script.proofs.LineParserLaws.{said_kept, step_fits, submission_fits}
 use Rattle.dmlw_script.proofs.LineLemmas.{after_line, first_line}
 
--- ---- words
-
--- zeroes after a word without one leave it in front
-front_zeros : (word : List ℕ) (n : ℕ) → lacks 0 word ≡ true
-    → before_byte 0 (word ++ replicate n 0) ≡ word
-front_zeros word zero lack = (cut_word 0 word None lack).0
-front_zeros word (suc n) lack = (cut_word 0 word (Some (replicate n 0)) lack).0
-
--- a character of an id isn't zero
-name_byte_not_zero : (b : ℕ) → is_name_byte b ≡ true → not (b == 0) ≡ true
-name_byte_not_zero b letter = grind (arith, nat_tests)
-
--- the letters of an id are the id
-pub letters_id : (name : ScriptId) → IsName name → IsId (letters_of name) name
-letters_id name is =
-    let word = is.0 in
-    let letters : letters_of name ≡ word =
-    ap letters_of is.2 ∙ front_zeros word (16 - length word)
-    (all_weaker is_name_byte (λ b. not (b == 0)) name_byte_not_zero word
-    (and_parts _ _ is.1).1) in
-    (subst (λ (x : List ℕ). is_id x ≡ true) (sym letters) is.1, is.2 ∙ ap script_id (sym letters))
-
 -- ---- lines
-
--- each byte may stand in a line
-abbrev pub IsLineText : List ℕ → Type 0
-IsLineText word = is_line_text word ≡ true
-
--- two such texts in a row
-pub line_text_append : (a b : List ℕ) → IsLineText a → IsLineText b → IsLineText (a ++ b)
-line_text_append a b first second =
-    list_all-append is_line_byte a b ∙ and_from _ _ first second
-
--- a digit is one
-line_digit : (b : ℕ) → is_ascii_digit b ≡ true → is_line_byte b ≡ true
-line_digit b digit = grind (arith, nat_tests)
-
--- a character of an id is one
-line_name_byte : (b : ℕ) → is_name_byte b ≡ true → is_line_byte b ≡ true
-line_name_byte b letter = grind (arith, nat_tests)
 
 -- a line feed isn't one
 line_not_feed : (b : ℕ) → is_line_byte b ≡ true → not (b == 10) ≡ true
@@ -112,233 +62,56 @@ line_not_feed b good = grind (arith, nat_tests)
 line_plain : (b : ℕ) → is_line_byte b ≡ true → (nat_lt 0 b && nat_lt b 128) ≡ true
 line_plain b good = grind (arith, nat_tests)
 
--- a hexadecimal digit is one
-line_hex : (half : ℕ) → half < 16 → is_line_byte (hex_digit half) ≡ true
-line_hex half low = grind (arith, nat_tests)
-
--- a number's digits are such bytes
-pub line_number : (n : ℕ) → n < 2 ^ 64 → IsLineText (decimal n)
-line_number n low = all_weaker _ _ line_digit (decimal n) (digits_decimal number_model n low)
-
--- an id's characters are such bytes
-line_id : (name : ScriptId) → IsName name → IsLineText (letters_of name)
-line_id name is =
-    all_weaker is_name_byte is_line_byte line_name_byte (letters_of name)
-    (and_parts _ _ (letters_id name is).0).1
-
--- a byte's digits are such bytes
-line_byte : (byte : ℕ) → byte < 256 → IsLineText (byte_text byte)
-line_byte byte low =
-    and_from _ _ (line_hex (byte / 16) (omega arith))
-    (and_from _ _ (line_hex (byte % 16) (omega arith)) refl)
-
 -- what can be written of what a line says: its text says it
-pub record IsWrittenAs {A : Type 0} (text : A → List ℕ) (is_said : List ℕ → A → Type 0)
-    (s : A) : Type 0 where
-  pub says : is_said (text s) s
-  pub good : IsLineText (text s)
+pub record IsWrittenAs {A : Type 0} (fields : A → Fields) (s : A) : Type 0 where
+  pub says : IsLineWith (text_of (fields s)) (fields s)
+  pub good : IsLineText (text_of (fields s))
+
+-- what fits can be written
+pub written_as : {A : Type 0} (fields : A → Fields) (s : A) → FitsLine (fields s)
+    → IsWrittenAs fields s
+written_as fields s fits =
+    record { says = text_has (fields s) fits; good = text_good (fields s) fits }
 
 -- the same, of a recorder's line
 abbrev pub IsWritten : LineMeaning → Type 0
-IsWritten s = IsWrittenAs line_text ParsesAs s
+IsWritten s = IsWrittenAs fields_of s
 
--- a first word and a number
-pub written_number : (verb : List ℕ) (n : ℕ) → IsLineText verb → n < 2 ^ 64
-    → IsLineText (verb ++ 32 ∷ decimal n)
-written_number verb n good low = line_text_append verb (32 ∷ decimal n) good (line_number n low)
+written : (s : LineMeaning) → FitsLine (fields_of s) → IsWritten s
+written s fits = written_as fields_of s fits
 
--- a first word and an id
-written_id : (verb : List ℕ) (name : ScriptId) → IsLineText verb → IsName name
-    → IsLineText (verb ++ 32 ∷ letters_of name)
-written_id verb name good is = line_text_append verb (32 ∷ letters_of name) good (line_id name is)
+-- the lines of the disks
+pub data_fits : (n : ℕ) → n < 2 ^ 64 → FitsLine (head_fields (head_lines.Data n))
+data_fits n low = record { first = (refl, refl); others = (low, tt) }
 
--- the data disk's line
-pub data_written : (n : ℕ) → n < 2 ^ 64 → IsWritten (parsed_lines.Head (head_lines.Data n))
-data_written n low =
-    record {
-      says = record { word = decimal n; number = decimal_number n low; spelled = refl };
-      good = written_number (codes "data") n refl low;
-    }
+pub log_fits : (n : ℕ) (size : SectorSize) → n < 2 ^ 64
+    → FitsLine (head_fields (head_lines.Log n size))
+log_fits n sizes.B512 low = record { first = (refl, refl); others = (low, tt) }
+log_fits n sizes.B4096 low = record { first = (refl, refl); others = (low, ((refl, refl), tt)) }
 
--- the log disk's line
-pub log_written : (n : ℕ) (size : SectorSize) → n < 2 ^ 64
-    → IsWritten (parsed_lines.Head (head_lines.Log n size))
-log_written n sizes.B512 low =
-    record {
-      says = record { word = decimal n; number = decimal_number n low; spelled = refl };
-      good = written_number (codes "log") n refl low;
-    }
-log_written n sizes.B4096 low = record {
-  says = record { word = decimal n; number = decimal_number n low; spelled = refl };
-  good =
-      line_text_append (codes "log") (32 ∷ (decimal n ++ codes " 4096")) refl
-      (line_text_append (decimal n) (codes " 4096") (line_number n low) refl);
-}
-
--- an end's line
-pub complete_written : (name : ScriptId) → IsName name
-    → IsWritten (parsed_lines.Body (body_lines.Complete name))
-complete_written name is =
-    record {
-      says = record { word = letters_of name; id = letters_id name is; spelled = refl };
-      good = written_id (codes "c") name refl is;
-    }
-
--- options may stand in a line
-line_options : (options : WriteOptions) → IsLineText (options_text options)
-line_options options =
-    line_text_append (option_text options.flush (codes " flush")) _ (given options.flush _ refl)
-    (line_text_append (option_text options.fua (codes " fua")) _ (given options.fua _ refl)
-    (given options.meta _ refl))
-  where
-    given : (t : Bool) (text : List ℕ) → IsLineText text → IsLineText (option_text t text)
-    given true text good = good
-    given false text good = refl
-
--- a write's words may stand in a line
-pub line_write : (first count byte : ℕ) (options : WriteOptions) → first < 2 ^ 64 → count < 2 ^ 64
-    → byte < 256
-    → IsLineText (32 ∷ (decimal first
-    ++ 32 ∷ (decimal count ++ 32 ∷ spaced (byte_text byte ∷ option_words options))))
-line_write first count byte options first_low count_low byte_low =
-    let last : IsLineText (spaced (byte_text byte ∷ option_words options)) =
-    subst (λ (x : List ℕ). IsLineText x) (sym (options_spelled (byte_text byte) options))
-    (line_text_append (byte_text byte) (options_text options) (line_byte byte byte_low)
-    (line_options options)) in
-    line_text_append (decimal first)
-    (32 ∷ (decimal count ++ 32 ∷ spaced (byte_text byte ∷ option_words options)))
-    (line_number first first_low)
-    (line_text_append (decimal count) (32 ∷ spaced (byte_text byte ∷ option_words options))
-    (line_number count count_low) last)
-
--- so may those of sectors
-pub line_sectors : (first count : ℕ) → first < 2 ^ 64 → count < 2 ^ 64
-    → IsLineText (32 ∷ (decimal first ++ 32 ∷ decimal count))
-line_sectors first count first_low count_low =
-    line_text_append (decimal first) (32 ∷ decimal count) (line_number first first_low)
-    (line_number count count_low)
-
--- a write's line
-write_written : (name : ScriptId) (first count byte : ℕ) (options : WriteOptions) → IsName name
-    → first < 2 ^ 64 → count < 2 ^ 64 → byte < 256
-    → IsWritten (submit name (submits.Write first count byte options))
-write_written name first count byte options is first_low count_low byte_low = record {
-  says = record {
-    id_word = letters_of name;
-    first_word = decimal first;
-    count_word = decimal count;
-    id = letters_id name is;
-    first_number = decimal_number first first_low;
-    count_number = decimal_number count count_low;
-    is_byte = byte_low;
-    spelled = refl;
-  };
-  good =
-      line_text_append (letters_of name)
-      (32 ∷ (decimal first ++ 32 ∷
-      (decimal count ++ 32 ∷ spaced (byte_text byte ∷ option_words options)))) (line_id name is)
-      (line_write first count byte options first_low count_low byte_low);
-}
-
--- a discard's line
-discard_written : (name : ScriptId) (first count : ℕ) → IsName name → first < 2 ^ 64
-    → count < 2 ^ 64 → IsWritten (submit name (submits.Discard first count))
-discard_written name first count is first_low count_low = record {
-  says = record {
-    id_word = letters_of name;
-    first_word = decimal first;
-    count_word = decimal count;
-    id = letters_id name is;
-    first_number = decimal_number first first_low;
-    count_number = decimal_number count count_low;
-    spelled = refl;
-  };
-  good =
-      line_text_append (letters_of name) (32 ∷ (decimal first ++ 32 ∷ decimal count))
-      (line_id name is) (line_sectors first count first_low count_low);
-}
-
--- a read's line
-read_written : (first count : ℕ) → first < 2 ^ 64 → count < 2 ^ 64
-    → IsWritten (step (steps.Read first count))
-read_written first count first_low count_low = record {
-  says = record {
-    first_word = decimal first;
-    count_word = decimal count;
-    first_number = decimal_number first first_low;
-    count_number = decimal_number count count_low;
-    spelled = refl;
-  };
-  good = line_sectors first count first_low count_low;
-}
-
--- picks are written as numbers
-picks_numbers : (picks : List ℕ) → AllByRecursion (λ pick. pick < 2 ^ 64) picks
-    → AllZip IsNumber (map decimal picks) picks
-picks_numbers [] low = tt
-picks_numbers (pick ∷ picks) low = (decimal_number pick low.0, picks_numbers picks low.1)
-
--- a first word and picks
-line_picks : (word : List ℕ) (picks : List ℕ) → IsLineText word
-    → AllByRecursion (λ pick. pick < 2 ^ 64) picks → IsLineText (spaced (word ∷ map decimal picks))
-line_picks word [] good low = good
-line_picks word (pick ∷ picks) good low =
-    line_text_append word (32 ∷ spaced (decimal pick ∷ map decimal picks)) good
-    (line_picks (decimal pick) picks (line_number pick low.0) low.1)
-
--- a crash's line
-crash_written : (picks : List ℕ) → AllByRecursion (λ pick. pick < 2 ^ 64) picks
-    → IsWritten (parsed_lines.Crash picks)
-crash_written picks low = record {
-  says = record { words = map decimal picks; numbers = picks_numbers picks low; spelled = refl };
-  good = line_picks (codes "crash") picks refl low;
-}
+-- picks are numbers
+picks_fit : (picks : List ℕ) → AllByRecursion (λ pick. pick < 2 ^ 64) picks
+    → Fits (map number picks)
+picks_fit [] low = tt
+picks_fit (pick ∷ picks) low = (low.0, picks_fit picks low.1)
 
 -- lines that can be written, and the crash behind them
 ending_written : (ending : Option (List ℕ)) (ss : List LineMeaning) → ArePicks ending
     → AllByRecursion IsWritten ss → AllByRecursion IsWritten (with_ending ending ss)
-ending_written None ss picks written = written
-ending_written (Some picks) ss low written =
-    all_append IsWritten ss (parsed_lines.Crash picks ∷ []) written (crash_written picks low, tt)
-
--- an `at`'s line
-at_written : (moment : ℕ) → moment < 2 ^ 64 → IsWritten (step (steps.At moment))
-at_written moment low =
-    record {
-      says = record {
-        word = decimal moment;
-        number = decimal_number moment low;
-        spelled = refl;
-      };
-      good = written_number (codes "at") moment refl low;
-    }
-
--- a message's line
-message_written : (over : DiskName) (layer : ℕ) (text : List ℕ) → layer < 2 ^ 64 → IsLineText text
-    → IsWritten (step (steps.Message over layer text))
-message_written over layer text low good = record {
-  says =
-      record {
-        layer_word = decimal layer;
-        number = decimal_number layer low;
-        plain = good;
-        spelled = refl;
-      };
-  good =
-      line_text_append (message_verb over) (32 ∷ (decimal layer ++ 32 ∷ text)) (line_verb over)
-      (line_text_append (decimal layer) (32 ∷ text) (line_number layer low) good);
-}
-  where
-    line_verb : (name : DiskName) → IsLineText (message_verb name)
-    line_verb disks.Data = refl
-    line_verb disks.Log = refl
+ending_written None ss picks lines = lines
+ending_written (Some picks) ss low lines =
+    all_append IsWritten ss (parsed_lines.Crash picks ∷ []) lines (
+      written (parsed_lines.Crash picks)
+          (record { first = (refl, refl); others = picks_fit picks low }),
+      tt,
+    )
 
 -- words that may stand in a line, with one space between each two
-line_spaced : (words : List (List ℕ)) → AllByRecursion IsLineText words → IsLineText (spaced words)
+line_spaced : (words : List (List ℕ)) → AllByRecursion IsLineText words → IsLineText (join_with_byte 32 words)
 line_spaced [] good = refl
 line_spaced (word ∷ []) good = good.0
 line_spaced (word ∷ next ∷ words) good =
-    line_text_append word (32 ∷ spaced (next ∷ words)) good.0 (line_spaced (next ∷ words) good.1)
+    line_text_append word (32 ∷ join_with_byte 32 (next ∷ words)) good.0 (line_spaced (next ∷ words) good.1)
 
 -- the words of a feature may stand in a line
 line_feature : (feature : Feature) → AllByRecursion IsLineText (feature_words feature)
@@ -401,92 +174,48 @@ line_target offset (targets.Delay read write flush) low has =
     (refl, (refl, (line_number offset low, (line_number read read_low, later))))
 
 -- a layer's line
-pub layer_written : (over : DiskName) (spec : LayerSpec) → IsLayerSpec spec
-    → IsWritten (layer_line over spec)
-layer_written over spec is =
+pub layer_fits : (over : DiskName) (spec : LayerSpec) → IsLayerSpec spec
+    → FitsLine (head_fields (head_lines.Layer over (Ok spec)))
+layer_fits over spec is =
     let few : spec.length ≤ 1048576 = (let sectors = is.sectors in sectors.few) in
-    let text : IsLineText (table_texts.line_text spec) =
-    line_spaced (table_texts.line_words spec) (
-      refl,
-      (
-        line_number spec.length (omega (arith, few)),
-        line_target spec.offset spec.target is.place is.has,
-      ),
-    ) in
     record {
-      says =
-          record {
-            text = table_texts.line_text spec;
-            asks = printed_again spec is;
-            spelled = refl;
-          };
-      good =
-          line_text_append (layer_verb over) (32 ∷ table_texts.line_text spec)
-          (line_verb over) text;
+      first = fits_word over;
+      others = record {
+        good =
+            line_spaced (table_texts.line_words spec) (
+              refl,
+              (
+                line_number spec.length (omega (arith, few)),
+                line_target spec.offset spec.target is.place is.has,
+              ),
+            );
+        asks = printed_again spec is;
+      };
     }
   where
-    line_verb : (name : DiskName) → IsLineText (layer_verb name)
-    line_verb disks.Data = refl
-    line_verb disks.Log = refl
+    fits_word : (name : DiskName) → FitsWord (Given (layer_word name))
+    fits_word disks.Data = (refl, refl)
+    fits_word disks.Log = (refl, refl)
 
 -- a head's lines can be written
 head_written : (d l : Disk) (size : SectorSize) → IsDisk d → IsDisk l
     → AllByRecursion IsWritten (head_of d l size)
 head_written d l size is_data is_log = (
-  data_written d.sectors (omega (arith, disk_small d is_data)),
+  written _ (data_fits d.sectors (omega (arith, disk_small d is_data))),
   (
-    log_written l.sectors size (omega (arith, disk_small l is_log)),
+    written _ (log_fits l.sectors size (omega (arith, disk_small l is_log))),
     all_append IsWritten (map (layer_line disks.Data) d.layers)
         (map (layer_line disks.Log) l.layers)
-        (all_map IsLayerSpec IsWritten (layer_line disks.Data) (layer_written disks.Data) d.layers
+        (all_map IsLayerSpec IsWritten (layer_line disks.Data)
+        (λ spec is. written _ (layer_fits disks.Data spec is)) d.layers
         (layer_specs d.sectors d.layers is_data.stand))
-        (all_map IsLayerSpec IsWritten (layer_line disks.Log) (layer_written disks.Log) l.layers
+        (all_map IsLayerSpec IsWritten (layer_line disks.Log)
+        (λ spec is. written _ (layer_fits disks.Log spec is)) l.layers
         (layer_specs l.sectors l.layers is_log.stand)),
   ),
 )
 
 -- ---- scripts
-
--- the numbers of sectors that pass the test are below 2 ^ 64
-pub range_low : (bytes sectors first count : ℕ) → sectors ≤ 1048576
-    → range_test bytes sectors first count ≡ Ok tt → (first < 2 ^ 64) × (count < 2 ^ 64)
-range_low bytes sectors first count small e =
-    let some = barred_ok (count == 0) _ _ _ (sized_passed bytes (Read first count) sectors e).0 in
-    let short = barred_ok (nat_lt 2048 count) _ _ _ some.1 in
-    let within = barred_ok (nat_lt sectors (first + count)) _ _ _ short.1 in
-    let few : count ≤ 2048 = ltb-false _ _ short.0 in
-    let inside : first + count ≤ sectors = ltb-false _ _ within.0 in
-    (omega arith, omega arith)
-
--- a submission's line
-submission_written : (bytes sectors : ℕ) (name : ScriptId) (submission : Submission)
-    → sectors ≤ 1048576 → IsName name → submission_answer bytes sectors submission ≡ Ok tt
-    → WritesByte submission → IsWritten (submit name submission)
-submission_written bytes sectors name (submits.Write first count byte options) small is passes low =
-    let r = range_low bytes sectors first count small passes in
-    write_written name first count byte options is r.0 r.1 low
-submission_written bytes sectors name (submits.Discard first count) small is passes low =
-    let r = range_low bytes sectors first count small passes in
-    discard_written name first count is r.0 r.1
-submission_written bytes sectors name submits.Flush small is passes low =
-    record {
-      says = record { word = letters_of name; id = letters_id name is; spelled = refl };
-      good = written_id (codes "f") name refl is;
-    }
-
--- a line that names no request
-step_written : (bytes sectors : ℕ) (it : Step) → sectors ≤ 1048576
-    → step_answer bytes sectors it ≡ Ok tt → HasLineText it → IsWritten (step it)
-step_written bytes sectors steps.Close small passes text = record { says = refl; good = refl }
-step_written bytes sectors (steps.Read first count) small passes text =
-    let r = range_low bytes sectors first count small passes in
-    read_written first count r.0 r.1
-step_written bytes sectors steps.Turn small passes text = record { says = refl; good = refl }
-step_written bytes sectors (steps.At moment) small passes low = at_written moment low
-step_written bytes sectors (steps.Message over layer text) small passes has =
-    message_written over layer text has.0 has.1
-step_written bytes sectors (steps.Mark mark) small passes text =
-    record { says = record { plain = text; spelled = refl }; good = text }
 
 -- a request's id is one
 id_at : (names : List ScriptId) (request : ℕ) → AllByRecursion IsName names → request < length names
@@ -507,13 +236,14 @@ command_written : (bytes sectors : ℕ) (names : List ScriptId) (done : List Com
     → CanFollow bytes sectors done command
     → IsWritten (parsed_lines.Body (line_at names (submissions done) command))
 command_written bytes sectors names done (commands.Submit submission) rest small ids numbered may =
-    submission_written bytes sectors (name_at names (submissions done)) submission small
-    (submission_id names (submissions done) rest submission ids numbered) may.0 may.1
+    let fits = submission_fits bytes sectors submission small may.0 may.1 in
+    let id = submission_id names (submissions done) rest submission ids numbered in
+    written _ (record { first = fits.0; others = (id, fits.1) })
 command_written bytes sectors names done (commands.Complete request) rest small ids numbered may =
-    complete_written (name_at names request)
-    (id_at names request ids (omega (arith, numbered, may.0)))
+    let id = id_at names request ids (omega (arith, numbered, may.0)) in
+    written _ (record { first = (refl, refl); others = (id, tt) })
 command_written bytes sectors names done (commands.Step it) rest small ids numbered may =
-    step_written bytes sectors it small may.0 may.1
+    written (parsed_lines.Body (body_lines.Step it)) (step_fits bytes sectors it small may.0 may.1)
 
 -- each line of a body can be written
 body_written : (bytes sectors : ℕ) (names : List ScriptId) (n : ℕ) (done body : List Command)
@@ -559,27 +289,29 @@ fed_line (b ∷ line) rest lack =
     ∙ ap (λ (o : Option (List ℕ)). (b ∷ line) ∷ lines_of (unwrap_or o [])) c.1
 
 -- the spelling of sentences that can be written is plain, and says them
-pub written_text : {A : Type 0} (text : A → List ℕ) (is_said : List ℕ → A → Type 0)
-    (kept : (line : List ℕ) (s : A) → is_said line s → is_skipped line ≡ false) (ss : List A)
-    → AllByRecursion (IsWrittenAs text is_said) ss
-    → Tells is_said (lines_of (flat_map (λ s. text s ++ 10 ∷ []) ss)) ss
-written_text text is_said kept [] written = record { plain = tt; says = tt }
-written_text text is_said kept (s ∷ ss) written =
-    let one : IsWrittenAs text is_said s = written.0 in
-    let rest = flat_map (λ s. text s ++ 10 ∷ []) ss in
-    let lines : lines_of ((text s ++ 10 ∷ []) ++ rest) ≡ text s ∷ lines_of rest =
-    ap lines_of (append_assoc (text s) (10 ∷ []) rest)
-    ∙ fed_line (text s) rest (all_weaker _ _ line_not_feed (text s) one.good) in
-    subst (λ (x : List (List ℕ)). Tells is_said x (s ∷ ss)) (sym lines)
-    (tells_said is_said (text s) (lines_of rest) s ss (all_weaker _ _ line_plain (text s) one.good)
-    (kept (text s) s one.says) one.says (written_text text is_said kept ss written.1))
+pub written_text : {A : Type 0} (fields : A → Fields)
+    (kept : (line : List ℕ) (s : A) → IsLineWith line (fields s) → is_skipped line ≡ false)
+    (ss : List A) → AllByRecursion (IsWrittenAs fields) ss
+    → Tells (λ line s. IsLineWith line (fields s))
+    (lines_of (flat_map (λ s. text_of (fields s) ++ 10 ∷ []) ss)) ss
+written_text fields kept [] lines = record { plain = tt; says = tt }
+written_text fields kept (s ∷ ss) lines =
+    let text = text_of (fields s) in
+    let one : IsWrittenAs fields s = lines.0 in
+    let rest = flat_map (λ s. text_of (fields s) ++ 10 ∷ []) ss in
+    let whole : lines_of ((text ++ 10 ∷ []) ++ rest) ≡ text ∷ lines_of rest =
+    ap lines_of (append_assoc text (10 ∷ []) rest)
+    ∙ fed_line text rest (all_weaker _ _ line_not_feed text one.good) in
+    subst (λ (x : List (List ℕ)). Tells (λ line s. IsLineWith line (fields s)) x (s ∷ ss)) (sym whole)
+    (tells_said (λ line s. IsLineWith line (fields s)) text (lines_of rest) s ss
+    (all_weaker _ _ line_plain text one.good)
+    (kept text s one.says) one.says (written_text fields kept ss lines.1))
 
 -- the spelling of a script is a text of it
 pub spelling_spells : (plan : ScriptValue) → IsPlan plan → IsTextOf (canonical_text plan) plan
 spelling_spells plan is =
-    let written =
-    written_text line_text ParsesAs said_kept (lines_of_script plan) (plan_written plan is) in
-    record { plain = written.plain; says = written.says; script = is }
+    let lines = written_text fields_of said_kept (lines_of_script plan) (plan_written plan is) in
+    record { plain = lines.plain; says = lines.says; script = is }
 
 -- ---- texts of lines
 

@@ -19,14 +19,13 @@ use Rattle.layer_table.specs.declared.layer_spec.LayerSpec.{LayerSpec}
 use Rattle.layer_table.specs.declared.table_error.TableError.{TableError}
 use Rattle.dmlw_script.specs.declared.disk_name.DiskName.{DiskName}
 use Rattle.dmlw_script.specs.declared.disk_name.DiskName.TheVariants as disks
-use Rattle.dmlw_script.specs.LineMeaning as parsed_lines
 use Rattle.dmlw_script.specs.declared.line.HeadLine.{HeadLine}
 use Rattle.dmlw_script.specs.declared.line.HeadLine.TheVariants as head_lines
 use Rattle.dmlw_script.specs.inside.Stages.{Stage}
 use Rattle.dmlw_script.specs.inside.Stages as heads
 use Rattle.dmlw_script.specs.inside.Heads.{asked_layer, data_layer, head_step, layer_step}
 use Rattle.dmlw_script.specs.inside.Heads.{long_layer, with_log}
-use Rattle.dmlw_script.specs.Grammar.{ParsesAs}
+use Rattle.dmlw_script.specs.Fields.{head_fields, Says}
 use Rattle.dmlw_script.specs.Plans.{is_disk_size, is_log_disk_size, is_within, least_sectors}
 use Rattle.dmlw_script.specs.Plans.{top_of, Disk, IsDisk}
 use Rattle.dmlw_script.specs.FirstFault.{bare, with_layer}
@@ -90,11 +89,12 @@ IsFineHead (head_lines.Log sectors size) = Unit {0}
 IsFineHead (head_lines.Layer over asked) = IfOk asked IsLayerSpec
 
 -- what such a line says is fine
-pub fine_head : (line : List ℕ) (said : HeadLine) → ParsesAs line (parsed_lines.Head said)
-    → IsFineHead said
-fine_head line (head_lines.Layer over (Ok spec)) says =
-    asked_in_range (words_of says.text) spec says.asks
-fine_head line said says = tt
+pub fine_head : (said : HeadLine) (verb : List ℕ) (left : Option (List ℕ))
+    → Says verb left (head_fields said) → IsFineHead said
+fine_head (head_lines.Layer over (Ok spec)) verb (Some words) says =
+    asked_in_range (words_of words) spec says.1
+fine_head (head_lines.Layer over (Ok spec)) verb None says = absurd says.1
+fine_head said verb left says = tt
 
 -- ---- lines that are taken
 

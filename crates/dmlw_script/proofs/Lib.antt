@@ -5,6 +5,8 @@ pub mod DiskLaws
 pub mod DraftLemmas
 pub mod PickLaws
 pub mod LineLemmas
+pub mod WordLaws
+pub mod FieldLaws
 pub mod LineParserLaws
 pub mod BodyLaws
 pub mod FaultLaws
@@ -21,4 +23,3 @@ pub mod RunFaults
 pub mod RunLines
 pub mod RunTextLaws
 pub mod RunExamples
-pub mod RunTextExamples

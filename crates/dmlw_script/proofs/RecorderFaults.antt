@@ -222,17 +222,12 @@ BodyRefused d l size b line refusal =
 step_refused : (d l : Disk) (size : SectorSize) (b : Body) (step : Step) (refusal : Refusal)
     → step_test (bytes_of size) (top_of d) (time_after b.body) step ≡ Err refusal
     → BodyRefused d l size b (body_lines.Step step) refusal
-step_refused d l size b (steps.Read first count) refusal e =
-    inr (
-      tt,
-      answered_err (step_answer (bytes_of size) (top_of d)
-          (steps.Read first count)) refusal e,
-    )
 step_refused d l size b (steps.At later) refusal e =
     let p = barred_err (nat_lt later (time_after b.body)) BadLine tt refusal e in
     let back : later < time_after b.body = ltb-true _ _ p.0 in
     inl (λ in_time. absurd (let forth : time_after b.body ≤ later = in_time in omega arith), p.1)
-step_refused d l size b step refusal e = absurd (cc)
+step_refused d l size b step refusal e =
+    inr (tt, answered_err (step_answer (bytes_of size) (top_of d) step) refusal e)
 
 -- why a line of the body is refused by its own words
 body_refused : (d l : Disk) (size : SectorSize) (b : Body) (line : BodyLine) (refusal : Refusal)

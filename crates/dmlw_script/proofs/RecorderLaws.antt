@@ -1,9 +1,9 @@
 -- What a recorder's reader has read, as `ReaderLaws` asks for it.
 use Rattle.std.proofs.Common.{◌≡◌, ℕ, ◌<◌, ◌^◌, List, [], ◌∷◌, ◌++◌, append_assoc, Option, Some}
 use Rattle.std.proofs.Common.{None, Ok, refl, ap, ◌∙◌, sym, subst}
-use Rattle.std.specs.Prelude.{Result}
-use Rattle.std.specs.List.{AllByRecursion, AllZip, IsDistinct}
-use Rattle.std.proofs.lemmas.Bool.{and_parts, cond-true, ltb-true}
+use Rattle.std.specs.Prelude.{map, Result}
+use Rattle.std.specs.List.{AllByRecursion, IsDistinct}
+use Rattle.std.proofs.lemmas.Bool.{cond-true}
 use Rattle.bio.specs.declared.sector_size.SectorSize.{SectorSize}
 use Rattle.bio.specs.Sizes.{bytes_of}
 use Rattle.refusals.specs.declared.refusal.Refusal.{Refusal}
@@ -17,26 +17,33 @@ use Rattle.dmlw_script.specs.declared.line.HeadLine.{HeadLine}
 use Rattle.dmlw_script.specs.declared.line.HeadLine.TheVariants as head_lines
 use Rattle.dmlw_script.specs.declared.line.BodyLine.{BodyLine}
 use Rattle.dmlw_script.specs.declared.line.BodyLine.TheVariants as body_lines
+use Rattle.dmlw_script.specs.declared.command.Submission.{Submission}
 use Rattle.dmlw_script.specs.declared.command.Submission.TheVariants as submits
 use Rattle.dmlw_script.specs.declared.command.Step.TheVariants as steps
 use Rattle.dmlw_script.specs.inside.Stages.{Stage}
 use Rattle.dmlw_script.specs.inside.Stages as heads
 use Rattle.dmlw_script.specs.inside.Heads.{data_layer, head_step, with_data, with_log}
 use Rattle.dmlw_script.specs.inside.Drafts.{◌>>=◌, body_step, Body}
+use Rattle.dmlw_script.specs.Fields.{disk_word, fields_of, number, option_fields}
+use Rattle.dmlw_script.specs.Fields.{submission_fields, Byte, Given, HasFields, Number, One, Says}
+use Rattle.dmlw_script.specs.Fields.{Text}
 use Rattle.dmlw_script.specs.Grammar.{ParsesAs, AreLinesOf}
 use Rattle.dmlw_script.specs.Plans.{data_line, log_line, head_of, lines_of_body, layer_line}
 use Rattle.dmlw_script.specs.Plans.{lines_of_script, top_of, with_ending, ArePicks, Disk, IsPlan}
-use Rattle.dmlw_script.specs.Plans.{ScriptValue}
+use Rattle.dmlw_script.specs.Plans.{ScriptValue, WritesByte}
 use Rattle.dmlw_script.specs.FirstFault.{bare, with_layer}
-use Rattle.refusals.specs.WordLaws.{number_low}
-use Rattle.refusals.specs.Words.{number_value, IsNumber}
+use Rattle.refusals.specs.WordLaws.{number_low, number_read}
+use Rattle.std.proofs.lemmas.Option.{cond_some}
+use Rattle.dmlw_script.specs.Ids.{is_id, script_id}
+use Rattle.dmlw_script.proofs.WordLaws.{byte_low}
+use Rattle.refusals.specs.Words.{after_byte, before_byte}
 use Rattle.dmlw_script.specs.inside.Readers.{body_line, crash_line, finish_step, finished}
 use Rattle.dmlw_script.specs.inside.Readers.{has_begun, nothing, parsed_step, with_head, Progress}
 use Rattle.dmlw_script.specs.inside.LineParser.{parse_line}
 use Rattle.dmlw_script.proofs.BodyLaws.{in_draft, lines_grow, lines_of_draft, run, run_again}
 use Rattle.dmlw_script.proofs.BodyLaws.{step_grows, IsFine, IsSound}
 use Rattle.dmlw_script.proofs.FoldLaws.{bind_at, fold_append, made_ok}
-use Rattle.dmlw_script.proofs.LineParserLaws.{parsed_again, parsed_read}
+use Rattle.dmlw_script.proofs.LineParserLaws.{parsed_again, parsed_read, text_left, word_left}
 use Rattle.dmlw_script.proofs.HeadLaws.{bodiless, data_push, fine_head, head_kept, head_taken}
 use Rattle.dmlw_script.proofs.HeadLaws.{layer_lines, layers_again, log_push, sizes_again}
 use Rattle.dmlw_script.proofs.HeadLaws.{data_size, data_top, log_size, log_top, Takes, IsFineHead}
@@ -52,30 +59,47 @@ IsFineLine (parsed_lines.Body line) = IsFine line
 IsFineLine (parsed_lines.Crash picks) = AllByRecursion (λ pick. pick < 2 ^ 64) picks
 
 -- numbers are below 2 ^ 64
-numbers_low : (words : List (List ℕ)) (picks : List ℕ) → AllZip IsNumber words picks
+numbers_low : (picks : List ℕ) (left : Option (List ℕ)) → HasFields (map number picks) left
     → AllByRecursion (λ pick. pick < 2 ^ 64) picks
-numbers_low [] [] says = tt
-numbers_low (word ∷ words) (pick ∷ picks) says =
-    let low : number_value word < 2 ^ 64 = ltb-true _ _ (and_parts _ _ says.0.0).1 in
-    (subst (λ (n : ℕ). n < 2 ^ 64) says.0.1 low, numbers_low words picks says.1)
-numbers_low words picks says = absurd says
+numbers_low [] left has = tt
+numbers_low (pick ∷ picks) None has = absurd has
+numbers_low (pick ∷ picks) (Some words) has =
+    (number_low (before_byte 32 words) pick (number_read (before_byte 32 words) pick has.0), numbers_low picks (after_byte 32 words) has.1)
+
+-- a write writes a byte
+pub fine_submission : (s : Submission) (left : Option (List ℕ)) → HasFields (submission_fields s) left
+    → WritesByte s
+fine_submission (submits.Write first count byte options) left has =
+    let n =
+    word_left (Number first) (number count ∷ One (Byte byte) ∷ option_fields options) left has in
+    let m =
+    word_left (Number count) (One (Byte byte) ∷ option_fields options) (after_byte 32 n.0) n.3 in
+    let b = word_left (Byte byte) (option_fields options) (after_byte 32 m.0) m.3 in
+    byte_low (before_byte 32 b.0) byte b.2
+fine_submission s left has = tt
 
 -- what a line says is fine
+fine_left : (s : LineMeaning) (verb : List ℕ) (left : Option (List ℕ))
+    → Says verb left (fields_of s) → IsFineLine s
+fine_left (parsed_lines.Head said) verb left says = fine_head said verb left says
+fine_left (parsed_lines.Body (body_lines.Submit name s)) verb (Some words) says =
+    let word = before_byte 32 words in
+    let id = cond_some (is_id word) (script_id word) name says.1.0 in
+    ((word, id.0, sym id.1), fine_submission s (after_byte 32 words) says.1.1)
+fine_left (parsed_lines.Body (body_lines.Submit name s)) verb None says = absurd says.1
+fine_left (parsed_lines.Body (body_lines.Step (steps.Mark text))) verb left says =
+    let t = text_left text left says.1 in t.1
+fine_left (parsed_lines.Body (body_lines.Step (steps.At moment))) verb left says =
+    let n = word_left (Number moment) [] left says.1 in number_low (before_byte 32 n.0) moment (number_read (before_byte 32 n.0) moment n.2)
+fine_left (parsed_lines.Body (body_lines.Step (steps.Message over layer text))) verb left says =
+    let d = word_left (Given (disk_word over)) (number layer ∷ Text text ∷ []) left says.1 in
+    let n = word_left (Number layer) (Text text ∷ []) (after_byte 32 d.0) d.3 in
+    let t = text_left text (after_byte 32 n.0) n.3 in (number_low (before_byte 32 n.0) layer (number_read (before_byte 32 n.0) layer n.2), t.1)
+fine_left (parsed_lines.Crash picks) verb left says = numbers_low picks left says.1
+fine_left s verb left says = tt
+
 pub fine_said : (line : List ℕ) (s : LineMeaning) → ParsesAs line s → IsFineLine s
-fine_said line (parsed_lines.Head said) says = fine_head line said says
-fine_said line (parsed_lines.Body (body_lines.Submit name (submits.Write first count byte options)))
-    says = ((says.id_word, says.id.0, says.id.1), says.is_byte)
-fine_said line (parsed_lines.Body (body_lines.Submit name submits.Flush)) says =
-    ((says.word, says.id.0, says.id.1), tt)
-fine_said line (parsed_lines.Body (body_lines.Submit name (submits.Discard first count))) says =
-    ((says.id_word, says.id.0, says.id.1), tt)
-fine_said line (parsed_lines.Body (body_lines.Step (steps.Mark text))) says = says.plain
-fine_said line (parsed_lines.Body (body_lines.Step (steps.At moment))) says =
-    number_low says.word moment says.number
-fine_said line (parsed_lines.Body (body_lines.Step (steps.Message over layer text))) says =
-    (number_low says.layer_word layer says.number, says.plain)
-fine_said line (parsed_lines.Crash picks) says = numbers_low says.words picks says.numbers
-fine_said line s says = tt
+fine_said line s says = fine_left s (before_byte 32 line) (after_byte 32 line) says
 
 -- ---- what was read
 

@@ -11,7 +11,6 @@ use Rattle.bio.specs.Sizes.{bytes_of}
 use Rattle.refusals.specs.declared.refusal.Refusal.{Refusal}
 use Rattle.refusals.specs.declared.refusal.Refusal.TheVariants.{BadLine}
 use Rattle.layer_table.specs.declared.layer_spec.LayerSpec.{LayerSpec}
-use Rattle.dmlw_script.specs.declared.command.Submission.TheVariants as submits
 use Rattle.dmlw_script.specs.declared.line.HeadLine.{HeadLine}
 use Rattle.dmlw_script.specs.declared.line.HeadLine.TheVariants as head_lines
 use Rattle.dmlw_script.specs.declared.run_line.RunLine.{RunLine}
@@ -21,7 +20,8 @@ use Rattle.dmlw_script.specs.declared.seat_call.Call.TheVariants as calls
 use Rattle.dmlw_script.specs.declared.seat_call.SeatCall.{SeatCall}
 use Rattle.dmlw_script.specs.Plans.{top_of, Disk}
 use Rattle.dmlw_script.specs.FirstFault.{bare}
-use Rattle.dmlw_script.specs.RunGrammar.{AreRunLines, MeansCall, MeansLine}
+use Rattle.dmlw_script.specs.Fields.{all_of, call_fields, HasFields}
+use Rattle.dmlw_script.specs.RunGrammar.{AreRunLines, MeansLine}
 use Rattle.dmlw_script.specs.RunPlans.{call_answer, data_layer, lines_of_run, log_layer, run_head}
 use Rattle.dmlw_script.specs.RunPlans.{IsAllowed, FitsLine, IsRunPlan, RunPlan}
 use Rattle.dmlw_script.specs.inside.Drafts.{◌>>=◌, as_refusal}
@@ -35,7 +35,10 @@ use Rattle.dmlw_script.specs.inside.Stages.{Stage}
 use Rattle.dmlw_script.specs.inside.Stages as heads
 use Rattle.dmlw_script.proofs.FoldLaws.{all_append, bind_at, fold, fold_append, made_ok}
 use Rattle.dmlw_script.proofs.BodyLaws.{told_ok}
+use Rattle.dmlw_script.proofs.LineParserLaws.{text_left}
+use Rattle.dmlw_script.proofs.RecorderLaws.{fine_submission}
 use Rattle.dmlw_script.proofs.RunLines.{parses_run, says_run}
+use Rattle.refusals.specs.Words.{after_byte, before_byte}
 use Rattle.dmlw_script.proofs.HeadLaws.{bodiless, data_push, fine_head, head_kept, head_taken}
 use Rattle.dmlw_script.proofs.HeadLaws.{layer_lines, layers_again, log_push, map_push}
 use Rattle.dmlw_script.proofs.HeadLaws.{sizes_again, tested_ok, data_size, data_top, log_size}
@@ -51,16 +54,20 @@ IsFineRunLine (run_lines.Seats count) = Unit {0}
 IsFineRunLine (run_lines.Body line) = FitsLine line.call
 
 -- what a call says may stand in a line
-fine_call : (words : List ℕ) (call : Call) → MeansCall words call → FitsLine call
-fine_call words (calls.Submit (submits.Write first count byte options)) says = says.is_byte
-fine_call words (calls.Mark text) says = says.0
-fine_call words call says = tt
+fine_call : (call : Call) (left : Option (List ℕ)) → HasFields (all_of (call_fields call)) left
+    → FitsLine call
+fine_call (calls.Submit submission) (Some words) has =
+    fine_submission submission (after_byte 32 words) has.1
+fine_call (calls.Mark text) (Some words) has =
+    let t = text_left text (after_byte 32 words) has.1 in t.1
+fine_call call left has = absurd has
 
 -- what a line says is fine
 pub fine_run_line : (line : List ℕ) (said : RunLine) → MeansLine line said → IsFineRunLine said
-fine_run_line line (run_lines.Head said) says = fine_head line said says
+fine_run_line line (run_lines.Head said) says =
+    fine_head said (before_byte 32 line) (after_byte 32 line) says
 fine_run_line line (run_lines.Seats count) says = tt
-fine_run_line line (run_lines.Body said) says = fine_call says.words said.call says.says
+fine_run_line line (run_lines.Body said) says = fine_call said.call (after_byte 32 line) says.1
 
 -- ---- what was read begins a script
 

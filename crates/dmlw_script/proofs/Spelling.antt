@@ -1,16 +1,17 @@
 -- The text of a script is that of its parts, one after another: `print_script` writes it in three.
-use Rattle.std.proofs.Common.{◌≡◌, ℕ, List, [], ◌∷◌, ◌++◌, Option, Some, None, ap, ◌∙◌, sym}
+use Rattle.std.proofs.Common.{◌≡◌, ℕ, List, [], ◌∷◌, ◌++◌, Option, Some, None, refl, ap, ◌∙◌, sym}
 use Rattle.std.proofs.Common.{append_assoc}
 use Rattle.std.specs.Prelude.{decimal, flat_map, map}
 use Rattle.std.proofs.lemmas.List.{append-nil}
 use Rattle.std.proofs.lemmas.List.Concat.{flat_map-append}
 use Rattle.bio.specs.declared.sector_size.SectorSize.{SectorSize}
 use Rattle.dmlw_script.specs.CanonicalText.{ended_line, ending_text, canonical_text}
-use Rattle.dmlw_script.specs.Grammar.{spaced}
+use Rattle.dmlw_script.specs.Fields.{number, text_after}
 use Rattle.dmlw_script.specs.Plans.{head_of, lines_after_head, lines_of_body, with_ending, Disk}
 use Rattle.dmlw_script.specs.Plans.{ScriptValue}
 use Rattle.dmlw_script.specs.LineMeaning.{LineMeaning}
 use Rattle.dmlw_script.specs.LineMeaning as parsed_lines
+use Rattle.dmlw_script.proofs.FieldLaws.{after_field}
 
 -- the text of lines and of the crash behind them
 ending_spelled : (ending : Option (List ℕ)) (ss : List LineMeaning)
@@ -21,12 +22,13 @@ ending_spelled (Some picks) ss =
     ∙ ap (λ (x : List ℕ). flat_map ended_line ss ++ x)
     (append-nil (ended_line (parsed_lines.Crash picks)))
 
--- a first word and picks behind it, each behind a space
-pub picks_spelled : (word : List ℕ) (picks : List ℕ)
-    → spaced (word ∷ map decimal picks) ≡ word ++ flat_map (λ n. 32 ∷ decimal n) picks
-picks_spelled word [] = sym (append-nil word)
-picks_spelled word (pick ∷ picks) =
-    ap (λ (x : List ℕ). word ++ 32 ∷ x) (picks_spelled (decimal pick) picks)
+-- picks after a word, each after a space
+pub picks_spelled : (picks : List ℕ)
+    → text_after (map number picks) ≡ flat_map (λ n. 32 ∷ decimal n) picks
+picks_spelled [] = refl
+picks_spelled (pick ∷ picks) =
+    after_field (number pick) (map number picks)
+    ∙ ap (λ (x : List ℕ). 32 ∷ (decimal pick ++ x)) (picks_spelled picks)
 
 -- a text that is written in three parts, from nothing, is the script's
 pub text_in_parts : (plan : ScriptValue) (d l : Disk) (size : SectorSize)

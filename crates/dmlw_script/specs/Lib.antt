@@ -9,7 +9,7 @@ pub mod Words
 pub mod Ids
 pub mod Lines
 pub mod LineMeaning
-pub mod Options
+pub mod Fields
 pub mod Plans
 pub mod Grammar
 pub mod FirstFault

@@ -120,37 +120,26 @@ submission_answer bytes sectors (submits.Discard first count) = range_test bytes
 
 -- the same test for a line that names no request
 abbrev pub step_answer : (bytes sectors : ℕ) → Step → Result (Unit {0}) BadBio
-step_answer bytes sectors steps.Close = Ok tt
 step_answer bytes sectors (steps.Read first count) = range_test bytes sectors first count
-step_answer bytes sectors steps.Turn = Ok tt
-step_answer bytes sectors (steps.Mark text) = Ok tt
-step_answer bytes sectors (steps.At moment) = Ok tt
-step_answer bytes sectors (steps.Message over layer text) = Ok tt
+step_answer bytes sectors step = Ok tt
 
 -- the value that a submission writes is a byte
 abbrev pub WritesByte : Submission → Type 0
 WritesByte (submits.Write first count byte options) = byte < 256
-WritesByte submits.Flush = Unit {0}
-WritesByte (submits.Discard first count) = Unit {0}
+WritesByte submission = Unit {0}
 
 -- the values of a line that names no request fit in a line: the text of a mark or of a message, and
 -- a time or a message's layer, which 64 bits hold
 abbrev pub HasLineText : Step → Type 0
-HasLineText steps.Close = Unit {0}
-HasLineText (steps.Read first count) = Unit {0}
-HasLineText steps.Turn = Unit {0}
 HasLineText (steps.Mark text) = is_line_text text ≡ true
 HasLineText (steps.At moment) = moment < 2 ^ 64
 HasLineText (steps.Message over layer text) = (layer < 2 ^ 64) × (is_line_text text ≡ true)
+HasLineText step = Unit {0}
 
 -- the time after a line that names no request, if it was `moment` before
 abbrev pub time_at_step : ℕ → Step → ℕ
-time_at_step moment steps.Close = moment
-time_at_step moment (steps.Read first count) = moment
-time_at_step moment steps.Turn = moment
-time_at_step moment (steps.Mark text) = moment
 time_at_step moment (steps.At later) = later
-time_at_step moment (steps.Message over layer text) = moment
+time_at_step moment step = moment
 
 -- the time after a command, if it was `moment` before
 abbrev pub time_at : ℕ → Command → ℕ
@@ -169,12 +158,8 @@ time_after body = time_from 0 body
 
 -- the time of an `at` is no less than the time before it
 abbrev pub IsInTime : ℕ → Step → Type 0
-IsInTime moment steps.Close = Unit {0}
-IsInTime moment (steps.Read first count) = Unit {0}
-IsInTime moment steps.Turn = Unit {0}
-IsInTime moment (steps.Mark text) = Unit {0}
 IsInTime moment (steps.At later) = moment ≤ later
-IsInTime moment (steps.Message over layer text) = Unit {0}
+IsInTime moment step = Unit {0}
 
 -- the command may come after these, for a log with sectors of `bytes` bytes and a data disk of
 -- `sectors` sectors. The sectors that it covers pass their test, a write writes a byte, and the

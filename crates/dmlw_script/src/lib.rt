@@ -8,16 +8,18 @@
 //! `print_script` and `print_run_script` write the canonical text of a script, line by line: the
 //! head, the body, and the crash that ends it. Reading that text gives the same script.
 //!
-//! `specs/Grammar` is the grammar, a relation between texts and scripts. `specs/Plans` defines the
-//! value of a script, `specs/CanonicalText` its canonical text, and `specs/Texts` the text of an
-//! id. `specs/RunGrammar`, `specs/RunPlans` and `specs/RunText` are the same for a run's script. A
-//! new kind of line is a case of `Submission` or of `Step`, and of `ParsesAs`; a new option of a
-//! write is a word of `option_words`.
+//! `specs/Fields` says what the words of each kind of line are. `specs/Grammar` is the grammar, a
+//! relation between texts and scripts. `specs/Plans` defines the value of a script,
+//! `specs/CanonicalText` its canonical text, and `specs/Texts` the text of an id.
+//! `specs/RunGrammar`, `specs/RunPlans` and `specs/RunText` are the same for a run's script. A new
+//! kind of line is a case of `Submission` or of `Step`, and of `submission_fields` or
+//! `step_fields`; a new option of a write is a field of `option_fields`.
 #![tactic(auto)]
 
 pub use command::{Command, Step, Submission, WriteOptions};
 pub use disk::DiskSpec;
 pub use disk_name::DiskName;
+pub use line::{recorder_forms, seat_forms};
 pub use printing::print_script;
 pub use reader::{line_of, read_script};
 pub use run_printing::print_run_script;

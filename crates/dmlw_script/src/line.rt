@@ -3,7 +3,7 @@ ghost use Rattle.std.specs.Prelude.{◌≡◌, option_copied, option_map};
 ghost use Rattle.dmlw_script.specs.LineMeaning.{as_meaning};
 ghost use Rattle.dmlw_script.specs.Lines.{is_line_byte as is_a_line_byte};
 ghost use Rattle.dmlw_script.specs.Lines.{is_line_text as is_a_line_text};
-ghost use Rattle.dmlw_script.specs.inside.LineParser.{body_words, discard_of as the_discard};
+ghost use Rattle.dmlw_script.specs.inside.LineParser.{body_words};
 ghost use Rattle.dmlw_script.specs.inside.LineParser.{discard_words as the_discard_words};
 ghost use Rattle.dmlw_script.specs.inside.LineParser.{disk_of_word, head_words as the_head};
 ghost use Rattle.dmlw_script.specs.inside.LineParser.{layer_of as the_layer, log_of as the_log};
@@ -12,7 +12,8 @@ ghost use Rattle.dmlw_script.specs.inside.LineParser.{parse_words, plain_parts};
 ghost use Rattle.dmlw_script.specs.inside.LineParser.{read_of as the_read};
 ghost use Rattle.dmlw_script.specs.inside.LineParser.{sectors_of as the_sectors};
 ghost use Rattle.dmlw_script.specs.inside.LineParser.{size_of as the_size};
-ghost use Rattle.dmlw_script.specs.inside.LineParser.{step, write_of as the_write};
+ghost use Rattle.dmlw_script.specs.inside.LineParser.{step, submission_of as the_submission};
+ghost use Rattle.dmlw_script.specs.inside.LineParser.{submit_of as the_submit};
 ghost use Rattle.dmlw_script.specs.inside.LineParser.{write_words as the_write_words};
 
 use crate::command::{Step, Submission};
@@ -23,6 +24,39 @@ use crate::values::byte_of;
 use bio::{Ms, SectorSize};
 use layer_table::{LayerSpec, TableError, parse_line};
 use refusals::{cut, number_of};
+
+// The lines that a recorder's script can have: angle brackets have the kind of a word, and square
+// ones a word that may be left out.
+const RECORDER_FORMS: [&str; 15] = [
+    "data <sectors>",
+    "log <sectors> [4096]",
+    "data-layer 0 <length> <target> ..",
+    "log-layer 0 <length> <target> ..",
+    "at <ms>",
+    "w <id> <first> <count> <byte> [flush] [fua] [meta]",
+    "f <id>",
+    "d <id> <first> <count>",
+    "c <id>",
+    "r <first> <count>",
+    "turn",
+    "mark <text>",
+    "message <disk> <layer> <text>",
+    "close",
+    "crash <pick> ..",
+];
+
+// The lines that a script of seats can have.
+const SEAT_FORMS: [&str; 9] = [
+    "data <sectors>",
+    "log <sectors> [4096]",
+    "seats <n>",
+    "data-layer 0 <length> <target> ..",
+    "log-layer 0 <length> <target> ..",
+    "s<k> w <first> <count> <byte> [flush] [fua] [meta]",
+    "s<k> f",
+    "s<k> d <first> <count>",
+    "s<k> mark <text>",
+];
 
 /// The meaning of a line that is no crash.
 #[derive(Drop)]
@@ -68,6 +102,17 @@ pub(crate) enum BodyLine {
     /// `close`, `r <first> <count>`, `turn`, `mark <text>`,
     /// `message data|log <layer> <text>`, or `at <ms>`
     Step(Step),
+}
+
+/// Returns the forms of the lines that a recorder's script can have, for a reader. Angle brackets
+/// have the kind of a word, and square ones a word that may be left out.
+pub fn recorder_forms() -> &'static [&'static str] {
+    &RECORDER_FORMS
+}
+
+/// Returns the forms of the lines that a script of seats can have.
+pub fn seat_forms() -> &'static [&'static str] {
+    &SEAT_FORMS
 }
 
 /// Parses a line that was already split into its first word and the other words, if it has any. The
@@ -159,12 +204,6 @@ fn body_words(verb: &[u8], words: &[u8]) -> Option<Line>
     ensures { option_map as_meaning result ≡ body_words verb.now words.now }
 {
     match verb {
-        b"w" => write_of(words),
-        b"f" => Some(Line::Body(BodyLine::Submit {
-            name: ScriptId::of_word(words)?,
-            submission: Submission::Flush,
-        })),
-        b"d" => discard_of(words),
         b"c" => Some(Line::Body(BodyLine::Complete {
             name: ScriptId::of_word(words)?,
         })),
@@ -172,24 +211,37 @@ fn body_words(verb: &[u8], words: &[u8]) -> Option<Line>
         b"at" => Some(Line::Body(BodyLine::Step(Step::At {
             moment: Ms::new(number_of(words)?),
         }))),
-        _ => None,
+        _ => submit_of(verb, words),
     }
 }
 
-// Parses the words of a write: its id, and the other words.
-fn write_of(words: &[u8]) -> Option<Line>
-    ensures { option_map as_meaning result ≡ the_write words.now }
+// Parses a line that submits a request, with this first word and these other words: its id, and
+// those of the request.
+fn submit_of(verb: &[u8], words: &[u8]) -> Option<Line>
+    ensures { option_map as_meaning result ≡ the_submit verb.now words.now }
 {
     let (name, rest) = cut(words, b' ');
     Some(Line::Body(BodyLine::Submit {
         name: ScriptId::of_word(name)?,
-        submission: write_words(rest?)?,
+        submission: submission_of(verb, rest)?,
     }))
 }
 
-/// Parses the words of a write: its first sector, its number of sectors, its byte and its options.
-/// Returns None if they aren't a write's.
-pub(crate) fn write_words(words: &[u8]) -> Option<Submission>
+/// Parses a request with this first word and these other words, if there are any. Returns None if
+/// they aren't those of one.
+pub(crate) fn submission_of(verb: &[u8], words: Option<&[u8]>) -> Option<Submission>
+    ensures { result ≡ the_submission verb.now (option_copied words.entry) }
+{
+    match (verb, words) {
+        (b"w", Some(words)) => write_words(words),
+        (b"d", Some(words)) => discard_words(words),
+        (b"f", None) => Some(Submission::Flush),
+        _ => None,
+    }
+}
+
+// Parses the words of a write: its first sector, its number of sectors, its byte and its options.
+fn write_words(words: &[u8]) -> Option<Submission>
     ensures { result ≡ the_write_words words.now }
 {
     let (first, rest) = cut(words, b' ');
@@ -203,20 +255,8 @@ pub(crate) fn write_words(words: &[u8]) -> Option<Submission>
     })
 }
 
-// Parses the words of a discard: its id, and the other words.
-fn discard_of(words: &[u8]) -> Option<Line>
-    ensures { option_map as_meaning result ≡ the_discard words.now }
-{
-    let (name, rest) = cut(words, b' ');
-    Some(Line::Body(BodyLine::Submit {
-        name: ScriptId::of_word(name)?,
-        submission: discard_words(rest?)?,
-    }))
-}
-
-/// Parses the words of a discard: its first sector and its number of sectors. Returns None if they
-/// aren't a discard's.
-pub(crate) fn discard_words(words: &[u8]) -> Option<Submission>
+// Parses the words of a discard: its first sector and its number of sectors.
+fn discard_words(words: &[u8]) -> Option<Submission>
     ensures { result ≡ the_discard_words words.now }
 {
     let (first, count) = sectors_of(words)?;

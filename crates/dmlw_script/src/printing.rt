@@ -2,17 +2,18 @@
 ghost use Rattle.std.specs.Prelude.{◌≡◌, ◌<◌, ◌+◌, ◌^◌, ◌++◌, flat_map, length, IfOk, OnOk};
 ghost use Rattle.dmlw_script.specs.Grammar.{IsTextOf};
 ghost use Rattle.dmlw_script.specs.LineMeaning as parsed_lines;
+ghost use Rattle.dmlw_script.specs.declared.line.BodyLine.TheVariants as body_lines;
 ghost use Rattle.dmlw_script.specs.Plans.{count_after_command, lines_of_body, line_at, HasName};
 ghost use Rattle.dmlw_script.specs.CanonicalText.{ended_line, ending_text, line_text};
 ghost use Rattle.dmlw_script.specs.CanonicalText.{canonical_text};
 
-use crate::command::Command;
+use crate::command::{Command, Submission};
 use crate::parts::push_name;
 use crate::printed_head::push_head;
 use crate::script::Script;
 use crate::script_id::ScriptId;
 use crate::steps::push_step;
-use crate::submissions::push_submission;
+use crate::submissions::{push_submission, push_word};
 use refusals::push_number;
 use std::alloc::{AllocError, Global};
 
@@ -92,12 +93,23 @@ fn push_command(
         ≡ out.old.items ++ ended_line (parsed_lines.Body (line_at names.now before command.now))) }
 {
     match command {
-        Command::Submit(submission) => push_submission(out, names[before], *submission)?,
+        Command::Submit(submission) => push_submit(out, names[before], *submission)?,
         Command::Complete { request } => push_name(out, b"c ", names[*request])?,
         Command::Step(step) => push_step(out, step)?,
     }
     out.push(b'\n')?;
     Ok(())
+}
+
+// Appends the line of a submission, without its line feed.
+#[tactic(auto, using(crate::proofs::FieldLaws::after_field))]
+fn push_submit(out: &mut Vec<u8>, name: ScriptId, submission: Submission) -> Result<(), AllocError>
+    ensures { OnOk result (out.new.items
+        ≡ out.old.items ++ line_text (parsed_lines.Body (body_lines.Submit name submission))) }
+{
+    push_word(out, submission)?;
+    push_name(out, b" ", name)?;
+    push_submission(out, submission)
 }
 
 // Returns the number of requests submitted after a command, if it was `before` before it.

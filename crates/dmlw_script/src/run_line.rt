@@ -4,12 +4,10 @@ ghost use Rattle.dmlw_script.specs.inside.RunLineParser.{call_of as the_call, ma
 ghost use Rattle.dmlw_script.specs.inside.RunLineParser.{parse_run_line, run_head_line};
 ghost use Rattle.dmlw_script.specs.inside.RunLineParser.{seat_line};
 ghost use Rattle.dmlw_script.specs.inside.RunLineParser.{seat_of as the_seat};
-ghost use Rattle.dmlw_script.specs.inside.RunLineParser.{submission_of as the_submission};
 ghost use Rattle.dmlw_script.specs.inside.RunLineParser.{IsNoRunLine};
 ghost use Rattle.dmlw_script.specs.inside.RunLineParser.{IsUnread};
 
-use crate::command::Submission;
-use crate::line::{HeadLine, discard_words, head_words, is_line_text, write_words};
+use crate::line::{HeadLine, head_words, is_line_text, submission_of};
 use crate::line_error::LineError;
 use crate::reader::shared_text;
 use crate::seat_call::{Call, SeatCall};
@@ -97,18 +95,5 @@ fn mark_of(alloc: Global, text: Option<&[u8]>) -> Result<Call, LineError>
             Ok(Call::Mark { text })
         }
         _ => Err(LineError::Refused(Refusal::BadLine)),
-    }
-}
-
-// Parses the request that a seat submits with this first word and these other words, if there are
-// any.
-fn submission_of(verb: &[u8], words: Option<&[u8]>) -> Option<Submission>
-    ensures { result ≡ the_submission verb.now (option_copied words.entry) }
-{
-    match (verb, words) {
-        (b"w", Some(words)) => write_words(words),
-        (b"d", Some(words)) => discard_words(words),
-        (b"f", None) => Some(Submission::Flush),
-        _ => None,
     }
 }

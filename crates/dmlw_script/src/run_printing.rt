@@ -2,16 +2,15 @@
 ghost use Rattle.std.specs.Prelude.{◌≡◌, ◌++◌, flat_map, map, IfOk, OnOk};
 ghost use Rattle.dmlw_script.specs.RunGrammar.{IsRunText};
 ghost use Rattle.dmlw_script.specs.RunPlans.{run_head};
-ghost use Rattle.dmlw_script.specs.RunText.{call_line, call_text, ended_run_line, run_text};
-ghost use Rattle.dmlw_script.specs.RunText.{seats_line};
+ghost use Rattle.dmlw_script.specs.Fields.{call_fields, text_of};
+ghost use Rattle.dmlw_script.specs.RunText.{call_line, ended_run_line, run_text, seats_line};
 
-use crate::command::Submission;
-use crate::parts::{push_sectors, push_value};
+use crate::parts::push_value;
 use crate::printed_head::{push_disk_layers, push_disks};
 use crate::run_script::RunScript;
 use crate::seat_call::{Call, SeatCall};
 use crate::steps::push_mark;
-use crate::submissions::push_filling;
+use crate::submissions::{push_submission, push_word};
 use std::alloc::{AllocError, Global};
 
 /// Returns the canonical text of a run's script: no comments, no empty lines, no leading zeroes,
@@ -79,29 +78,13 @@ fn push_seat_call(out: &mut Vec<u8>, line: &SeatCall) -> Result<(), AllocError>
 
 // Appends the words of a call.
 fn push_call(out: &mut Vec<u8>, call: &Call) -> Result<(), AllocError>
-    ensures { OnOk result (out.new.items ≡ out.old.items ++ call_text call.now) }
+    ensures { OnOk result (out.new.items ≡ out.old.items ++ text_of (call_fields call.now)) }
 {
     match call {
-        Call::Submit(submission) => push_submitted(out, *submission),
-        Call::Mark { text } => push_mark(out, text.as_slice()),
-    }
-}
-
-// Appends the words of the request that a seat submits.
-fn push_submitted(out: &mut Vec<u8>, submission: Submission) -> Result<(), AllocError>
-    ensures { OnOk result (out.new.items ≡ out.old.items ++ call_text (Call.Submit submission)) }
-{
-    match submission {
-        Submission::Write {
-            first,
-            count,
-            byte,
-            options,
-        } => {
-            push_sectors(out, b"w ", first, count)?;
-            push_filling(out, byte, options)
+        Call::Submit(submission) => {
+            push_word(out, *submission)?;
+            push_submission(out, *submission)
         }
-        Submission::Flush => out.extend_from_slice(b"f"),
-        Submission::Discard { first, count } => push_sectors(out, b"d ", first, count),
+        Call::Mark { text } => push_mark(out, text.as_slice()),
     }
 }

@@ -1,7 +1,6 @@
 //! Prints the lines that are no submissions: ends, marks, turns, times and messages.
 ghost use Rattle.std.specs.Prelude.{◌≡◌, ◌++◌, ◌∷◌, codes, decimal, OnOk};
-ghost use Rattle.dmlw_script.specs.Grammar.{message_verb};
-ghost use Rattle.dmlw_script.specs.CanonicalText.{step_text};
+ghost use Rattle.dmlw_script.specs.Fields.{step_fields, text_of};
 
 use crate::command::Step;
 use crate::disk_name::DiskName;
@@ -10,7 +9,7 @@ use std::alloc::AllocError;
 
 // Appends a line that names no request, without its line feed.
 pub(crate) fn push_step(out: &mut Vec<u8>, step: &Step) -> Result<(), AllocError>
-    ensures { OnOk result (out.new.items ≡ out.old.items ++ step_text step.now) }
+    ensures { OnOk result (out.new.items ≡ out.old.items ++ text_of (step_fields step.now)) }
 {
     match step {
         Step::Close => out.extend_from_slice(b"close"),
@@ -38,7 +37,7 @@ fn push_message(
     text: &[u8],
 ) -> Result<(), AllocError>
     ensures { OnOk result (out.new.items
-        ≡ out.old.items ++ (message_verb over ++ 32 ∷ (decimal layer ++ 32 ∷ text.now))) }
+        ≡ out.old.items ++ text_of (step_fields (Step.Message over layer text.now))) }
 {
     match over {
         DiskName::Data => push_valued(out, b"message data ", layer, text),

@@ -4,17 +4,24 @@ use Rattle.std.proofs.Common.{◌≡◌, ℕ, ◌+◌, List, [], ◌∷◌, Ok, 
 use Rattle.std.proofs.Common.{arith}
 use Rattle.blockdev.specs.Calls.{Flushes}
 use Rattle.bio.specs.Content.{Content}
-use Rattle.fault_layers.specs.declared.delay.DelayGate.{DelayGate}
 use Rattle.fault_layers.specs.declared.gate.Kind.TheVariants.{Discard, Flush, Read, Write}
 use Rattle.fault_layers.specs.declared.gate.Verdict.TheVariants.{Delay, Pass}
 use Rattle.fault_layers.specs.declared.gated.Gated.{Gated}
 use Rattle.fault_layers.specs.Window.{SeenFrom}
 use Rattle.fault_layers.specs.Decision.{IsDecided}
-use Rattle.fault_layers.specs.DelayRule.{delay_of, delay_verdict}
+use Rattle.fault_layers.specs.declared.target.Target.TheVariants.{Linear}
+use Rattle.fault_layers.specs.Verdicts.{delay_of, delay_verdict, Delays}
 
 -- a device over one that is a number, with so many faults and lies
 gated : ℕ → ℕ → ℕ → Gated ℕ ℕ
-gated lower faults lies = record { lower = lower; gate = 0; faults = faults; lies = lies }
+gated lower faults lies =
+    record {
+      lower = lower;
+      gate = record { target = Linear; load = 0 };
+      faults = faults;
+      lies = lies;
+      kind = 0;
+    }
 
 -- a call that passes and that the device beneath doesn't
 -- do, one that is a fault, and one that is a lie
@@ -22,7 +29,7 @@ pass_below : IsDecided Pass (λ begun. ⊥) Flushes 5 (Ok 5) (gated 0 0 0) (gate
 pass_below told = (told.passes refl).0
 
 -- delays of reads, writes and flushes: each kind has its own, and a discard that of a write
-abbrev delaying : DelayGate
+abbrev delaying : Delays
 delaying = record { read = 1; write = 2; flush = 3 }
 
 delays_of_kinds : (delay_of delaying Read ≡ 1) × (delay_of delaying Write ≡ 2)

@@ -1,14 +1,16 @@
 -- Worked decisions, by computation.
-use Rattle.std.proofs.Common.{◌≡◌, ℕ, true, false, [], ◌∷◌, refl}
+use Rattle.std.proofs.Common.{◌≡◌, ◌||◌, ℕ, true, false, [], ◌∷◌, refl}
 use Rattle.std.specs.Prelude.{◌-◌, ◌^◌}
 use Rattle.blockdev.specs.Calls.{Discards, Flushes}
 use Rattle.bio.specs.Content.{Content, moved}
 use Rattle.fault_layers.specs.declared.feature.Feature.TheVariants as features
 use Rattle.fault_layers.specs.declared.gate.Kind.TheVariants.{Discard, Flush, Read, Write}
-use Rattle.fault_layers.specs.declared.gate.Verdict.TheVariants.{Drop, Fail, Pass}
+use Rattle.fault_layers.specs.declared.gate.Verdict.TheVariants.{Delay, Drop, Fail, Pass}
 use Rattle.fault_layers.specs.Window.{call_from}
-use Rattle.fault_layers.specs.FlakeyRule.{Cycle, flakey_verdict, is_up}
-use Rattle.fault_layers.specs.FuseRule.{fuse_after, fuse_verdict}
+use Rattle.fault_layers.specs.declared.target.Target.{Target}
+use Rattle.fault_layers.specs.declared.target.Target.TheVariants as targets
+use Rattle.fault_layers.specs.Verdicts.{drops_writes, flakey_verdict, fuse_after, fuse_verdict}
+use Rattle.fault_layers.specs.Verdicts.{is_up, loaded_after, verdict_of, Cycle, Loaded}
 
 -- up for 10 seconds and down for 5, from this moment on
 ten_and_five : ℕ → Cycle
@@ -145,3 +147,64 @@ numbered sector = sector ∷ []
 range-first : moved 4 numbered 0 ≡ 4 ∷ []
 unfolding numbered
 range-first = refl
+
+-- ---- gates
+
+abbrev gate : Target → Loaded
+gate target = record { target = target; load = 3000 }
+
+-- up for 10 seconds from the moment 3000 on, then down for 5, while it drops what is written
+abbrev dropping : Loaded
+dropping = gate (targets.Flakey 10 5 features.DropWrites)
+
+last-up-write : verdict_of dropping Write 12999 ≡ Pass
+last-up-write = refl
+
+first-down-write : verdict_of dropping Write 13000 ≡ Drop
+first-down-write = refl
+
+-- a fuse has one call less after a write, and as many after a read; every other gate stays
+written : loaded_after (gate (targets.Fuse 2)) Write 7 ≡ gate (targets.Fuse 1)
+written = refl
+
+was-read : loaded_after (gate (targets.Fuse 2)) Read 7 ≡ gate (targets.Fuse 2)
+was-read = refl
+
+stays : loaded_after dropping Write 7 ≡ dropping
+stays = refl
+
+delays-stay : loaded_after (gate (targets.Delay 1 2 3)) Flush 7 ≡ gate (targets.Delay 1 2 3)
+delays-stay = refl
+
+fails : verdict_of (gate targets.Error) Read 7 ≡ Fail
+fails = refl
+
+-- a discard is delayed as a write is
+discarded-later : verdict_of (gate (targets.Delay 1 2 3)) Discard 7 ≡ Delay 2
+discarded-later = refl
+
+flushed-later : verdict_of (gate (targets.Delay 1 2 3)) Flush 7 ≡ Delay 3
+flushed-later = refl
+
+-- a linear gate passes all, and so does that of a layer with bad blocks
+all-passes : verdict_of (gate targets.Linear) Write 7 ≡ Pass
+all-passes = refl
+
+dust-passes : verdict_of (gate (targets.Dust 512)) Write 7 ≡ Pass
+dust-passes = refl
+
+-- ---- which layers may drop writes: a flakey one with that feature, and no other
+
+flakey-drops : drops_writes (targets.Flakey 0 1 features.DropWrites) ≡ true
+flakey-drops = refl
+
+flakey-errs : drops_writes (targets.Flakey 0 1 features.ErrorWrites)
+    || (drops_writes (targets.Flakey 0 1 features.ErrorReads)
+    || drops_writes (targets.Flakey 0 1 features.None)) ≡ false
+flakey-errs = refl
+
+others-pass : drops_writes targets.Linear
+    || (drops_writes targets.Error
+    || (drops_writes (targets.Fuse 0)
+    || (drops_writes (targets.Dust 512) || drops_writes (targets.Delay 1 2 3)))) ≡ false
+others-pass = refl

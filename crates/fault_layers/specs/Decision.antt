@@ -28,8 +28,8 @@ KeepsBuffer calls.Flushes = Unit {0}
 
 -- What becomes of a call by its verdict. `below` says of a moment that the lower device did it
 -- from then on, with this answer.
-pub record IsDecided {D G : Type 0} (verdict : Verdict) (below : ℕ → Type 0) (call : Call) (now : ℕ)
-    (result : Result ℕ DevError) (old new : Gated D G) : Type 0 where
+pub record IsDecided {D K : Type 0} (verdict : Verdict) (below : ℕ → Type 0) (call : Call) (now : ℕ)
+    (result : Result ℕ DevError) (old new : Gated D K) : Type 0 where
   -- it is passed: the lower device did it, and the counts stay
   pub passes : verdict ≡ Pass → below now × (new.faults ≡ old.faults) × (new.lies ≡ old.lies)
   -- it is delayed: so it does, from the later moment on, and an Ok ends at that moment or later

@@ -6,13 +6,8 @@ pub use Rattle.blockdev.specs.Law
 pub use Rattle.blockdev.specs.Messages
 pub use Rattle.blockdev.specs.View
 pub use Rattle.bio.specs.Content
-pub mod Features
+pub mod Verdicts
 pub mod Window
 pub mod WindowLaws
 pub mod Decision
-pub mod DelayRule
-pub mod DropLaws
-pub mod ErrorRule
-pub mod FuseRule
-pub mod FlakeyRule
-pub mod ReadLaws
+pub mod VerdictLaws

@@ -1,12 +1,12 @@
-//! `Gate` decides for each call whether, and when, the lower device does it.
-//! The delay, error, flakey and fuse layers each have one, and `Gated` asks it.
-ghost use Rattle.std.specs.Prelude.{◌≡◌, ℕ, Bool, false};
-ghost use Rattle.fault_layers.specs.declared.gate.Kind.{Kind};
-ghost use Rattle.fault_layers.specs.declared.gate.Kind.TheVariants.{Read};
-ghost use Rattle.fault_layers.specs.declared.gate.Verdict.{Verdict};
-ghost use Rattle.fault_layers.specs.declared.gate.Verdict.TheVariants as verdicts;
+//! `Gate` decides for each call whether, and when, the lower device does it, by a layer's target.
+//! `Gated` asks it.
+ghost use Rattle.std.specs.Prelude.{◌≡◌};
+ghost use Rattle.fault_layers.specs.Verdicts.{delay_of, flakey_verdict, IsCycle};
 
+use crate::feature::Feature;
+use crate::target::Target;
 use bio::Ms;
+use std::marker::Model;
 
 /// What a call of a device asks for.
 #[derive(Clone, Copy, Debug, PartialEq, Eq)]
@@ -30,30 +30,93 @@ pub enum Verdict {
     Drop,
 }
 
-/// What decides which calls reach the lower device, and when.
-pub trait Gate {
-    /// What becomes of a call of this kind at this moment.
-    ghost verdict: { Self → Kind → ℕ → Verdict };
+/// What decides which calls reach the lower device, and when: a target, loaded at some time.
+/// Contracts see it as `Loaded`.
+#[derive(Clone, Copy, Debug, Drop, PartialEq, Eq)]
+pub struct Gate {
+    target: Target,
+    load: Ms,
+}
 
-    /// The gate after it.
-    ghost after: { Self → Kind → ℕ → Self };
+impl Model for Gate {
+    ghost use Rattle.fault_layers.specs.Verdicts.{HasCycle, Loaded};
 
-    /// Whether it may ever drop a call.
-    ghost may_drop: { Self → Bool };
+    ghost Value = { Loaded };
+
+    ghost view = { λ gate. record { target = gate.target; load = gate.load } };
+
+    ghost inverse = { λ loaded. record { target = loaded.target; load = loaded.load } };
+
+    ghost invariant = { λ gate. HasCycle gate.target };
+}
+
+impl Gate {
+    ghost use Rattle.fault_layers.specs.Verdicts.{loaded_after, verdict_of, HasCycle};
+
+    /// Returns the gate of a target. A flakey device's times count from `load`; a moment before the
+    /// load counts as the load.
+    pub fn new(target: Target, load: Ms) -> Gate
+        requires { HasCycle target }
+        ensures { result ≡ record { target = target; load = load } }
+    {
+        Gate { target, load }
+    }
 
     /// Decides about one call, which begins at the moment `now`, in milliseconds.
-    fn decide(&mut self, kind: Kind, now: Ms) -> Verdict
-        ensures verdict { result ≡ verdict self.old kind now }
-        ensures after { self.new ≡ after self.old kind now };
+    pub fn decide(&mut self, kind: Kind, now: Ms) -> Verdict
+        ensures verdict { result ≡ verdict_of self.old kind now }
+        ensures after { self.new ≡ loaded_after self.old kind now }
+    {
+        match self.target {
+            Target::Linear | Target::Dust { .. } => Verdict::Pass,
+            Target::Error => Verdict::Fail,
+            Target::Flakey { up, down, feature } => {
+                flakey_verdict(up, down, feature, self.load, kind, now)
+            }
+            Target::Fuse { calls } => {
+                if kind == Kind::Read {
+                    Verdict::Pass
+                } else if calls == 0 {
+                    Verdict::Fail
+                } else {
+                    self.target = Target::Fuse { calls: calls - 1 };
+                    Verdict::Pass
+                }
+            }
+            Target::Delay { read, write, flush } => {
+                Verdict::Delay(Ms::new(delay_of(read, write, flush, kind)))
+            }
+        }
+    }
+}
 
-    /// A read can't be dropped: there would be no bytes to answer.
-    ghost keeps_reads: { (gate : Self) (now : ℕ) → verdict gate Read now ≡ verdicts.Drop → ⊥ };
+// Returns the verdict of a flakey device, which passes each call while it is up.
+fn flakey_verdict(up: u64, down: u64, feature: Feature, load: Ms, kind: Kind, now: Ms) -> Verdict
+    requires { IsCycle up down }
+    ensures { result ≡ flakey_verdict
+        (record { up = up; down = down; feature = feature; load = load }) kind now }
+{
+    let since = now.milliseconds().saturating_sub(load.milliseconds());
+    if since % (1000 * (up + down)) < 1000 * up {
+        return Verdict::Pass;
+    }
+    match (feature, kind) {
+        (Feature::None, _) => Verdict::Fail,
+        (Feature::ErrorReads, Kind::Read) => Verdict::Fail,
+        (Feature::ErrorReads, _) => Verdict::Pass,
+        (_, Kind::Read) => Verdict::Pass,
+        (Feature::ErrorWrites, _) => Verdict::Fail,
+        (Feature::DropWrites, _) => Verdict::Drop,
+    }
+}
 
-    /// A gate that may not drop calls drops none.
-    ghost honest: { (gate : Self) (kind : Kind) (now : ℕ) → may_drop gate ≡ false
-        → verdict gate kind now ≡ verdicts.Drop → ⊥ };
-
-    /// A decision doesn't change `may_drop`.
-    ghost stays: { (gate : Self) (kind : Kind) (now : ℕ)
-        → may_drop (after gate kind now) ≡ may_drop gate };
+// Returns how much later a delay device's call of this kind begins, in milliseconds.
+fn delay_of(read: u64, write: u64, flush: u64, kind: Kind) -> u64
+    ensures { result ≡ delay_of (record { read = read; write = write; flush = flush }) kind }
+{
+    match kind {
+        Kind::Read => read,
+        Kind::Write | Kind::Discard => write,
+        Kind::Flush => flush,
+    }
 }

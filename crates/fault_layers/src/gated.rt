@@ -1,26 +1,28 @@
-//! The one device over all gates: it asks its gate about each call, and counts faults and lies.
-//! The delay, error, flakey and fuse layers are this device.
+//! The one device over a gate: it asks its gate about each call, and counts faults and lies. The
+//! delay, error, flakey and fuse layers are this device (src/devices.rt).
 use crate::gate::{Gate, Kind, Verdict};
 use bio::{DevError, Ms};
 use blockdev::{BlockDev, Message, MessageError};
 
-/// A device with a gate that decides, call by call, whether the lower device does it, and when.
+/// A device with a gate that decides, call by call, whether the lower device does it, and when. `K`
+/// only tells one kind of layer from another.
 #[derive(Drop)]
-pub struct Gated<D: BlockDev + Drop, G: Gate + Drop> {
+pub struct Gated<D: BlockDev + Drop, K: Drop> {
     lower: D,
-    gate: G,
+    gate: Gate,
     // How often it failed a call, and how often it dropped one; both stop at 2^64 - 1.
     faults: u64,
     lies: u64,
+    kind: K,
 }
 
-impl<D: BlockDev + Drop, G: Gate + Drop> Gated<D, G> {
+impl<D: BlockDev + Drop, K: Drop> Gated<D, K> {
     ghost use Rattle.std.specs.Prelude.{◌≡◌, Err, Ok};
     ghost use Rattle.bio.specs.declared.outcome.DevError.TheVariants.{Io};
     ghost use Rattle.blockdev.specs.OwnCounts.{one_more};
 
     /// The device under this gate, which has decided about no call yet.
-    pub fn under(lower: D, gate: G) -> Gated<D, G>
+    pub fn under(lower: D, gate: Gate, kind: K) -> Gated<D, K>
         ensures lower { result.lower ≡ lower }
         ensures gate { result.gate ≡ gate }
         ensures faults { result.faults ≡ 0 }
@@ -31,6 +33,7 @@ impl<D: BlockDev + Drop, G: Gate + Drop> Gated<D, G> {
             gate,
             faults: 0,
             lies: 0,
+            kind,
         }
     }
 
@@ -66,19 +69,21 @@ impl<D: BlockDev + Drop, G: Gate + Drop> Gated<D, G> {
     }
 }
 
-impl<D: BlockDev + Drop, G: Gate + Drop> BlockDev for Gated<D, G> {
+#[tactic(auto, using(crate::specs::VerdictLaws::gate_honest, crate::specs::VerdictLaws::gate_stays, crate::specs::VerdictLaws::gate_keeps_reads))]
+impl<D: BlockDev + Drop, K: Drop> BlockDev for Gated<D, K> {
     ghost use Rattle.blockdev.specs.OwnCounts.{counted, lawful_counted};
     ghost use Rattle.std.specs.Prelude.{◌≡◌};
     ghost use Rattle.fault_layers.specs.Decision.{IsDecided, kind_of};
+    ghost use Rattle.fault_layers.specs.Verdicts.{drops_writes, loaded_after, verdict_of};
 
     ghost shown = { λ device. counted (D.shown device.lower) device.faults device.lies
-        (G.may_drop device.gate) };
+        (drops_writes device.gate.target) };
 
     // What the gate decides about the call, and the gate after it.
     ghost does = { λ old call now result new.
-        IsDecided (G.verdict old.gate (kind_of call) now)
+        IsDecided (verdict_of old.gate (kind_of call) now)
         (λ begun. D.does old.lower call begun result new.lower) call now result old new
-        × (new.gate ≡ G.after old.gate (kind_of call) now) };
+        × (new.gate ≡ loaded_after old.gate (kind_of call) now) };
 
     fn sectors(&self) -> u64 {
         self.lower.sectors()
@@ -128,11 +133,11 @@ impl<D: BlockDev + Drop, G: Gate + Drop> BlockDev for Gated<D, G> {
     }
 
     ghost lawful = { λ device.
-        lawful_counted (D.shown device.lower) device.faults device.lies (G.may_drop device.gate)
-        (D.lawful device.lower) };
+        lawful_counted (D.shown device.lower) device.faults device.lies
+        (drops_writes device.gate.target) (D.lawful device.lower) };
 }
 
-impl<D: Message + Drop, G: Gate + Drop> Message for Gated<D, G> {
+impl<D: Message + Drop, K: Drop> Message for Gated<D, K> {
     ghost use Rattle.std.specs.Prelude.{◌≡◌};
 
     // What the lower device answers, and the gate and its counts stay.

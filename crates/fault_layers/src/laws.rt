@@ -1,20 +1,34 @@
 //! Laws of the layers, apart from the code: each function does nothing, and its clause is the law.
-ghost use Rattle.std.specs.Prelude.{◌≡◌, Ok, ℕ};
+ghost use Rattle.std.specs.Prelude.{◌≡◌, false, Ok, ℕ};
 ghost use Rattle.bio.specs.Moments.{later_by};
 ghost use Rattle.blockdev.specs.Calls.{Call};
 ghost use Rattle.fault_layers.specs.Decision.{IsDecided, kind_of};
-ghost use Rattle.fault_layers.specs.DelayRule.{delay_of, delay_verdict};
+ghost use Rattle.fault_layers.specs.declared.gate.Kind.{Kind};
+ghost use Rattle.fault_layers.specs.declared.gate.Kind.TheVariants.{Read};
+ghost use Rattle.fault_layers.specs.declared.gate.Verdict.TheVariants as verdicts;
+ghost use Rattle.fault_layers.specs.Verdicts.{delay_of, delay_verdict, drops_writes, loaded_after};
+ghost use Rattle.fault_layers.specs.Verdicts.{verdict_of, Delays, Loaded};
 ghost use Rattle.sector_disk.specs.DiskView.{Does};
 
-use crate::{DelayGate, Gated};
+use crate::{AsDelay, Gated};
 use sector_disk::SectorDisk;
+
+/// No gate drops a read: there would be no bytes to answer. A gate whose target may not drop writes
+/// drops no call, and no decision changes whether it may.
+pub fn gates_drop_only_writes()
+    ensures reads { (gate : Loaded) (now : ℕ) → verdict_of gate Read now ≡ verdicts.Drop → ⊥ }
+    ensures honest { (gate : Loaded) (kind : Kind) (now : ℕ) → drops_writes gate.target ≡ false
+        → verdict_of gate kind now ≡ verdicts.Drop → ⊥ }
+    ensures stays { (gate : Loaded) (kind : Kind) (now : ℕ)
+        → drops_writes (loaded_after gate kind now).target ≡ drops_writes gate.target }
+{}
 
 /// A disk in memory ends each call at once, so over it a delayed call that ends well ends later by
 /// exactly the delay of its kind.
-#[tactic(auto, using(crate::specs::DelayRule::ends_later))]
+#[tactic(auto, using(crate::specs::VerdictLaws::ends_later))]
 pub fn delayed_calls_of_a_disk_end_just_later()
-    ensures { (old new : Gated SectorDisk DelayGate) (call : Call) (now end : ℕ) →
-        IsDecided (delay_verdict old.gate (kind_of call) now)
+    ensures { (old new : Gated SectorDisk AsDelay) (delays : Delays) (call : Call) (now end : ℕ)
+        → IsDecided (delay_verdict delays (kind_of call) now)
         (λ begun. Does old.lower call begun (Ok end) new.lower) call now (Ok end) old new →
-        end ≡ later_by now (delay_of old.gate (kind_of call)) }
+        end ≡ later_by now (delay_of delays (kind_of call)) }
 {}

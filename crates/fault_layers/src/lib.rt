@@ -1,25 +1,21 @@
 //! Devices over another one, which map its sectors, make its calls later or make it fail.
 //!
-//! `Linear` is a part of the lower device it. Every other layer only
-//! decides: its gate (`Gate`) says for each call whether the lower
-//! device does it, and when, and `Gated` is the one device over them all.
+//! `Linear` is a part of the lower device. Every other layer only decides: its gate (`Gate`) says
+//! by its `Target` for each call whether the lower device does it, and when, and `Gated` is the one
+//! device over it.
 #![tactic(auto)]
 
-pub use delay::{Delay, DelayGate};
-pub use error_dev::{ErrorDev, ErrorGate};
+pub use devices::{AsDelay, AsError, AsFlakey, AsFuse, Delay, ErrorDev, Flakey, Fuse};
 pub use feature::Feature;
-pub use flakey::{Flakey, FlakeyGate};
-pub use fuse::{Fuse, FuseGate};
 pub use gate::{Gate, Kind, Verdict};
 pub use gated::Gated;
 pub use linear::Linear;
+pub use target::Target;
 
-mod delay;
-mod error_dev;
+mod devices;
 mod feature;
-mod flakey;
-mod fuse;
 mod gate;
 mod gated;
 pub mod laws;
 mod linear;
+mod target;

@@ -14,8 +14,9 @@ ghost use Rattle.recorder.specs.declared.recorder.Recorder.{Recorder};
 use blockdev::BlockDev;
 use pending::laws::stopped_lists_stay;
 
-/// Each prefix of the completion list belongs to some moment up to the last one. So the headline's
-/// promise about the moments to which `count` entries belong is about at least one moment.
+/// Each prefix of the completion list belongs to some moment up to the last moment. So the
+/// headline's promise about the moments to which `count` entries belong is about at least one
+/// moment.
 pub fn each_count_belongs_to_a_moment()
     ensures { (size : ℕ) (events : List CoreEvent) (count : ℕ)
         → count ≤ length (completion_list (dm_log_writes size) events) →
@@ -26,8 +27,8 @@ pub fn each_count_belongs_to_a_moment()
 }
 
 /// If a device has the size of a recorder's log device, and the content that a crash left there, it
-/// holds the log that `reopen_and_replay` asks for: the first `count` entries. By the recorder's
-/// clause `crash`, all acknowledged entries are among them.
+/// holds a log (`HoldsLogOf`). The log has the first `count` entries. `reopen_and_replay` asks for
+/// such a log. By the recorder's clause `crash`, all acknowledged entries are among them.
 pub fn crashed_logs_are_held<L: BlockDev + Drop, D: BlockDev>()
     ensures { (old new : Recorder L L.BlockDev) (left : Content) (log : D)
         → (plain : LeavesPlainLog (recorder_view old) (recorder_view new) left)

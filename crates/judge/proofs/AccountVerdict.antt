@@ -20,7 +20,7 @@ use Rattle.judge.specs.Accounts.{IsAccount, is_held_from, last_below, place_at}
 use Rattle.judge.specs.Laws.{any_below-last, equal_bytes, held-parts, held_somewhere, kept_last}
 use Rattle.judge.specs.Laws.{kept_within, last_below-found, same_bytes}
 use Rattle.judge.specs.Verdicts.{IsRuledOutBy, IsVerdict}
-use Rattle.judge.specs.inside.Accounts.{IsFound, is_at_first, is_fine}
+use Rattle.judge.specs.inside.Accounts.{IsFound, is_at_first, could_hold_value}
 
 -- something is there just where it isn't none
 is_some-none : (o : Option ℕ) → is_none o ≡ true → is_some o ≡ false
@@ -35,7 +35,7 @@ none-is_some (Some x) e = cc
 fine_possible : (events : List CoreEvent) (first now : Content) (sectors sector : ℕ)
     (account : Account)
     → IsAccount events now sectors account → sector < sectors
-    → is_fine account.held.items account.last.items first now sector ≡ true
+    → could_hold_value account.held.items account.last.items first now sector ≡ true
     → PossibleAt events first now sector
 fine_possible events first now sectors sector account told within fine =
     elim (or_cases (is_some (place_at account.held.items sector))
@@ -63,7 +63,7 @@ possible_fine : (events : List CoreEvent) (first now : Content) (sectors sector 
     (account : Account)
     → IsAccount events now sectors account → sector < sectors
     → PossibleAt events first now sector
-    → is_fine account.held.items account.last.items first now sector ≡ true
+    → could_hold_value account.held.items account.last.items first now sector ≡ true
 possible_fine events first now sectors sector account told within (inl same) =
     let last = account.last.items in
     let none =

@@ -10,14 +10,14 @@ use Rattle.bio.specs.Events.{end_of}
 use Rattle.bio.specs.Possible.{covers_at, is_replaced, values_at}
 use Rattle.bio.specs.PossibleLaws.{uncovered_value}
 use Rattle.judge.specs.Accounts.{is_held_from, is_value, last_below, place_at}
-use Rattle.judge.specs.inside.Accounts.{AreFit, AreHeld, is_fit}
+use Rattle.judge.specs.inside.Accounts.{AreFit, AreHeld, has_value_of}
 use Rattle.judge.specs.inside.Last.{AreCovered, AreLastKept, is_below_last}
 use Rattle.judge.proofs.Last.{covered_in, covered_out, replaced_last}
 
 -- one more sector of the range, whose value fits
 pub fit_here : (event : Option CoreEvent) (end : Option ℕ) (last : List (Option ℕ)) (now : Content)
     (place from sector : ℕ) (old held : List (Option ℕ))
-    → sector < length held → is_fit event end last now sector ≡ true
+    → sector < length held → has_value_of event end last now sector ≡ true
     → from ≤ sector → AreFit event end last now place from sector old held
     → AreFit event end last now place from (suc sector) old (set held sector (Some place))
 fit_here event end last now place from sector old held within fits low before = record {
@@ -27,7 +27,7 @@ fit_here event end last now place from sector old held within fits low before = 
         ap (place_at (set held sector (Some place))) same
         ∙ get_or-set_same held sector (Some place) None within
         ∙ sym (ap (λ b. if b then Some place else place_at old k)
-        (ap (is_fit event end last now) same ∙ fits))
+        (ap (has_value_of event end last now) same ∙ fits))
     | inr earlier ↦
         get_or-set_other held sector k (Some place) None (λ e. omega arith)
         ∙ before.within k h above earlier
@@ -45,7 +45,7 @@ fit_here event end last now place from sector old held within fits low before = 
 -- and one whose value doesn't
 pub fit_not : (event : Option CoreEvent) (end : Option ℕ) (last : List (Option ℕ)) (now : Content)
     (place from sector : ℕ) (old held : List (Option ℕ))
-    → is_fit event end last now sector ≡ false
+    → has_value_of event end last now sector ≡ false
     → from ≤ sector → AreFit event end last now place from sector old held
     → AreFit event end last now place from (suc sector) old held
 fit_not event end last now place from sector old held fails low before = record {
@@ -54,7 +54,7 @@ fit_not event end last now place from sector old held fails low before = record 
     | inl same ↦
         before.outside k (inr (omega arith))
         ∙ sym (ap (λ b. if b then Some place else place_at old k)
-        (ap (is_fit event end last now) same ∙ fails))
+        (ap (has_value_of event end last now) same ∙ fails))
     | inr earlier ↦ before.within k h above earlier
   ];
   outside = λ k outside.
@@ -69,7 +69,7 @@ pub fit_all : (event : Option CoreEvent) (end : Option ℕ) (last : List (Option
     (place from to : ℕ) (old new : List (Option ℕ))
     → AreCovered event (length old) from to → AreFit event end last now place from to old new
     → (sector : ℕ) → sector < length old
-    → place_at new sector ≡ (if is_fit event end last now sector then Some place else place_at old
+    → place_at new sector ≡ (if has_value_of event end last now sector then Some place else place_at old
     sector)
 fit_all event end last now place from to old new covered fit sector within =
     elim (bool_cases (covers_at sector event)) [
@@ -96,7 +96,7 @@ pub held_next : (events : List CoreEvent) (event : CoreEvent) (now : Content) (s
     → AreLastKept events sectors (length events) last
     → length new ≡ length old
     → ((sector : ℕ) → sector < length old
-    → place_at new sector ≡ (if is_fit
+    → place_at new sector ≡ (if has_value_of
     (Some event) end last now sector then Some place else place_at old sector))
     → AreHeld events now sectors place old → AreHeld events now sectors (suc place) new
 held_next events event now sectors place end last old new is ends kept size fit before = record {
@@ -104,14 +104,14 @@ held_next events event now sectors place end last old new is ends kept size fit 
   each = λ sector within.
       let long = before.size in
       fit sector (omega arith)
-      ∙ ap (λ (o : Option ℕ). if is_fit (Some event) end last now sector then Some place else o)
+      ∙ ap (λ (o : Option ℕ). if has_value_of (Some event) end last now sector then Some place else o)
       (before.each sector within)
       ∙ ap (λ b. if b then Some place else last_below (is_held_from events now sector) place)
       (same sector within);
 }
   where
     same : (sector : ℕ) → sector < sectors
-        → is_fit (Some event) end last now sector ≡ is_held_from events now sector place
+        → has_value_of (Some event) end last now sector ≡ is_held_from events now sector place
     same sector within =
         ap (λ e. not (is_below_last e (place_at last sector))
         && is_value (values_at (Some event) sector) (now sector)) ends

@@ -17,12 +17,13 @@ last_below test (suc n) = if test n then Some n else last_below test n
 abbrev pub place_at : List (Option ℕ) → ℕ → Option ℕ
 place_at places index = get_or places index None
 
--- there is a value, and it is `bytes`
+-- there is a value, and the value is `bytes`
 abbrev pub is_value : Option (List ℕ) → List ℕ → Bool
 is_value None bytes = false
 is_value (Some value) bytes = bytes_eq value bytes
 
--- the sector has the value that the request `id` put there, and the request isn't replaced there
+-- `now` has the value of the request `id` in the sector, and the request isn't replaced there
+-- (`is_replaced`)
 abbrev pub is_held_from : List CoreEvent → Content → ℕ → ℕ → Bool
 is_held_from events now sector id =
     not (is_replaced events sector id)

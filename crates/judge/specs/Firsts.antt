@@ -4,12 +4,12 @@ use Rattle.bio.specs.Content.{Content, sector_of}
 use Rattle.judge.specs.declared.first.First.{First}
 use Rattle.judge.specs.declared.first.First.TheVariants.{Zeroes, Image}
 
--- the bytes of `first`; zeroes are `count` bytes
+-- the bytes of `first`: of the image, or `count` zeroes
 abbrev pub first_bytes : First → ℕ → List ℕ
 first_bytes Zeroes count = replicate count 0
 first_bytes (Image bytes) count = bytes.now
 
--- the content of `first`, sector by sector
+-- the content with the bytes of `first`
 abbrev pub first_on : First → ℕ → Content
 first_on first count = sector_of (first_bytes first count)
 

@@ -4,7 +4,7 @@ use Rattle.bio.specs.declared.event.CoreEvent.{CoreEvent}
 use Rattle.bio.specs.Events.{is_flush_submit}
 use Rattle.bio.specs.Possible.{ended_ok}
 
--- `id` is the flush that was submitted last, of those that ended with success
+-- `id` is the last submitted flush that ended with success
 pub record IsLastFlush (events : List CoreEvent) (id : ℕ) : Type 0 where
   pub flush : is_flush_submit (slice_get events id) ≡ true
   pub ended : ended_ok events id ≡ true

@@ -84,11 +84,11 @@ kept_within events sector id kept = elim (option_cases (slice_get events id)) [
   | inr some ↦ slice_get-within events id some.0 some.1
 ]
 
--- If `bytes_eq` answers true, the bytes are equal.
+-- If `bytes_eq` is true, the bytes are equal.
 pub equal_bytes : (xs ys : List ℕ) → bytes_eq xs ys ≡ true → xs ≡ ys
 equal_bytes xs ys e = (bytes_eq-Decides xs ys).0 e
 
--- If the bytes are equal, `bytes_eq` answers true.
+-- If the bytes are equal, `bytes_eq` is true.
 pub same_bytes : (xs ys : List ℕ) → xs ≡ ys → bytes_eq xs ys ≡ true
 same_bytes xs ys e = (bytes_eq-Decides xs ys).1 e
 
@@ -108,15 +108,16 @@ not_true true e = cc
 not_true false e = refl
 
 -- If a request has a value for the sector, its index is within the list of events.
-pub stands_within : (events : List CoreEvent) (sector id : ℕ) (value : List ℕ)
+pub value-within : (events : List CoreEvent) (sector id : ℕ) (value : List ℕ)
     → values_at (slice_get events id) sector ≡ Some value → id < length events
-stands_within events sector id value is = elim (option_cases (slice_get events id)) [
+value-within events sector id value is = elim (option_cases (slice_get events id)) [
   | inl none ↦
       absurd (let contra : None ≡ Some value = sym (ap (λ e. values_at e sector) none) ∙ is in cc)
   | inr some ↦ slice_get-within events id some.0 some.1
 ]
 
--- If `is_held_from` holds, the sector has the request's value, and it isn't replaced there.
+-- If `is_held_from` holds, the sector has the request's value, and the request isn't replaced
+-- there.
 pub held-parts : (events : List CoreEvent) (now : Content) (sector id : ℕ)
     → is_held_from events now sector id ≡ true
     → (values_at (slice_get events id) sector ≡ Some (now sector))
@@ -129,7 +130,8 @@ held-parts events now sector id held =
       not_true (is_replaced events sector id) parts.0,
     )
 
--- If the sector has the request's value, and it isn't replaced there, `is_held_from` holds.
+-- If the sector has the request's value, and the request isn't replaced there, `is_held_from`
+-- holds.
 pub parts-held : (events : List CoreEvent) (now : Content) (sector id : ℕ)
     → values_at (slice_get events id) sector ≡ Some (now sector)
     → is_replaced events sector id ≡ false → is_held_from events now sector id ≡ true
@@ -137,12 +139,13 @@ parts-held events now sector id value stays =
     ap (λ b. not b && is_value (values_at (slice_get events id) sector) (now sector)) stays
     ∙ is_value_found (values_at (slice_get events id) sector) (now sector) value
 
--- If the sector has a request's value that isn't replaced there, some event passes `is_held_from`.
+-- If the sector has a request's value, and the request isn't replaced there, some event passes
+-- `is_held_from`.
 pub held_somewhere : (events : List CoreEvent) (now : Content) (sector id : ℕ)
     → values_at (slice_get events id) sector ≡ Some (now sector)
     → is_replaced events sector id ≡ false
     → any_below (is_held_from events now sector) (length events) ≡ true
 held_somewhere events now sector id value stays =
     any_below-at (is_held_from events now sector) (length events) id
-    (stands_within events sector id (now sector) value)
+    (value-within events sector id (now sector) value)
     (parts-held events now sector id value stays)

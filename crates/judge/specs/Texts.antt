@@ -4,7 +4,8 @@ use Rattle.std.specs.Fmt.{decimal}
 use Rattle.judge.specs.declared.verdict.Verdict.{Verdict}
 use Rattle.judge.specs.declared.verdict.Verdict.TheVariants.{Yes, No}
 
--- why the sector fails: the durable request that rules its value out, or that there is none
+-- why the sector fails: a durable request rules its value out, or no submitted request has its
+-- value
 abbrev pub reason_text : Option ℕ → List ℕ
 reason_text None = codes "holds no submitted value"
 reason_text (Some id) = codes "ruled out by event " ++ decimal id

@@ -25,8 +25,8 @@ pub record FailsAt (events : List CoreEvent) (first now : Content) (sectors sect
   pub lowest : (lower : ℕ) → lower < sector → PossibleAt events first now lower
   pub ruled_out : IsRuledOutBy events sector by
 
--- what a verdict means for an image `now` of `sectors` sectors after the events, if `first` was
--- there before them
+-- what a verdict means for an image `now` of `sectors` sectors after the events, if `first` was on
+-- the device before the events
 abbrev pub IsVerdict : ℕ → List CoreEvent → Content → Content → Verdict → Type 0
 IsVerdict sectors events first now Yes = Possible events first now
 IsVerdict sectors events first now (No sector by) = FailsAt events first now sectors sector by

@@ -8,7 +8,7 @@ ghost use Rattle.std.specs.Str.{bytes_eq};
 ghost use Rattle.judge.specs.Accounts.{IsAccount, place_at};
 ghost use Rattle.judge.specs.Firsts.{IsFirstOf, first_on};
 ghost use Rattle.judge.specs.Verdicts.{IsVerdict};
-ghost use Rattle.judge.specs.inside.Accounts.{IsFound, is_at_first, is_fine};
+ghost use Rattle.judge.specs.inside.Accounts.{IsFound, is_at_first, could_hold_value};
 
 use crate::ends::{end_at, ends_of};
 use crate::first::First;
@@ -21,18 +21,20 @@ use std::alloc::{AllocError, Global};
 /// The account of a list of events and an image. An event is named by its index, from 0.
 #[derive(Debug, Drop)]
 pub struct Account {
-    /// For each request, by the index of its submission: the index of its end.
+    /// For each request, at the index of the request's submission: the index of the request's end.
     pub ends: Vec<Option<usize>>,
     /// For each sector: the durable request over it that was submitted last.
     pub last: Vec<Option<usize>>,
-    /// For each sector: the last submitted request whose value the sector has and could still hold.
+    /// For each sector: the last submitted request whose value the image has there, and which isn't
+    /// replaced there (`is_held_from`).
     pub held: Vec<Option<usize>>,
 }
 
 impl Account {
-    /// Makes the account of an image, had power failed after these events. Takes 32 bytes of memory
-    /// for each sector of the image and 16 for each event. Takes time proportional to the sum of
-    /// the sectors that the requests cover. Lack of memory is the only error.
+    /// Makes the account of these events and an image, as if power failed after the last event.
+    /// Takes 32 bytes of memory for each sector of the image and 16 for each event. Takes time
+    /// proportional to the number of sectors of all requests together. Lack of memory is the only
+    /// error.
     pub fn of(alloc: Global, events: &[CoreEvent], image: &[u8]) -> Result<Account, AllocError>
         ensures { IfOk result (IsAccount events.now (sector_of image.now)
             (length image.now / 512)) }
@@ -56,7 +58,7 @@ impl Account {
         lowest_failing(&self.held, &self.last, first, image)
     }
 
-    /// Returns the index of the end of the request that was submitted at index `id`, if it ended.
+    /// Returns the index at which the request `id` ended, if it ended.
     pub fn end(&self, id: usize) -> Option<usize>
         ensures { result ≡ place_at self.now.ends.items id }
     {
@@ -70,7 +72,8 @@ impl Account {
         end_at(&self.last, sector)
     }
 
-    /// Returns the last submitted request whose value the sector has and could still hold, if any.
+    /// Returns the last submitted request whose value the sector has, and which isn't replaced
+    /// there, if any.
     pub fn held_from(&self, sector: usize) -> Option<usize>
         ensures { result ≡ place_at self.now.held.items sector }
     {
@@ -78,7 +81,7 @@ impl Account {
     }
 }
 
-// Returns whether a sector of the image has its first value.
+// Returns whether the image has the value of `first` in the sector.
 #[tactic(auto, using(crate::proofs::Values::zero_sector))]
 fn has_first(first: First, image: &[u8], sector: usize) -> bool
     requires within { sector < length image.now / 512 }
@@ -93,7 +96,8 @@ fn has_first(first: First, image: &[u8], sector: usize) -> bool
     }
 }
 
-// Returns whether the sector has its first value, and no durable request covers it.
+// Returns whether the image has the value of `first` in the sector, and no durable request covers
+// the sector.
 fn is_at_first(last: &[Option<usize>], first: First, image: &[u8], sector: usize) -> bool
     requires within { sector < length image.now / 512 }
     requires same { IsFirstOf (length image.now) first }
@@ -103,9 +107,8 @@ fn is_at_first(last: &[Option<usize>], first: First, image: &[u8], sector: usize
     end_at(last, sector).is_none() && has_first(first, image, sector)
 }
 
-// Returns whether the sector has the value of a request in `held`, or has its first value and no
-// durable request covers it.
-fn is_fine(
+// Returns whether `held` has a request for the sector, or the sector passes `is_at_first`.
+fn could_hold_value(
     held: &[Option<usize>],
     last: &[Option<usize>],
     first: First,
@@ -114,7 +117,7 @@ fn is_fine(
 ) -> bool
     requires within { sector < length image.now / 512 }
     requires same { IsFirstOf (length image.now) first }
-    ensures { result ≡ is_fine held.now last.now (first_on first.entry (length image.now))
+    ensures { result ≡ could_hold_value held.now last.now (first_on first.entry (length image.now))
         (sector_of image.now) sector }
 {
     end_at(held, sector).is_some() || is_at_first(last, first, image, sector)
@@ -130,7 +133,7 @@ fn last_over(last: &[Option<usize>], sector: usize) -> Option<Id>
     }
 }
 
-// Returns no with the lowest sector that isn't fine, or yes if all sectors are fine.
+// Returns `Yes` if all sectors pass `could_hold_value`, or else `No` with the lowest sector that doesn't.
 fn lowest_failing(
     held: &[Option<usize>],
     last: &[Option<usize>],
@@ -142,7 +145,7 @@ fn lowest_failing(
         (sector_of image.now) (length image.now / 512) result }
 {
     for sector in 0..image.len() / SECTOR {
-        if !is_fine(held, last, first, image, sector) {
+        if !could_hold_value(held, last, first, image, sector) {
             return Verdict::No {
                 sector: sector as u64,
                 by: last_over(last, sector),

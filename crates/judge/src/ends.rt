@@ -1,5 +1,5 @@
-//! Finds the end of each request of an event list, in one pass. Tests whether a request succeeded,
-//! and whether it ended before another. `Account::of` begins with this pass.
+//! Finds the end of each request of an event list, in one pass; `Account::of` begins with it. Tests
+//! whether a request succeeded, and whether it ended before another was submitted.
 ghost use Rattle.std.specs.Prelude.{◌≡◌, ◌==◌, ◌&&◌, ◌≤◌, IfOk, Some, length, nat_lt, ℕ};
 ghost use Rattle.bio.specs.Events.{is_end_of};
 ghost use Rattle.bio.specs.Possible.{ended_ok, is_success};
@@ -10,7 +10,8 @@ ghost use Rattle.judge.specs.inside.Last.{AreEnds, is_below_last};
 use bio::CoreEvent;
 use std::alloc::{AllocError, Global};
 
-/// Returns, for each index of a submission, the index of the request's end.
+/// Returns a list that has, at the index of each request's submission, the index of the request's
+/// end.
 pub fn ends_of(alloc: Global, events: &[CoreEvent]) -> Result<Vec<Option<usize>>, AllocError>
     ensures { IfOk result (λ ends. AreEnds events.now (length events.now) ends.items) }
 {
@@ -21,7 +22,7 @@ pub fn ends_of(alloc: Global, events: &[CoreEvent]) -> Result<Vec<Option<usize>>
     Ok(ends)
 }
 
-// Records the index `place` of the event, if the event ends a request.
+// If the event, at index `place`, ends a request, records `place` as the request's end.
 fn note_event(ends: &mut Vec<Option<usize>>, event: &CoreEvent, place: usize)
     requires { place ≤ length ends.old.items }
     ensures size { length ends.new.items ≡ length ends.old.items }
@@ -34,7 +35,8 @@ fn note_event(ends: &mut Vec<Option<usize>>, event: &CoreEvent, place: usize)
     }
 }
 
-// Records the end of a request at index `place`, if it is the first end after the submission.
+// Records `place` as the end of the request `id`, if it is the request's first end after its
+// submission.
 fn note_end(ends: &mut Vec<Option<usize>>, id: u64, place: usize)
     requires { place ≤ length ends.old.items }
     ensures size { length ends.new.items ≡ length ends.old.items }

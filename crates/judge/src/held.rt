@@ -1,12 +1,12 @@
-//! Finds, for each sector of an image, the last submitted request whose value it has and could
-//! still hold. `Account::of` ends with this pass.
+//! Finds, for each sector of an image, the last submitted request whose value the sector has, and
+//! which no durable request replaced there. `Account::of` ends with this pass.
 ghost use Rattle.std.specs.Prelude.{◌≡◌, ◌&&◌, ◌<◌, ◌≤◌, ◌⊎◌, ◌+◌, ◌*◌, ◌/◌, IfOk};
 ghost use Rattle.std.specs.Prelude.{MatchOption, Option, Some, if◌then◌else◌, length};
 ghost use Rattle.std.specs.Prelude.{ℕ};
 ghost use Rattle.bio.specs.declared.event.CoreEvent.TheVariants.{Submit};
 ghost use Rattle.bio.specs.Possible.{values_at, values_of};
 ghost use Rattle.bio.specs.Content.{discards, sector_of, writes};
-ghost use Rattle.judge.specs.inside.Accounts.{AreFit, AreHeld, is_fit};
+ghost use Rattle.judge.specs.inside.Accounts.{AreFit, AreHeld, has_value_of};
 ghost use Rattle.judge.specs.inside.Last.{AreEnds, AreLastKept};
 ghost use Rattle.judge.specs.Accounts.{is_value, place_at};
 
@@ -28,7 +28,8 @@ pub fn sector_bytes(image: &[u8], sector: usize) -> &[u8]
     &image[from..from + SECTOR]
 }
 
-/// Returns the index of a sector among the `count` sectors from `first` on; none if it isn't there.
+/// Returns the index of a sector among the `count` sectors from `first` on; none if it isn't one of
+/// them.
 pub fn place_in(first: u64, count: u64, sector: usize) -> Option<usize>
     ensures { MatchOption result ((sector < first) ⊎ (first + count ≤ sector))
         (λ place. (sector ≡ first + place) × (place < count)) }
@@ -83,8 +84,9 @@ fn has_value(event: &CoreEvent, sector: usize, value: &[u8]) -> bool
     }
 }
 
-// Returns whether the sector has the value of the event's request, and could still hold it. `end`
-// is the index of the request's end. `last` has the last durable request over each sector.
+// Returns whether the sector has the value of the event's request, and that request didn't end
+// before the sector's entry in `last`. `end` is the index of the end. `last` has the last durable
+// request over each sector.
 fn fits(
     event: &CoreEvent,
     end: Option<usize>,
@@ -93,7 +95,7 @@ fn fits(
     sector: usize,
 ) -> bool
     requires { sector < length image.now / 512 }
-    ensures { result ≡ is_fit (Some event.now) end last.now (sector_of image.now) sector }
+    ensures { result ≡ has_value_of (Some event.now) end last.now (sector_of image.now) sector }
 {
     !is_before(end, end_at(last, sector)) && has_value(event, sector, sector_bytes(image, sector))
 }
@@ -135,15 +137,15 @@ fn hold_values(
     requires image { length held.old.items ≤ length image.now / 512 }
     ensures size { length held.new.items ≡ length held.old.items }
     ensures held { (sector : ℕ) → sector < length held.old.items → place_at held.new.items sector
-        ≡ (if is_fit (Some event.now) end last.now
+        ≡ (if has_value_of (Some event.now) end last.now
         (sector_of image.now) sector then Some place else place_at held.old.items sector) }
 {
     let range = covered(event, held.len());
     hold_range(held, place, event, end, last, image, range);
 }
 
-/// Returns, for each sector of the image, the last submitted request whose value it has and could
-/// still hold.
+/// Returns, for each sector of the image, the last submitted request whose value the sector has,
+/// and which isn't replaced there.
 pub fn held_values(
     alloc: Global,
     events: &[CoreEvent],

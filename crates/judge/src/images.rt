@@ -13,9 +13,9 @@ use std::alloc::{AllocError, Global};
 use std::cmp;
 
 /// Judges whether a device could have held the image, had power failed after the first `moment`
-/// events. `first` is the content before the first event. `events` is a list that a recorder of the
-/// device may have recorded (`is_lawful`). A `moment` past the last event counts as all of them.
-/// The image has the device's length in bytes, whole sectors of 512.
+/// events. `first` is the content before the first event. A recorder of the device may have
+/// recorded `events` (`is_lawful`). If `moment` is past the last event, it means all events. The
+/// image has the device's length in bytes, whole sectors of 512.
 ///
 /// A sector could hold its first value if no durable request covers it. It could hold the value of
 /// a submitted request, unless that request ended before a durable request over the sector was
@@ -23,7 +23,7 @@ use std::cmp;
 /// submission of a flush that ended with success.
 ///
 /// Takes 32 bytes of memory for each sector and 16 for each event. Takes time proportional to the
-/// sum of the sectors that the requests cover. Lack of memory is the only error.
+/// number of sectors of all requests together. Lack of memory is the only error.
 pub fn could_hold(
     alloc: Global,
     events: &[CoreEvent],

@@ -1,5 +1,5 @@
 //! Finds, for each sector, the durable request over it that was submitted last. This request rules
-//! out older values.
+//! out the values of requests that ended before its submission, and the first value.
 ghost use Rattle.std.specs.Prelude.{◌≡◌, ◌&&◌, ◌<◌, ◌≤◌, IfOk, Some, false, true, length};
 ghost use Rattle.std.specs.Prelude.{slice_get, ℕ};
 ghost use Rattle.bio.specs.declared.event.CoreEvent.TheVariants.{Submit};
@@ -44,8 +44,8 @@ fn is_durable(
     ended_ok(events, ends, place) && (event.submits_fua() || is_before(end_at(ends, place), flush))
 }
 
-/// Returns the range of the sectors that the event puts a value in, among the first `sectors`: the
-/// first of them, and the one after the last.
+/// Returns the range of sectors, among the first `sectors`, in which the event puts a value: its
+/// first sector, and the sector after its last.
 pub fn covered(event: &CoreEvent, sectors: usize) -> (usize, usize)
     ensures { AreCovered (Some event.now) sectors result.0 result.1 }
 {
@@ -55,7 +55,7 @@ pub fn covered(event: &CoreEvent, sectors: usize) -> (usize, usize)
     }
 }
 
-// As above, for a request.
+// Returns the range of sectors, among the first `sectors`, in which the request puts a value.
 fn covered_by(bio: &Bio, sectors: usize) -> (usize, usize)
     ensures { AreCovered (Some (Submit bio.now)) sectors result.0 result.1 }
 {

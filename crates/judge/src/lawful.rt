@@ -104,7 +104,7 @@ fn is_open_at(events: &[CoreEvent], id: usize) -> bool
     }
 }
 
-// Returns whether no end of the request is among the events.
+// Returns whether no event after index `id` ends the request `id`.
 fn has_no_end(events: &[CoreEvent], id: usize) -> bool
     requires { id < length events.now }
     ensures { result ≡ is_none (end_of events.now id) }

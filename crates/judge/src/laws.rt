@@ -11,6 +11,7 @@ ghost use Rattle.judge.specs.Latest.{IsLastFlush};
 ghost use Rattle.judge.specs.Verdicts.{IsLastKept, IsVerdict};
 
 /// An image has only one verdict. It isn't both yes and no, and two verdicts are equal.
+#[tactic(auto, using(crate::proofs::Verdicts::one_verdict))]
 pub fn verdicts_differ()
     ensures apart { (sectors : ℕ) (events : List CoreEvent) (first now : Content) (sector : ℕ)
         (by : Option ℕ) →
@@ -24,6 +25,7 @@ pub fn verdicts_differ()
 
 /// Let `flush` be the last submitted flush that ended with success. A request is durable exactly if
 /// it ended with success, and has FUA or ended before the submission of `flush`.
+#[tactic(auto, using(crate::proofs::Verdicts::durable_by_last))]
 pub fn the_last_flush_decides()
     ensures { (events : List CoreEvent) (flush id : ℕ) → IsLastFlush events flush
         → is_durable events id
@@ -31,8 +33,9 @@ pub fn the_last_flush_decides()
         (submits has_fua (slice_get events id) || is_before events id flush)) }
 {}
 
-/// If `last` is the last submitted durable request over a sector, a request is replaced there
+/// Let `last` be the last submitted durable request over a sector. A request is replaced there
 /// exactly if it ended before the submission of `last`.
+#[tactic(auto, using(crate::proofs::Verdicts::replaced_by_last))]
 pub fn the_last_durable_request_decides()
     ensures { (events : List CoreEvent) (sector last id : ℕ) → IsLastKept events sector last →
         is_replaced events sector id ≡ is_before events id last }

@@ -2,9 +2,9 @@
 //!
 //! In each sector, a device may hold any value that flush, FUA and completion allow (`Possible` in
 //! `bio`). `could_hold` returns whether an image has only such values. If not, it returns the
-//! lowest sector that has another value, and what rules this value out (`specs/Verdicts`). It finds
-//! this in an `Account` of the events and the image. `is_lawful` returns whether a recorder may
-//! have recorded a list of events.
+//! lowest sector that has another value, and the request that rules this value out, if any
+//! (`specs/Verdicts`). To decide, `could_hold` makes an `Account` of the events and the image.
+//! `is_lawful` returns whether a recorder may have recorded a list of events.
 #![tactic(auto)]
 
 pub use accounts::Account;

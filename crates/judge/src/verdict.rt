@@ -32,7 +32,7 @@ impl fmt::Display for Verdict {
     }
 }
 
-// Why a sector fails.
+// The text of a `No` after the sector: the request `by`, or that there is none.
 #[derive(Clone, Copy)]
 struct Reason(Option<Id>);
 

@@ -7,9 +7,8 @@ use Rattle.blockdev.specs.View.{View}
 use Rattle.fault_layers.specs.declared.gate.Verdict.TheVariants.{Drop}
 use Rattle.bio.specs.Content.{Content}
 use Rattle.layer_table.specs.declared.layer_spec.LayerSpec.{LayerSpec}
-use Rattle.layer_table.specs.declared.layer_spec.Target.{Target}
-use Rattle.layer_table.specs.declared.layer_spec.Target.TheVariants as targets
-use Rattle.layer_table.specs.declared.any_gate.AnyGate.TheVariants.{Open}
+use Rattle.fault_layers.specs.declared.target.Target.{Target}
+use Rattle.fault_layers.specs.declared.target.Target.TheVariants as targets
 use Rattle.layer_table.specs.Layers.{AreOver, Deciding, Decides, IsPartOf, IsPut, IsSeenAs, Layer}
 
 -- content of one value in each sector
@@ -118,7 +117,13 @@ part_within is = let fits = is.within in omega arith
 -- a layer that failed so often, and dropped so many calls
 layer : ℕ → ℕ → Layer
 layer faults lies =
-    record { offset = 0; length = 8; rule = Deciding Open; faults = faults; lies = lies }
+    record {
+      offset = 0;
+      length = 8;
+      rule = Deciding (record { target = targets.Linear; load = 0 });
+      faults = faults;
+      lies = lies;
+    }
 
 drop_below : Decides Drop (λ begun. Unit {0}) ⊥ Flushes 5 (Ok 5) (layer 0 0) (layer 0 1) → ⊥
 drop_below told = (told.drops refl).3

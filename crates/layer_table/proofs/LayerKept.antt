@@ -13,7 +13,7 @@ use Rattle.layer_table.specs.declared.layer_spec.LayerSpec.{LayerSpec}
 use Rattle.layer_table.specs.declared.slot.Slot.{Slot}
 use Rattle.layer_table.specs.declared.slot.Slot.TheVariants as slots
 use Rattle.layer_table.specs.declared.stack.Stack.{Stack}
-use Rattle.layer_table.specs.Layers.{layers_with, FollowsLater, IsPut, Layer}
+use Rattle.layer_table.specs.Layers.{layers_with, IsPut, Layer}
 use Rattle.layer_table.specs.SlotMessages.{AnswersBelow, AnswersItself, IsNoMessage}
 use Rattle.layer_table.specs.StackMessages.{StackAnswers}
 use Rattle.layer_table.specs.ThreeLevel.{three_answers}
@@ -75,9 +75,3 @@ put-crash spec v w put = put.crash
 put-since : (spec : LayerSpec) (v w : View) → IsPut spec v w → (moment : ℕ) (left : Content)
     → w.since moment left ↔ SeenFrom spec.offset (v.since moment) left
 put-since spec v w put = put.since
-
--- a call that was begun later doesn't end before that
-ends-later : (begun : ℕ) (layer : Layer) (layers : List Layer) (old : SectorDisk) (call : Call)
-    (end : ℕ) (after : List Layer) (new : SectorDisk)
-    → FollowsLater begun layer layers old call (Ok end) after new → begun ≤ end
-ends-later begun layer layers old call end after new is = is.ends end refl

@@ -5,16 +5,16 @@ use Rattle.std.specs.Prelude.{codes, decimal}
 use Rattle.refusals.specs.Words.{words_of}
 use Rattle.fault_layers.specs.declared.feature.Feature.TheVariants as features
 use Rattle.layer_table.specs.declared.layer_spec.LayerSpec.{LayerSpec}
-use Rattle.layer_table.specs.declared.layer_spec.Target.{Target}
-use Rattle.layer_table.specs.declared.layer_spec.Target.TheVariants as targets
+use Rattle.fault_layers.specs.declared.target.Target.{Target}
+use Rattle.fault_layers.specs.declared.target.Target.TheVariants as targets
 use Rattle.layer_table.specs.declared.table_error.TableError.{TableError}
 use Rattle.layer_table.specs.declared.table_error.TableError.TheVariants.{BadFeature, BadNumber}
 use Rattle.layer_table.specs.declared.table_error.TableError.TheVariants.{OutOfRange, UnknownTarget}
 use Rattle.layer_table.specs.declared.table_error.TableError.TheVariants.{WrongCount}
 use Rattle.dust_layer.specs.Sizes.{IsBlockSize}
-use Rattle.fault_layers.specs.Features.{IsCycle}
+use Rattle.fault_layers.specs.Verdicts.{IsCycle}
 use Rattle.layer_table.specs.Ranges.{IsLayerSpec}
-use Rattle.layer_table.specs.LayerOrder.{drops_writes, top_origin, top_sectors, IsAllowed}
+use Rattle.layer_table.specs.LayerOrder.{top_origin, top_sectors, IsAllowed}
 use Rattle.layer_table.specs.TableLines.{line_answer}
 use Rattle.layer_table.specs.Texts.{line_text}
 
@@ -218,19 +218,3 @@ not-on-three stand = let within = stand.2.1 in omega arith
 each-is-asked : (sectors : ℕ) (layer : LayerSpec) (layers : List LayerSpec)
     → IsAllowed sectors (layer ∷ layers) → IsLayerSpec layer
 each-is-asked sectors layer layers stand = stand.0
-
--- ---- which layers may drop writes: a flakey one with that feature, and no other
-
-flakey-drops : drops_writes (targets.Flakey 0 1 features.DropWrites) ≡ true
-flakey-drops = refl
-
-flakey-errs : drops_writes (targets.Flakey 0 1 features.ErrorWrites)
-    || (drops_writes (targets.Flakey 0 1 features.ErrorReads)
-    || drops_writes (targets.Flakey 0 1 features.None)) ≡ false
-flakey-errs = refl
-
-others-pass : drops_writes targets.Linear
-    || (drops_writes targets.Error
-    || (drops_writes (targets.Fuse 0)
-    || (drops_writes (targets.Dust 512) || drops_writes (targets.Delay 1 2 3)))) ≡ false
-others-pass = refl

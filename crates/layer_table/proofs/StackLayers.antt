@@ -8,8 +8,9 @@ use Rattle.std.specs.Prelude.{◌⊎◌, ◌||◌, Err, IfErr, IsErrAnd, Ok, Res
 use Rattle.std.specs.List.{AllByRecursion}
 use Rattle.blockdev.specs.View.{Place}
 use Rattle.layer_table.specs.declared.layer_spec.LayerSpec.{LayerSpec}
+use Rattle.fault_layers.specs.Verdicts.{drops_writes}
 use Rattle.layer_table.specs.Ranges.{IsLayerSpec}
-use Rattle.layer_table.specs.LayerOrder.{drops_writes, some_drops, top_origin, top_sectors}
+use Rattle.layer_table.specs.LayerOrder.{some_drops, top_origin, top_sectors}
 use Rattle.layer_table.specs.LayerOrder.{IsAllowed}
 use Rattle.layer_table.specs.declared.stack.Stack.{Stack}
 use Rattle.layer_table.specs.Layers.{disk_of, layer_asked, layers_of, layers_under, stack_shown}

@@ -17,7 +17,7 @@ use Rattle.fault_layers.specs.Decision.{kind_of}
 use Rattle.sector_disk.specs.declared.disk.SectorDisk.{SectorDisk}
 use Rattle.layer_table.specs.declared.slot.Slot.{Slot}
 use Rattle.layer_table.specs.declared.slot.Slot.TheVariants as slots
-use Rattle.layer_table.specs.AnyRule.{any_may_drop, any_verdict}
+use Rattle.fault_layers.specs.Verdicts.{drops_writes, verdict_of}
 use Rattle.layer_table.specs.Layers.{layers_over, layers_with, shifted, Deciding, Dusting, Layer}
 use Rattle.layer_table.specs.Layers.{LayersDo, CountedLayersDo, Under}
 use Rattle.layer_table.specs.Slots.{device_of, has_layer, slot_does, slot_shown, IsShifted}
@@ -33,7 +33,7 @@ pub shown_with : {D : Type 0} {g : Ghosts D} (layers : D → List Layer) (base :
 shown_with {D} {g} layers base same (slots.Bare device) = same device
 shown_with {D} {g} layers base same (slots.Decided layer) =
     ap (λ (v : View). counted (window v layer.lower.offset layer.lower.length) layer.faults
-    layer.lies (any_may_drop layer.gate)) (same layer.lower.lower)
+    layer.lies (drops_writes layer.gate.target)) (same layer.lower.lower)
 shown_with {D} {g} layers base same (slots.Dusted layer) =
     ap (λ (v : View). counted (window v layer.lower.offset layer.lower.length) layer.faults 0 false)
     (same layer.lower.lower)
@@ -73,7 +73,7 @@ does_with {D} {g} layers disk kept below (slots.Decided layer) call now result (
     does = absurd does
 does_with {D} {g} layers disk kept below (slots.Decided layer) call now result
     (slots.Decided after) does =
-    let verdict = any_verdict layer.gate (kind_of call) now in (
+    let verdict = verdict_of layer.gate (kind_of call) now in (
       (
         record {
           passes = λ is.

@@ -1,10 +1,8 @@
 -- Layers over a device, each over the one before it, from the lowest up.
-use Rattle.std.specs.Prelude.{ℕ, ◌+◌, ◌≤◌, Bool, false, List, [], ◌∷◌}
+use Rattle.std.specs.Prelude.{ℕ, ◌+◌, ◌≤◌, Bool, List, [], ◌∷◌}
 use Rattle.std.specs.List.{list_any}
 use Rattle.layer_table.specs.declared.layer_spec.LayerSpec.{LayerSpec}
-use Rattle.layer_table.specs.declared.layer_spec.Target.{Target}
-use Rattle.layer_table.specs.declared.layer_spec.Target.TheVariants as targets
-use Rattle.fault_layers.specs.Features.{is_drop_writes}
+use Rattle.fault_layers.specs.Verdicts.{drops_writes}
 use Rattle.layer_table.specs.Ranges.{IsLayerSpec}
 
 -- the sectors of the top of these layers, over a device of `sectors` sectors
@@ -25,15 +23,6 @@ IsAllowed sectors [] = Unit {0}
 IsAllowed sectors (layer ∷ layers) =
     IsLayerSpec layer × (layer.offset + layer.length ≤ sectors) × IsAllowed layer.length layers
 
--- whether the layer may report writes as done, and drop them
-abbrev pub drops_writes : Target → Bool
-drops_writes targets.Linear = false
-drops_writes targets.Error = false
-drops_writes (targets.Flakey up down feature) = is_drop_writes feature
-drops_writes (targets.Fuse calls) = false
-drops_writes (targets.Dust bytes) = false
-drops_writes (targets.Delay read write flush) = false
-
--- whether one of the layers may
+-- whether one of the layers may report writes as done, and drop them
 abbrev pub some_drops : List LayerSpec → Bool
 some_drops = list_any (λ layer. drops_writes layer.target)

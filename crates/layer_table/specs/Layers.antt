@@ -20,25 +20,23 @@ use Rattle.fault_layers.specs.Decision.{kind_of, KeepsBuffer}
 use Rattle.sector_disk.specs.declared.disk.SectorDisk.{SectorDisk}
 use Rattle.sector_disk.specs.DiskView.{Does}
 use Rattle.layer_table.specs.declared.layer_spec.LayerSpec.{LayerSpec}
-use Rattle.layer_table.specs.LayerOrder.{drops_writes, some_drops, top_origin, top_sectors}
-use Rattle.layer_table.specs.declared.layer_spec.Target.{Target}
-use Rattle.layer_table.specs.declared.layer_spec.Target.TheVariants as targets
-use Rattle.layer_table.specs.declared.any_gate.AnyGate.{AnyGate}
-use Rattle.layer_table.specs.declared.any_gate.AnyGate.TheVariants as gates
+use Rattle.fault_layers.specs.Verdicts.{drops_writes, loaded_after, verdict_of, Loaded}
+use Rattle.layer_table.specs.LayerOrder.{some_drops, top_origin, top_sectors}
+use Rattle.fault_layers.specs.declared.target.Target.{Target}
+use Rattle.fault_layers.specs.declared.target.Target.TheVariants as targets
 use Rattle.layer_table.specs.declared.levels.one.One.{One}
 use Rattle.layer_table.specs.declared.levels.three.Three.{Three}
 use Rattle.layer_table.specs.declared.levels.two.Two.{Two}
 use Rattle.layer_table.specs.declared.slot.Slot.{Slot}
 use Rattle.layer_table.specs.declared.slot.Slot.TheVariants as slots
 use Rattle.layer_table.specs.declared.stack.Stack.{Stack}
-use Rattle.layer_table.specs.AnyRule.{any_after, any_may_drop, any_verdict}
 use Rattle.layer_table.specs.Levels.{disk_three}
 use Rattle.layer_table.specs.Slots.{device_of, slot_does, slot_shown}
 
 -- The rule of a layer for its calls: a gate decides about them, or they go block by block over a
 -- list of bad blocks, each of `block` sectors.
 pub data Rule : Type 0 where
-  Deciding : (gate : AnyGate) → Rule
+  Deciding : (gate : Loaded) → Rule
   Dusting : (block : ℕ) (bad : Bad) (mode : Mode) → Rule
 
 -- A layer: its range of the device below, its rule, and how often it failed a call, and dropped
@@ -87,22 +85,11 @@ layers_of stack = layers_with layers_three stack.top
 abbrev pub disk_of : Stack → SectorDisk
 disk_of stack = disk_three (device_of stack.top)
 
--- the gate of a target: that of a linear one is open, and so is that of one with bad blocks, which
--- goes block by block; a flakey device's times count from its load
-abbrev pub gate_asked : Target → ℕ → AnyGate
-gate_asked targets.Linear load = gates.Open
-gate_asked targets.Error load = gates.Error (record {})
-gate_asked (targets.Flakey up down feature) load =
-    gates.Flakey (record { up = up; down = down; feature = feature; load = load })
-gate_asked (targets.Fuse calls) load = gates.Fuse calls
-gate_asked (targets.Dust bytes) load = gates.Open
-gate_asked (targets.Delay read write flush) load =
-    gates.Delay (record { read = read; write = write; flush = flush })
-
--- the rule of a target; blocks are sectors of 512 bytes, none is bad at first, and calls pass
+-- the rule of a target, loaded at this time; blocks are sectors of 512 bytes, none is bad at first,
+-- and calls pass
 abbrev pub rule_asked : Target → ℕ → Rule
 rule_asked (targets.Dust bytes) load = Dusting (bytes / 512) (λ block. None) Bypass
-rule_asked target load = Deciding (gate_asked target load)
+rule_asked target load = Deciding (record { target = target; load = load })
 
 -- the layer that a line asks for
 abbrev pub layer_asked : LayerSpec → ℕ → Layer
@@ -132,7 +119,7 @@ abbrev pub layer_over : Rule → Layer → View → View
 layer_over (Dusting block bad mode) layer v =
     counted (window v layer.offset layer.length) layer.faults 0 false
 layer_over (Deciding gate) layer v =
-    counted (window v layer.offset layer.length) layer.faults layer.lies (any_may_drop gate)
+    counted (window v layer.offset layer.length) layer.faults layer.lies (drops_writes gate.target)
 
 -- the view of layers over one with view v
 abbrev pub layers_over : List Layer → View → View
@@ -261,10 +248,10 @@ pub record Dusts (does : Under → Call → ℕ → Result ℕ DevError → Unde
 abbrev pub DoesAt : (Under → Call → ℕ → Result ℕ DevError → Under → Type 0) → Rule → Under → Call
     → ℕ → Result ℕ DevError → Under → Layer → Layer → Type 0
 DoesAt does (Deciding gate) old call now result new layer after =
-    Decides (any_verdict gate (kind_of call) now)
+    Decides (verdict_of gate (kind_of call) now)
     (λ begun. shifted does layer.offset old call begun result new)
     (new ≡ old) call now result layer after
-    × (after.rule ≡ Deciding (any_after gate (kind_of call) now))
+    × (after.rule ≡ Deciding (loaded_after gate (kind_of call) now))
 DoesAt does (Dusting block bad mode) old call now result new layer after =
     Dusts (shifted does layer.offset) block bad mode old call now result new layer after
 
@@ -314,17 +301,6 @@ pub record Follows (verdict : Verdict) (next : Layer) (layers : List Layer) (old
   pub drops : verdict ≡ Drop
       → (result ≡ Ok now) × (after ≡ record next { lies = one_more next.lies } ∷ layers)
       × (new ≡ old)
-
--- The effect of a call at the top of layers that begins it later: the layers below did it at that
--- time, and the top stays.
-pub record FollowsLater (begun : ℕ) (layer : Layer) (layers : List Layer) (old : SectorDisk)
-    (call : Call) (result : Result ℕ DevError)
-    (after : List Layer) (new : SectorDisk) : Type 0 where
-  pub others : List Layer
-  pub stays : after ≡ layer ∷ others
-  pub below : LayersDo layers old (call_from layer.offset call) begun result others new
-  -- an Ok ends at that time or later
-  pub ends : (end : ℕ) → result ≡ Ok end → begun ≤ end
 
 -- The effect of a call at the top of layers that goes block by block: only the list and the count
 -- of faults change at the top, and the calls below are shifted by its offset.

@@ -13,17 +13,17 @@ use Rattle.refusals.specs.SplitLaws.{number_word, words_of_joined}
 use Rattle.fault_layers.specs.declared.feature.Feature.{Feature}
 use Rattle.fault_layers.specs.declared.feature.Feature.TheVariants as features
 use Rattle.layer_table.specs.declared.layer_spec.LayerSpec.{LayerSpec}
-use Rattle.layer_table.specs.declared.layer_spec.Target.{Target}
-use Rattle.layer_table.specs.declared.layer_spec.Target.TheVariants as targets
-use Rattle.layer_table.specs.declared.name.Name.{Name}
-use Rattle.layer_table.specs.declared.name.Name.TheVariants as names
+use Rattle.fault_layers.specs.declared.target.Target.{Target}
+use Rattle.fault_layers.specs.declared.target.Target.TheVariants as targets
+use Rattle.layer_table.specs.declared.parsing.Name.{Name}
+use Rattle.layer_table.specs.declared.parsing.Name.TheVariants as names
 use Rattle.layer_table.specs.declared.table_error.TableError.{TableError}
 use Rattle.layer_table.specs.declared.table_error.TableError.TheVariants as errors
-use Rattle.layer_table.specs.Ranges.{are_delays, is_in_range, is_length, is_target, AreDelays, IsLayerSpec}
-use Rattle.layer_table.specs.Ranges.{IsLength, IsTargetInRange}
+use Rattle.layer_table.specs.Ranges.{are_delays, is_in_range, is_length, is_target, AreDelays}
+use Rattle.layer_table.specs.Ranges.{IsLayerSpec, IsLength, IsTargetInRange}
 use Rattle.layer_table.specs.TableLines.{delay_in, feature_in, line_answer, named, offset_in, row}
-use Rattle.layer_table.specs.TableLines.{◌>>=◌, has_count, has_numbers, has_ranges, if_holds, layer_of}
-use Rattle.layer_table.specs.TableLines.{value_in, word_in}
+use Rattle.layer_table.specs.TableLines.{◌>>=◌, has_count, has_numbers, has_ranges, if_holds}
+use Rattle.layer_table.specs.TableLines.{layer_of, value_in, word_in}
 use Rattle.layer_table.specs.Texts.{behind_spaces, feature_words, line_text, line_words, set_words}
 use Rattle.layer_table.specs.Texts.{target_words}
 

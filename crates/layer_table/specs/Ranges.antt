@@ -2,10 +2,10 @@
 use Rattle.std.specs.Prelude.{ℕ, ◌+◌, ◌<◌, ◌≤◌, ◌^◌, ◌≡◌, Bool, true, ◌&&◌, nat_le}
 use Rattle.std.specs.Int.{is_power_of_two}
 use Rattle.dust_layer.specs.Sizes.{IsBlockSize}
-use Rattle.fault_layers.specs.Features.{IsCycle}
+use Rattle.fault_layers.specs.Verdicts.{HasCycle, IsCycle}
 use Rattle.layer_table.specs.declared.layer_spec.LayerSpec.{LayerSpec}
-use Rattle.layer_table.specs.declared.layer_spec.Target.{Target}
-use Rattle.layer_table.specs.declared.layer_spec.Target.TheVariants as targets
+use Rattle.fault_layers.specs.declared.target.Target.{Target}
+use Rattle.fault_layers.specs.declared.target.Target.TheVariants as targets
 
 -- how much later a delay device's calls begin, in milliseconds, each within 32 bits
 pub record AreDelays (read write flush : ℕ) : Type 0 where
@@ -57,3 +57,12 @@ is_length length = nat_le 1 length && nat_le length 1048576
 
 abbrev pub is_in_range : LayerSpec → Bool
 is_in_range spec = is_length spec.length && is_target spec.target
+
+-- so a gate can have such a target
+pub has_cycle : (offset : ℕ) (target : Target) → IsTargetInRange offset target → HasCycle target
+has_cycle offset targets.Linear has = tt
+has_cycle offset targets.Error has = tt
+has_cycle offset (targets.Flakey up down feature) has = has
+has_cycle offset (targets.Fuse calls) has = tt
+has_cycle offset (targets.Dust bytes) has = tt
+has_cycle offset (targets.Delay read write flush) has = tt

@@ -16,10 +16,9 @@ use Rattle.fault_layers.specs.Decision.{kind_of, IsDecided}
 use Rattle.dust_layer.specs.declared.dust.Dust.{Dust}
 use Rattle.dust_layer.specs.CarryLaws.{done_carried}
 use Rattle.dust_layer.specs.DustRule.{held, IsDusted}
-use Rattle.layer_table.specs.declared.any_gate.AnyGate.{AnyGate}
 use Rattle.layer_table.specs.declared.slot.Slot.{Slot}
 use Rattle.layer_table.specs.declared.slot.Slot.TheVariants as slots
-use Rattle.layer_table.specs.AnyRule.{any_may_drop, any_verdict}
+use Rattle.fault_layers.specs.Verdicts.{drops_writes, verdict_of}
 use Rattle.layer_table.specs.Slots.{device_of, has_layer, shape_with, slot_does, slot_shown}
 use Rattle.layer_table.specs.Slots.{IsShifted}
 
@@ -28,7 +27,7 @@ pub slot_lawful : {D : Type 0} {g : Ghosts D} → ((device : D) → IsLawful (g.
 slot_lawful {D} {g} lawful (slots.Bare device) = lawful device
 slot_lawful {D} {g} lawful (slots.Decided layer) =
     lawful_counted (window (g.shown layer.lower.lower) layer.lower.offset layer.lower.length)
-    layer.faults layer.lies (any_may_drop layer.gate)
+    layer.faults layer.lies (drops_writes layer.gate.target)
     (lawful_window (g.shown layer.lower.lower) layer.lower.offset layer.lower.length
     layer.lower.fits (lawful layer.lower.lower))
 slot_lawful {D} {g} lawful (slots.Dusted layer) =
@@ -47,7 +46,8 @@ IsKept {D} {A} g f =
 pub decided_keeps : {D A : Type 0} {g : Ghosts D} (f : Linear D g → A) (verdict : Verdict)
     (below : ℕ → Type 0) (call : Call) (now : ℕ)
     (result : Result ℕ DevError)
-    (layer after : Gated (Linear D g) AnyGate) → IsDecided verdict below call now result layer after
+    (layer after : Gated (Linear D g) (Unit {0}))
+    → IsDecided verdict below call now result layer after
     → ((begun : ℕ) → below begun → f after.lower ≡ f layer.lower) → f after.lower ≡ f layer.lower
 decided_keeps f Pass below call now result layer after is passed = passed now (is.passes refl).0
 decided_keeps f (Delay by) below call now result layer after is passed =
@@ -84,7 +84,7 @@ slot_kept {D} {A} {g} f kept (slots.Decided layer) call now result (slots.Bare a
     absurd does
 slot_kept {D} {A} {g} f kept (slots.Decided layer) call now result (slots.Decided after) does = (
   decided_keeps (λ (range : Linear D g). f range.lower)
-      (any_verdict layer.gate (kind_of call) now) _ call now result layer after does.0
+      (verdict_of layer.gate (kind_of call) now) _ call now result layer after does.0
       (λ begun below. kept layer.lower.lower _ begun result after.lower.lower below.0),
   refl,
 )

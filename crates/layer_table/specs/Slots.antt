@@ -12,7 +12,7 @@ use Rattle.fault_layers.specs.Decision.{IsDecided, kind_of}
 use Rattle.dust_layer.specs.DustRule.{IsDusted}
 use Rattle.layer_table.specs.declared.slot.Slot.{Slot}
 use Rattle.layer_table.specs.declared.slot.Slot.TheVariants as slots
-use Rattle.layer_table.specs.AnyRule.{any_after, any_may_drop, any_verdict}
+use Rattle.fault_layers.specs.Verdicts.{drops_writes, loaded_after, verdict_of}
 
 -- the view of a slot: that of the device below, from a layer's offset on; a layer with a gate has
 -- faults and lies of its own, and one with bad blocks has faults of its own
@@ -23,7 +23,7 @@ slot_shown {D} {g} (slots.Dusted layer) =
     layer.faults 0 false
 slot_shown {D} {g} (slots.Decided layer) =
     counted (window (g.shown layer.lower.lower) layer.lower.offset layer.lower.length)
-    layer.faults layer.lies (any_may_drop layer.gate)
+    layer.faults layer.lies (drops_writes layer.gate.target)
 
 -- a range does the call shifted by its offset on the device below, and stays
 abbrev pub IsShifted : {D : Type 0} {g : Ghosts D} → Linear D g → Call → ℕ → Result ℕ DevError
@@ -38,9 +38,9 @@ abbrev pub slot_does : {D : Type 0} {g : Ghosts D} → Slot D g → Call → ℕ
 slot_does {D} {g} (slots.Bare device) call now result (slots.Bare after) =
     g.does device call now result after
 slot_does {D} {g} (slots.Decided layer) call now result (slots.Decided after) =
-    IsDecided (any_verdict layer.gate (kind_of call) now)
+    IsDecided (verdict_of layer.gate (kind_of call) now)
     (λ begun. IsShifted layer.lower call begun result after.lower) call now result layer after
-    × (after.gate ≡ any_after layer.gate (kind_of call) now)
+    × (after.gate ≡ loaded_after layer.gate (kind_of call) now)
 slot_does {D} {g} (slots.Dusted layer) call now result (slots.Dusted after) =
     IsDusted IsShifted call now result layer after
 slot_does {D} {g} slot call now result after = ⊥

@@ -11,10 +11,10 @@ use Rattle.refusals.specs.Words.{number_of}
 use Rattle.fault_layers.specs.declared.feature.Feature.{Feature}
 use Rattle.fault_layers.specs.declared.feature.Feature.TheVariants as features
 use Rattle.layer_table.specs.declared.layer_spec.LayerSpec.{LayerSpec}
-use Rattle.layer_table.specs.declared.layer_spec.Target.{Target}
-use Rattle.layer_table.specs.declared.layer_spec.Target.TheVariants as targets
-use Rattle.layer_table.specs.declared.name.Name.{Name}
-use Rattle.layer_table.specs.declared.name.Name.TheVariants as names
+use Rattle.fault_layers.specs.declared.target.Target.{Target}
+use Rattle.fault_layers.specs.declared.target.Target.TheVariants as targets
+use Rattle.layer_table.specs.declared.parsing.Name.{Name}
+use Rattle.layer_table.specs.declared.parsing.Name.TheVariants as names
 use Rattle.layer_table.specs.declared.table_error.TableError.{TableError}
 use Rattle.layer_table.specs.declared.table_error.TableError.TheVariants as errors
 use Rattle.layer_table.specs.Ranges.{is_in_range}

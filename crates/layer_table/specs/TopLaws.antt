@@ -1,20 +1,14 @@
 -- The effect of a call at the top of layers, by the rule of the top.
 use Rattle.std.proofs.Common.{◌≡◌, ℕ, List, [], ◌∷◌, length, Result, refl, ap, subst, sym, ◌∙◌}
-use Rattle.bio.specs.Moments.{later_by}
 use Rattle.dust_layer.specs.declared.mode.Mode.{Mode}
 use Rattle.dust_layer.specs.BadBlocks.{Bad}
 use Rattle.bio.specs.declared.outcome.DevError.{DevError}
 use Rattle.blockdev.specs.Calls.{Call}
-use Rattle.fault_layers.specs.declared.gate.Verdict.TheVariants.{Pass}
-use Rattle.fault_layers.specs.declared.delay.DelayGate.{DelayGate}
 use Rattle.fault_layers.specs.Decision.{kind_of}
-use Rattle.fault_layers.specs.DelayRule.{delay_of}
 use Rattle.sector_disk.specs.declared.disk.SectorDisk.{SectorDisk}
-use Rattle.layer_table.specs.declared.any_gate.AnyGate.{AnyGate}
-use Rattle.layer_table.specs.declared.any_gate.AnyGate.TheVariants.{Delay, Open}
-use Rattle.layer_table.specs.AnyRule.{any_after, any_verdict}
+use Rattle.fault_layers.specs.Verdicts.{loaded_after, verdict_of, Loaded}
 use Rattle.layer_table.specs.Layers.{Deciding, DoesAt, Dusting, Follows, FollowsBlocks}
-use Rattle.layer_table.specs.Layers.{FollowsLater, Layer, LayersDo, Rule, CountedLayersDo, Under}
+use Rattle.layer_table.specs.Layers.{Layer, LayersDo, Rule, CountedLayersDo, Under}
 
 -- layers with equal fields are equal
 same_values : (o p l m : ℕ) (g h : Rule) (f e i k : ℕ) → o ≡ p → l ≡ m → g ≡ h → f ≡ e → i ≡ k
@@ -53,12 +47,12 @@ at_top layer layers old call now result top others new rule is does =
 pub gate_top : (layer : Layer) (layers : List Layer) (old : SectorDisk) (call : Call) (now : ℕ)
     (result : Result ℕ DevError) (after : List Layer)
     (new : SectorDisk)
-    (gate : AnyGate) → layer.rule ≡ Deciding gate
+    (gate : Loaded) → layer.rule ≡ Deciding gate
     → LayersDo (layer ∷ layers) old call now result after new
-    → Follows (any_verdict gate (kind_of call) now)
+    → Follows (verdict_of gate (kind_of call) now)
     (record layer {
       rule = Deciding
-          (any_after gate (kind_of call) now);
+          (loaded_after gate (kind_of call) now);
     }) layers old call now result after new
 gate_top layer layers old call now result [] new gate is does = absurd does
 gate_top layer layers old call now result (top ∷ others) new gate is does =
@@ -95,46 +89,6 @@ gate_top layer layers old call now result (top ∷ others) new gate is does =
             ap (λ (it : Under). it.disk) did.3,
           );
     }
-
--- if the gate stays, so does the layer
-pub gate_stays : (layer : Layer) (layers : List Layer) (old : SectorDisk) (call : Call) (now : ℕ)
-    (result : Result ℕ DevError) (after : List Layer)
-    (new : SectorDisk)
-    (gate : AnyGate) → layer.rule ≡ Deciding gate → any_after gate (kind_of call) now ≡ gate
-    → LayersDo (layer ∷ layers) old call now result after new
-    → Follows (any_verdict gate (kind_of call) now) layer layers old call now result after new
-gate_stays layer layers old call now result after new gate is stays does =
-    subst (λ (next : Layer). Follows
-    (any_verdict gate (kind_of call) now) next layers old call now result after new)
-    (same_layer (record layer {
-      rule = Deciding
-          (any_after gate (kind_of call) now);
-    }) layer refl refl
-    (ap Deciding stays ∙ sym is) refl refl)
-    (gate_top layer layers old call now result after new gate is does)
-
--- a layer that passes all calls
-pub linear_top : (layer : Layer) (layers : List Layer) (old : SectorDisk) (call : Call) (now : ℕ)
-    (result : Result ℕ DevError) (after : List Layer)
-    (new : SectorDisk)
-    → layer.rule ≡ Deciding Open → LayersDo (layer ∷ layers) old call now result after new
-    → Follows Pass layer layers old call now result after new
-linear_top layer layers old call now result after new is does =
-    gate_stays layer layers old call now result after new Open is refl does
-
--- a layer that begins its calls later
-pub delay_top : (layer : Layer) (layers : List Layer) (old : SectorDisk) (call : Call) (now : ℕ)
-    (result : Result ℕ DevError) (after : List Layer)
-    (new : SectorDisk)
-    (delays : DelayGate) → layer.rule ≡ Deciding (Delay delays)
-    → LayersDo (layer ∷ layers) old call now result after new
-    → FollowsLater (later_by now
-    (delay_of delays (kind_of call))) layer layers old call result after new
-delay_top layer layers old call now result after new delays is does =
-    let done =
-    (gate_stays layer layers old call now result after new
-    (Delay delays) is refl does).delays (delay_of delays (kind_of call)) refl in
-    record { others = done.0; stays = done.1; below = done.2; ends = done.3 }
 
 -- a layer with bad blocks
 pub dust_top : (layer : Layer) (layers : List Layer) (old : SectorDisk) (call : Call) (now : ℕ)

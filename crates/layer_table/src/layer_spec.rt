@@ -5,7 +5,7 @@ ghost use Rattle.layer_table.specs.Ranges.{are_delays, is_block_size, is_cycle};
 ghost use Rattle.layer_table.specs.Ranges.{is_in_range as is_within};
 
 use bio::MAX_DEVICE_SECTORS;
-use fault_layers::Feature;
+use fault_layers::Target;
 
 /// The most seconds that a flakey device is up and down, together.
 const MAX_CYCLE_SECONDS: u64 = 4_294_967_295;
@@ -27,38 +27,6 @@ pub struct LayerSpec {
     pub offset: u64,
     /// What it does.
     pub target: Target,
-}
-
-/// What a layer does.
-#[derive(Clone, Copy, Debug, PartialEq, Eq)]
-pub enum Target {
-    /// It passes every call.
-    Linear,
-    /// It fails every call.
-    Error,
-    /// It works for `up` seconds and is unreliable for `down` seconds, in turn. Together these are
-    /// 1 to 4294967295.
-    Flakey {
-        up: u64,
-        down: u64,
-        feature: Feature,
-    },
-    /// It passes `calls` writes, discards and flushes, and fails each later one. This target is
-    /// dmlw's own.
-    Fuse {
-        calls: u64,
-    },
-    /// It has bad blocks of `block_bytes` bytes each, a power of two from 512 to 1,073,741,824.
-    Dust {
-        block_bytes: u64,
-    },
-    /// Its reads begin `read` milliseconds later, its writes and discards `write`, and its flushes
-    /// `flush`, each at most 4294967295.
-    Delay {
-        read: u64,
-        write: u64,
-        flush: u64,
-    },
 }
 
 // Returns whether a line may ask for these values.

@@ -10,21 +10,18 @@
 //! disk below (`laws`).
 #![tactic(auto)]
 
-pub use any_gate::AnyGate;
-pub use fault_layers::Feature;
-pub use layer_spec::{LayerSpec, Target};
+pub use fault_layers::{Feature, Target};
+pub use layer_spec::LayerSpec;
 pub use parsing::parse_line;
 pub use printing::push_line;
 pub use slot::Slot;
 pub use stack::Stack;
 pub use table_error::TableError;
 
-mod any_gate;
 pub mod laws;
 mod layer_spec;
 mod levels;
 pub mod line_laws;
-mod name;
 mod parsing;
 mod printing;
 mod slot;

@@ -1,17 +1,17 @@
 //! Parses a line of a table: `parse_line` returns its layer, or the error of the first test that it
 //! fails. The parser of scripts calls it for the lines of layers.
-ghost use Rattle.std.specs.Prelude.{◌≡◌, ◌<◌, ◌^◌, IfOk};
-ghost use Rattle.std.specs.List.{list_all};
+ghost use Rattle.std.specs.Prelude.{◌≡◌, ◌<◌, ◌^◌, nat_eq, IfOk};
+ghost use Rattle.std.specs.List.{list_all, list_any};
 ghost use Rattle.refusals.specs.Words.{words_of};
 ghost use Rattle.layer_table.specs.Ranges.{IsLayerSpec};
 ghost use Rattle.layer_table.specs.TableLines.{feature_in, delay_in, feature_named, has_number};
 ghost use Rattle.layer_table.specs.TableLines.{has_one_place, is_same_place, later_delay};
-ghost use Rattle.layer_table.specs.TableLines.{line_answer, offset_in, row, value_in, word_in};
+ghost use Rattle.layer_table.specs.TableLines.{line_answer, named, offset_in, row, value_in};
+ghost use Rattle.layer_table.specs.TableLines.{word_in};
 
-use crate::layer_spec::{LayerSpec, Target, is_in_range};
-use crate::name::Name;
+use crate::layer_spec::{LayerSpec, is_in_range};
 use crate::table_error::TableError;
-use fault_layers::Feature;
+use fault_layers::{Feature, Target};
 use refusals::{count_words, number_of, word_at};
 
 /// Parses a line: returns the layer that its words ask for, or the first error in it. One or more
@@ -172,5 +172,70 @@ fn feature_of(name: &[u8]) -> Option<Feature>
         Some(Feature::DropWrites)
     } else {
         None
+    }
+}
+
+// The name of a target: how many words a line of it may have, and at which places its numbers are.
+// `parse_line` tests these before it parses a value.
+#[derive(Clone, Copy, Debug, PartialEq, Eq)]
+pub(crate) enum Name {
+    Linear,
+    Error,
+    Flakey,
+    Fuse,
+    Dust,
+    Delay,
+}
+
+impl Name {
+    // Returns the name that a word is, if it is one.
+    fn of_word(word: &[u8]) -> Option<Name>
+        ensures { result ≡ named word.now }
+    {
+        if word == b"linear".as_slice() {
+            Some(Name::Linear)
+        } else if word == b"error".as_slice() {
+            Some(Name::Error)
+        } else if word == b"flakey".as_slice() {
+            Some(Name::Flakey)
+        } else if word == b"fuse".as_slice() {
+            Some(Name::Fuse)
+        } else if word == b"dust".as_slice() {
+            Some(Name::Dust)
+        } else if word == b"delay".as_slice() {
+            Some(Name::Delay)
+        } else {
+            None
+        }
+    }
+
+    // Returns whether a line of this target may have `count` words.
+    fn may_have(self, count: usize) -> bool
+        ensures { result ≡ list_any (nat_eq count) (row self).counts }
+    {
+        match self {
+            Name::Linear => count == 5,
+            Name::Error => count == 3,
+            Name::Flakey => (7..=9).contains(&count),
+            Name::Fuse | Name::Dust => count == 6,
+            Name::Delay => count == 6 || count == 9 || count == 12,
+        }
+    }
+
+    // Returns the places of the numbers in a line of this target that has `count` words.
+    fn number_places(self, count: usize) -> &'static [usize]
+        ensures { result.now ≡ (row self).places count }
+    {
+        match self {
+            Name::Linear => &[0, 1, 4],
+            Name::Error => &[0, 1],
+            Name::Flakey => &[0, 1, 4, 5, 6],
+            Name::Fuse | Name::Dust => &[0, 1, 4, 5],
+            Name::Delay => match count {
+                6 => &[0, 1, 4, 5],
+                9 => &[0, 1, 4, 5, 7, 8],
+                _ => &[0, 1, 4, 5, 7, 8, 10, 11],
+            },
+        }
     }
 }

@@ -4,8 +4,8 @@ ghost use Rattle.std.specs.Prelude.{◌≡◌, ◌++◌, ◌∷◌, [], decimal,
 ghost use Rattle.layer_table.specs.Texts.{behind_spaces, feature_words, later_sets, line_text};
 ghost use Rattle.layer_table.specs.Texts.{set_words, target_words};
 
-use crate::layer_spec::{LayerSpec, Target};
-use fault_layers::Feature;
+use crate::layer_spec::LayerSpec;
+use fault_layers::{Feature, Target};
 use refusals::push_number;
 use std::alloc::AllocError;
 

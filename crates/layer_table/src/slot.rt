@@ -1,6 +1,5 @@
 //! A slot for one layer: only the device below, a range of it under a gate, or a range with bad
 //! blocks. A `Stack` has four, each over the next; its calls go through them.
-use crate::any_gate::AnyGate;
 use bio::{DevError, Ms};
 use blockdev::{BlockDev, Message, MessageError};
 use dust_layer::Dust;
@@ -12,7 +11,7 @@ pub enum Slot<D: BlockDev + Drop> {
     /// The device below.
     Bare(D),
     /// A range of it, under a gate.
-    Decided(Gated<Linear<D>, AnyGate>),
+    Decided(Gated<Linear<D>, ()>),
     /// A range of it that has bad blocks.
     Dusted(Dust<Linear<D>>),
 }

@@ -3,7 +3,7 @@ ghost use Rattle.std.specs.Prelude.{◌≡◌, ◌≢◌, ◌<◌, ◌≤◌, If
 ghost use Rattle.std.specs.Prelude.{slice_get, true};
 ghost use Rattle.log_format.specs.Entries.{is_sector_size};
 ghost use Rattle.pending.specs.CoreState.{items_of};
-ghost use Rattle.lock_state.specs.Comparison.{AreCauses, BeginsTaken, Each, Fails, IsItem, IsList};
+ghost use Rattle.lock_state.specs.Comparison.{AreCauses, IsTakenPrefix, Each, Fails, IsItem, IsList};
 ghost use Rattle.lock_state.specs.Comparison.{IsServed, listed, stop_cause_at};
 ghost use Rattle.lock_state.specs.History.{FoundEnd, stop_of};
 
@@ -75,8 +75,8 @@ impl<R: Run> QueueState<R> {
 
     /// Returns whether these items are a prefix of the taken items.
     pub fn has_taken(&self, placed: &[Item]) -> bool
-        ensures { MatchBool result (BeginsTaken self.now.core placed.now)
-            (BeginsTaken self.now.core placed.now → ⊥) }
+        ensures { MatchBool result (IsTakenPrefix self.now.core placed.now)
+            (IsTakenPrefix self.now.core placed.now → ⊥) }
     {
         if placed.len() > self.taken.len() {
             return false;

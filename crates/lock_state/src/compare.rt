@@ -195,7 +195,7 @@ fn is_cause(cause: End, stop: Option<End>, end: Option<End>) -> bool
 }
 
 // Returns whether `cause` is `stop` or `end`, or wasn't reported.
-fn may_be_told(told: bool, cause: End, stop: Option<End>, end: Option<End>) -> bool
+fn may_be_reported(told: bool, cause: End, stop: Option<End>, end: Option<End>) -> bool
     ensures { MatchBool result (MayBeReported told cause stop end)
         (MayBeReported told cause stop end → ⊥) }
 {
@@ -206,9 +206,9 @@ fn may_be_told(told: bool, cause: End, stop: Option<End>, end: Option<End>) -> b
 pub fn are_causes(told: &Told, stop: Option<End>, end: Option<End>) -> bool
     ensures { MatchBool result (AreCauses told.now stop end) (AreCauses told.now stop end → ⊥) }
 {
-    let full = may_be_told(told.full, End::Full, stop, end);
-    let device = may_be_told(told.device, End::Device, stop, end);
-    let memory = may_be_told(told.memory, End::Memory, stop, end);
+    let full = may_be_reported(told.full, End::Full, stop, end);
+    let device = may_be_reported(told.device, End::Device, stop, end);
+    let memory = may_be_reported(told.memory, End::Memory, stop, end);
     are_all(full, device, memory)
 }
 

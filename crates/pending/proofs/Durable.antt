@@ -14,7 +14,7 @@ use Rattle.bio.specs.PlaceLaws.{bool_cases, option_cases, first_below-found, fir
 use Rattle.bio.specs.Requests.{covers, has_flush, has_fua, overlaps}
 use Rattle.bio.specs.Events.{end_of, first_place, is_flush_submit, is_stop}
 use Rattle.bio.specs.Lawful.{is_well_formed}
-use Rattle.bio.specs.EventLaws.{length-beginning}
+use Rattle.bio.specs.EventLaws.{length-prefix}
 use Rattle.log_format.specs.declared.entry.Entry.{Entry}
 use Rattle.pending.specs.QueueEvent.{first_need, is_at, is_needed_by, queue_event, queue_of}
 use Rattle.pending.specs.QueueEvent.{log_writes_order, unless_stopped}
@@ -63,7 +63,7 @@ pub queued-shorter : (events : List CoreEvent) (m id p : ℕ) → m ≤ length e
     → queue_event log_writes_order events id ≡ Some p
     → queue_event log_writes_order (take m events) id ≡ Some p
 queued-shorter events m id p within less queued =
-    let long = length-beginning events m within in
+    let long = length-prefix events m within in
     is_at-some p (queue_event log_writes_order (take m events) id) (
     sym (same-longer (take m events) (drop m events) id p (omega arith))
     ∙ ap (λ es. is_at p (queue_event log_writes_order es id)) (take-append-drop m events)

@@ -18,7 +18,7 @@ use Rattle.bio.specs.RequestLaws.{covers-parts, covers-within, is_before-end, ov
 use Rattle.bio.specs.Events.{end_of, first_place, is_before, is_end_of, is_flush_submit, is_stop}
 use Rattle.bio.specs.Events.{submits}
 use Rattle.bio.specs.Lawful.{all_aligned, is_well_formed, submits_aligned}
-use Rattle.bio.specs.EventLaws.{length-beginning, slice_get-take}
+use Rattle.bio.specs.EventLaws.{length-prefix, slice_get-take}
 use Rattle.bio.specs.Possible.{PossibleAt, covers_at, ended_ok, has_kept, is_durable, is_flushed}
 use Rattle.bio.specs.Possible.{is_kept, is_replaced, is_success_at, values_at, values_of}
 use Rattle.log_format.specs.declared.entry.Entry.{Entry}
@@ -83,7 +83,7 @@ end-longer : (events : List CoreEvent) (moment id end : ℕ) → moment ≤ leng
     → (end_of events id ≡ Some end) × (id < end) × (end < moment)
 end-longer events moment id end within ends =
     let there = ends-there (take moment events) id end ends in
-    let long = length-beginning events moment within in (
+    let long = length-prefix events moment within in (
       ap (λ es. end_of es id) (sym (take-append-drop moment events))
           ∙ found-longer (is_end_of id) (take moment events) (drop moment events) id end ends,
       there.1,
@@ -96,7 +96,7 @@ durable-of : (events : List CoreEvent) (moment sector id : ℕ) → moment ≤ l
     → is_kept (take moment events) sector id ≡ true → IsDurableBefore events moment sector id
 durable-of events moment sector id within inside kept =
     let front = take moment events in
-    let long = length-beginning events moment within in
+    let long = length-prefix events moment within in
     let parts = and_parts (is_durable front id) (covers_at sector (slice_get front id)) kept in
     let why =
     and_parts (ended_ok front id)

@@ -109,7 +109,7 @@ fn check_outputs<F: Files>(
 // Even if an allocation fails (`rt try --test --fail-alloc N`), each row passes: the command then
 // fails, and reports no other fault.
 #[test]
-fn shows_want_of_memory(rt: HostRuntime) -> Result<(), Fail> {
+fn reports_lack_of_memory(rt: HostRuntime) -> Result<(), Fail> {
     let mut folder = folder_of(rt.alloc(), FIRST)?;
     check_outputs(&rt, rt.alloc(), &mut folder)
 }

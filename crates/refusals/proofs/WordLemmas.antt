@@ -32,23 +32,23 @@ behind_step false n b bytes rest same =
     rw (test, one) same
 
 -- what stands before the first such byte, by its place
-pub front_by_place : (mark : ℕ) (bytes : List ℕ)
+pub before_byte_position : (mark : ℕ) (bytes : List ℕ)
     → take (position_or_len (λ b. b == mark) bytes) bytes ≡ before_byte mark bytes
-front_by_place mark [] = refl
-front_by_place mark (b ∷ bytes) = front_step (b == mark) _ b bytes _ (front_by_place mark bytes)
+before_byte_position mark [] = refl
+before_byte_position mark (b ∷ bytes) = front_step (b == mark) _ b bytes _ (before_byte_position mark bytes)
 
 -- what stands after the first such byte, by its place
-pub behind_by_place : (mark : ℕ) (bytes : List ℕ)
+pub after_byte_position : (mark : ℕ) (bytes : List ℕ)
     → after_byte mark bytes ≡ cond (nat_lt (position_or_len (λ b. b == mark) bytes) (length bytes))
     (Some (drop (position_or_len (λ b. b == mark) bytes + 1) bytes)) None
-behind_by_place mark [] = refl
-behind_by_place mark (b ∷ bytes) = behind_step (b == mark) _ b bytes _ (behind_by_place mark bytes)
+after_byte_position mark [] = refl
+after_byte_position mark (b ∷ bytes) = behind_step (b == mark) _ b bytes _ (after_byte_position mark bytes)
 
 -- the number that digits write after those of n, where they are digits and it is below 2 ^ 64
-abbrev pub number_behind : ℕ → List ℕ → Option ℕ
-number_behind n [] = Some n
-number_behind n (digit ∷ digits) =
-    option_and_then (λ m. number_behind m digits) (with_digit n digit)
+abbrev pub number_after_checked : ℕ → List ℕ → Option ℕ
+number_after_checked n [] = Some n
+number_after_checked n (digit ∷ digits) =
+    option_and_then (λ m. number_after_checked m digits) (with_digit n digit)
 
 -- digits after a number make it no smaller
 pub number_after_grows : (n : ℕ) (digits : List ℕ) → n ≤ number_after n digits
@@ -73,12 +73,12 @@ closed_step true all m end f up same =
 
 -- all digits at once
 pub number_behind_closed : (n : ℕ) (digits : List ℕ) → n < 2 ^ 64
-    → number_behind n digits
+    → number_after_checked n digits
     ≡ cond (list_all is_ascii_digit digits && nat_lt (number_after n digits) (2 ^ 64))
     (Some (number_after n digits)) None
 number_behind_closed n [] low = let test : nat_lt n (2 ^ 64) ≡ true = lt-ltb _ _ low in rw test refl
 number_behind_closed n (digit ∷ digits) low =
-    closed_step (is_ascii_digit digit) _ (10 * n + (digit - 48)) _ (λ m. number_behind m digits)
+    closed_step (is_ascii_digit digit) _ (10 * n + (digit - 48)) _ (λ m. number_after_checked m digits)
     (number_after_grows (10 * n + (digit - 48)) digits)
     (number_behind_closed (10 * n + (digit - 48)) digits)
 
@@ -103,8 +103,8 @@ cut_some mark bytes place e =
     × (place ≡ position_or_len (λ b. b == mark) bytes) = chosen_some _ _ _ e in
     rw h.1 (
       ltb-true _ _ h.0,
-      front_by_place mark bytes,
-      behind_by_place mark bytes ∙ cond-true _ _ _ h.0,
+      before_byte_position mark bytes,
+      after_byte_position mark bytes ∙ cond-true _ _ _ h.0,
     )
 
 -- what no cut leaves
@@ -113,13 +113,13 @@ pub cut_none : (mark : ℕ) (bytes : List ℕ) → None ≡ position (λ b. b ==
 cut_none mark bytes e =
     let h : nat_lt (position_or_len (λ b. b == mark) bytes) (length bytes) ≡ false =
     chosen_none _ _ e in (
-      sym (take_all _ bytes (ltb-false _ _ h)) ∙ front_by_place mark bytes,
-      behind_by_place mark bytes ∙ cond-false _ _ _ h,
+      sym (take_all _ bytes (ltb-false _ _ h)) ∙ before_byte_position mark bytes,
+      after_byte_position mark bytes ∙ cond-false _ _ _ h,
     )
 
 -- the start of a word of 1 to 20 bytes
 pub number_start : (word : List ℕ) → 0 < length word → length word ≤ 20
-    → number_behind 0 word ≡ number_of word
+    → number_after_checked 0 word ≡ number_of word
 number_start word low high =
     let l : nat_lt 0 (length word) ≡ true = lt-ltb _ _ low in
     let h : nat_le (length word) 20 ≡ true = le-leb _ _ high in

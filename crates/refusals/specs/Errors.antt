@@ -20,17 +20,17 @@ refused_by refusal = Refused (without_line refusal)
 abbrev pub memory_error : RunError
 memory_error = refused_by refusals.Memory
 
--- the refusal that reports an output or a file that failed with an error of this kind
+-- the refusal that reports an error of this kind of a file or an output
 abbrev pub io_refusal : ErrorKind → Refusal
 io_refusal kinds.OutOfMemory = refusals.Memory
 io_refusal _ = refusals.File
 
--- a file or an output can't be read or written, or memory ran out
+-- the error reports that a file or an output can't be read or written, or that memory ran out
 abbrev pub IsFileError : RunError → Type 0
 IsFileError error = (error ≡ refused_by refusals.File) ⊎ (error ≡ memory_error)
 
 -- The error's refusal, with its line if it has one. If logging ended, the refusal reports the
--- cause. If a replay or a copy stopped, it is the refusal that stopped it.
+-- cause. If a replay or a copy stopped, the refusal is the one that stopped it.
 abbrev pub fault_of : RunError → Fault
 fault_of (Refused fault) = fault
 fault_of (LoggingEnded end) = without_line (end_refusal end)
@@ -41,8 +41,8 @@ abbrev pub taken_before : RunError → ℕ
 taken_before (StoppedAfter applied refusal) = applied
 taken_before other = 0
 
--- The text of an error: its fault, or the refusal that reports why logging ended. For a replay or a
--- copy that stopped, it is the refusal, and the number of entries that were taken before.
+-- The text of an error: its fault, or the refusal that reports why logging ended. If a replay or a
+-- copy stopped, the number of entries that it had taken follows the refusal.
 abbrev pub error_text : RunError → List ℕ
 error_text (Refused fault) = fault_text fault
 error_text (LoggingEnded end) = refusal_text (end_refusal end)

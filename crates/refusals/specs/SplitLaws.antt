@@ -16,7 +16,7 @@ parts_of line = slice_split (λ byte. byte == 32) line
 
 -- ---- a space
 
--- A byte can be added in front of the first part, and more parts appended, in either order.
+-- If a byte is added to the front, and parts are appended, the order of these two doesn't matter.
 onto_front : (t : Bool) (b : ℕ) (whole parts rest : List (List ℕ))
     → ((first : List ℕ) × (more : List (List ℕ)) × (parts ≡ first ∷ more))
     → whole ≡ parts ++ rest
@@ -24,7 +24,7 @@ onto_front : (t : Bool) (b : ℕ) (whole parts rest : List (List ℕ))
 onto_front true b whole parts rest some e = ap (λ xs. [] ∷ xs) e
 onto_front false b whole parts rest some e = ap (onto_first b) e ∙ rw some.2 refl
 
--- After a byte is added in front, there is still a first part.
+-- If there is a first part, there is one after a byte is added to the front.
 first_step : (t : Bool) (b : ℕ) (parts : List (List ℕ))
     → ((first : List ℕ) × (more : List (List ℕ)) × (parts ≡ first ∷ more))
     → (first : List ℕ) × (more : List (List ℕ))

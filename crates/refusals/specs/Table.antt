@@ -87,7 +87,8 @@ all_refusals =
     refusals.NoThread ∷
     []
 
--- A number names one refusal: the refusal is at that place in `all_refusals`, counted from 1.
+-- Each refusal is in `all_refusals` at the index that is its number minus 1, so two refusals differ
+-- in their numbers.
 pub number_names : (r : Refusal) → slice_get all_refusals ((row_of r).0 - 1) ≡ Some r
 number_names refusals.Io = refl
 number_names refusals.Memory = refl

@@ -39,7 +39,7 @@ decimal_number n low =
     lt-ltb _ _ (subst (λ (k : ℕ). k < 2 ^ 64) (sym value) low) in
     (and_from _ _ (and_from _ _ (and_from _ _ some short) digits) below, value)
 
--- A zero in front of a number doesn't change its value.
+-- A zero in front of a number of less than 20 digits doesn't change its value.
 pub zero_in_front : (word : List ℕ) (n : ℕ) → IsNumber word n → length word < 20
     → IsNumber (48 ∷ word) n
 zero_in_front word n number short =

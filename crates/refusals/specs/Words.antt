@@ -26,13 +26,13 @@ words_of line = filter is_filled (slice_split (λ byte. byte == 32) line)
 abbrev pub is_word : List ℕ → Bool
 is_word word = is_filled word && list_all (λ byte. not (byte == 32)) word
 
--- the number that `n` and one more digit make, if it is a digit and the number is below 2 ^ 64
+-- `n` with `digit` appended, if `digit` is a decimal digit and the result is below 2^64
 abbrev pub with_digit : ℕ → ℕ → Option ℕ
 with_digit n digit =
     if is_ascii_digit digit && nat_lt (10 * n + (digit - 48)) (2 ^ 64) then Some
     (10 * n + (digit - 48)) else None
 
--- the number that the digits of `n` and then these digits make
+-- the number `n` with these digits appended
 abbrev pub number_after : ℕ → List ℕ → ℕ
 number_after n [] = n
 number_after n (digit ∷ digits) = number_after (10 * n + (digit - 48)) digits

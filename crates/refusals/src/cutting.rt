@@ -3,8 +3,9 @@
 ghost use Rattle.std.specs.Prelude.{◌≡◌, ◌==◌, option_copied, position};
 ghost use Rattle.refusals.specs.Words.{before_byte, after_byte};
 
-/// Returns the bytes before the first `mark`, and those after it if there is one.
-#[tactic(auto, using(crate::proofs::WordLemmas::front_by_place, crate::proofs::WordLemmas::behind_by_place))]
+/// Returns the bytes before the first byte `mark`, and the bytes after it. If there is no `mark`,
+/// returns all bytes and None.
+#[tactic(auto, using(crate::proofs::WordLemmas::before_byte_position, crate::proofs::WordLemmas::after_byte_position))]
 pub fn cut(bytes: &[u8], mark: u8) -> (&[u8], Option<&[u8]>)
     ensures before_byte { result.0.now ≡ before_byte mark bytes.now }
     ensures after_byte { option_copied result.1 ≡ after_byte mark bytes.now }

@@ -2,11 +2,11 @@
 ghost use Rattle.std.specs.Prelude.{◌≡◌};
 ghost use Rattle.refusals.specs.Words.{number_of as the_number, with_digit};
 
-/// The maximum number of digits.
+/// The maximum number of digits of a number.
 const NUMBER_DIGITS: usize = 20;
 
-/// Returns the value of a word that is a number: 1 to 20 decimal digits, the first of which may be
-/// 0, with a value below 2^64.
+/// Returns the value of the word if it is a number: 1 to 20 decimal digits with a value below 2^64.
+/// The first digit may be 0.
 pub fn number_of(word: &[u8]) -> Option<u64>
     ensures { result ≡ the_number word.now }
 {
@@ -20,7 +20,8 @@ pub fn number_of(word: &[u8]) -> Option<u64>
     Some(value)
 }
 
-// Returns the number with one more digit, if `digit` is a digit and the result is below 2^64.
+// Returns the number with `digit` appended, if `digit` is a decimal digit and the result is below
+// 2^64.
 fn with_digit(number: u64, digit: u8) -> Option<u64>
     ensures { result ≡ with_digit number digit }
 {

@@ -17,7 +17,7 @@ pub enum Refusal {
     PastEnd,
     /// A request covers over 2,048 sectors.
     TooLong,
-    /// A request's data isn't whole sectors, or covers none.
+    /// A request's data isn't whole sectors, or the request covers no sector.
     NotWhole,
     /// A dust layer has no such message.
     BadMessage,
@@ -63,7 +63,8 @@ pub enum Refusal {
     NoFlush,
     /// An entry reaches past the target's end.
     PastTarget,
-    /// A request isn't aligned to log sectors of 4,096 bytes.
+    /// A request isn't aligned to log sectors of 4,096 bytes, or an entry isn't aligned to the log
+    /// sectors of its copy.
     Unaligned,
     /// A flakey line has no such feature.
     BadFeature,
@@ -88,7 +89,7 @@ pub enum Refusal {
 }
 
 impl Refusal {
-    // Returns the number and the name, from the one table.
+    // Returns the refusal's row in the table: its number and its name.
     fn row(self) -> (u8, &'static str)
         ensures number { result.0 ≡ (row_of self).0 }
         ensures name { result.1.now ≡ (row_of self).1 }
@@ -135,8 +136,8 @@ impl Refusal {
         }
     }
 
-    /// Returns the number, from 1 to 38. It is the refusal's place in the list of all refusals,
-    /// counted from 1, so it names this refusal only.
+    /// Returns the number, from 1 to 38. In `all_refusals`, the refusal is at index `number - 1`,
+    /// so no other refusal has the number.
     #[tactic(auto, using(crate::specs::Table::number_names))]
     pub fn number(self) -> u8
         ensures number { result ≡ (row_of self).0 }
@@ -145,7 +146,7 @@ impl Refusal {
         self.row().0
     }
 
-    /// Returns the name that belongs to the number.
+    /// Returns the name that is printed after the number.
     pub fn name(self) -> &'static str
         ensures { result.now ≡ (row_of self).1 }
     {

@@ -11,9 +11,8 @@ use crate::refusal::Refusal;
 use std::alloc::AllocError;
 use std::{fmt, io};
 
-/// Why a command ended early. It is printed as its fault: the line, if one is at fault, and the
-/// refusal's number and name. For a replay or a copy of a log that stopped, the number of entries
-/// that were taken before follows.
+/// Why a command ended early. Printed as its fault (`Fault`). If a replay or a copy of a log
+/// stopped, ` after <n> entries` follows: it had taken n entries.
 #[derive(Clone, Copy, Debug, PartialEq, Eq)]
 pub enum RunError {
     /// The command was refused; for a script, the fault may name a line.
@@ -36,7 +35,7 @@ impl RunError {
         }
     }
 
-    /// Returns the number of a log's entries that were taken before the error; 0 for other errors.
+    /// Returns how many entries a replay or a copy had taken when it stopped; 0 for other errors.
     pub fn applied(self) -> u64
         ensures { result ≡ taken_before self }
     {

@@ -1,5 +1,5 @@
--- If two disks have the same sectors, they have the same sectors after the same log is replayed on
--- them.
+-- If two disks have the same sectors, they have the same sectors after the same entries are
+-- replayed on both.
 use Rattle.std.proofs.Common.{ℕ, List, [], ◌∷◌, ap}
 use Rattle.std.specs.Prelude.{unwrap_or}
 use Rattle.bio.specs.Content.{AgreeBelow, Content, put}
@@ -7,7 +7,8 @@ use Rattle.log_format.specs.declared.entry.Entry.{Entry}
 use Rattle.log_format.specs.Entries.{kind_of}
 use Rattle.log_format.specs.Replay.{kind_values, replay}
 
--- If two contents agree below `end`, they agree there after the same entries are replayed.
+-- If two contents agree below sector `end`, they agree there after the same entries are replayed on
+-- both.
 pub replay_alike : (size : ℕ) (es : List Entry) (end : ℕ) (c d : Content) → AgreeBelow end c d
     → AgreeBelow end (replay size es c) (replay size es d)
 replay_alike size [] end c d agree = agree

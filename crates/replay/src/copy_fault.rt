@@ -10,13 +10,13 @@ use thiserror::Error;
 /// Why a copy of a log stopped.
 #[derive(Clone, Copy, Debug, PartialEq, Eq, Error)]
 pub enum CopyError {
-    /// The reader of the log that is copied refused.
+    /// The reader of the copied log returned this error.
     #[error("{0}")]
     Log(ReadDeviceError),
     /// The next entry's place or length in bytes isn't a multiple of the new log's sector size.
     #[error("an entry isn't whole sectors of the new log")]
     Unaligned,
-    /// The new log ended.
+    /// The new log ended for this cause.
     #[error("{0}")]
     Store(End),
 }

@@ -35,7 +35,7 @@ use Rattle.pending.specs.CoreState.{CoreState, sized_state}
 use Rattle.recorder.specs.declared.recorder.Recorder.{Recorder}
 use Rattle.recorder.specs.Growth.{HasWholeLog, RecorderFrame}
 use Rattle.recorder.specs.RecorderView.{log_of}
-use Rattle.recorder.specs.CrashReplay.{ReplaysToWhatCouldBe}
+use Rattle.recorder.specs.CrashReplay.{ReplaysToPossible}
 use Rattle.recorder.specs.Fields.{core_of, recorder_view}
 use Rattle.script_runner.specs.NewRecorder.{IsNewOn}
 use Rattle.script_runner.specs.DiskRun.{DiskRecorder, DiskRun, IsCounted, IsNew, IsRecorded}
@@ -220,7 +220,7 @@ pub is_recorded : (plan : ScriptValue) (text : List ℕ) (start last : DiskRun) 
     → AgreeBelow (shown_of (disk_of log)).size (left_on picks (disk_of log)) (sector_of image)
     → ((stack_shown last.recorder.store.device).lies ≡ 0 → (left : Content)
     → (stack_shown last.recorder.store.device).crash left
-    → ReplaysToWhatCouldBe (recorder_view last.recorder) (recorder_view last.recorder) left)
+    → ReplaysToPossible (recorder_view last.recorder) (recorder_view last.recorder) left)
     → (IsWritten start.recorder → last.recorder.end ≡ None
     → has_no_close (core_of last.recorder).events ≡ false
     → (stack_shown last.recorder.store.device).lies ≡ 0

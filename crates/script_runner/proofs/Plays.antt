@@ -19,7 +19,7 @@ use Rattle.script_runner.specs.Lines.{Answering}
 use Rattle.layer_table.specs.Layers.{on_stack}
 use Rattle.script_runner.specs.DiskRun.{stack_answering, DiskRun, FailsOnDisks, IsStackOf, Starts}
 use Rattle.script_runner.specs.DiskRun.{file as no_file, run as no_run, unmade as no_log}
-use Rattle.script_runner.specs.inside.Play.{FailsPlaying, IsPlayed, StartsBeside, StartsOn, file}
+use Rattle.script_runner.specs.inside.Play.{FailsPlaying, IsPlayed, StartsOnStack, StartsOn, file}
 use Rattle.script_runner.specs.inside.Play.{run, unmade}
 
 -- what was played from one kind of start was played from
@@ -90,7 +90,7 @@ start_bytes bytes disk log now starts =
 -- a start on a stack is one beside it
 pub on_beside : {L : Type 0} {l : Ghosts L} (bytes : ℕ) (disk : Disk) (stack : Stack) (log : L)
     → IsStackOf disk stack → (run : Running Stack L on_stack l) → StartsOn bytes stack log run
-    → StartsBeside bytes disk log run
+    → StartsOnStack bytes disk log run
 on_beside bytes disk stack log is now starts = record {
   stack = subst (λ (s : Stack). IsStackOf disk s) (sym starts.disk_is) is;
   begun = starts.begun;
@@ -101,7 +101,7 @@ on_beside bytes disk stack log is now starts = record {
 
 -- a start beside a log's stack is one on two disks
 pub beside_starts : (plan : ScriptValue) (log : Stack) → IsStackOf plan.log_disk log
-    → (run : DiskRun) → StartsBeside (bytes_of plan.log_size) plan.data_disk log run
+    → (run : DiskRun) → StartsOnStack (bytes_of plan.log_size) plan.data_disk log run
     → Starts plan run
 beside_starts plan log is now starts = record {
   data_disk = starts.stack;
@@ -116,7 +116,7 @@ pub fails_on_disks : (text : List ℕ) (plan : ScriptValue) (log : Stack)
     (before after : Option (List ℕ)) (fault : RunError) → IsStackOf plan.log_disk log
     → FailsPlaying {d = on_stack} {l = on_stack} stack_answering text plan
     (IsUnmadeOn on_stack (bytes_of plan.log_size) log)
-    (StartsBeside (bytes_of plan.log_size) plan.data_disk log) before after fault
+    (StartsOnStack (bytes_of plan.log_size) plan.data_disk log) before after fault
     → FailsOnDisks text plan before after fault
 fails_on_disks text plan log before after fault is (file f fails) = no_file f fails
 fails_on_disks text plan log before after fault is (unmade f refused kept) =

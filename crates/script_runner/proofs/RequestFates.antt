@@ -29,7 +29,7 @@ use Rattle.recorder.specs.RecorderView.{EventsGrow}
 use Rattle.script_runner.specs.declared.request.Request.{Request}
 use Rattle.script_runner.specs.declared.request.Request.TheVariants as requests
 use Rattle.script_runner.specs.declared.running.Running.{Running}
-use Rattle.script_runner.specs.RequestEvents.{IsFollowed, IsRequestOf, submissions_of}
+use Rattle.script_runner.specs.RequestEvents.{TrackedAreRecorded, IsRequestOf, submissions_of}
 use Rattle.script_runner.specs.Lines.{Answering, Asks, EndsRequest, RunsLine, TakesStep, reply_of}
 use Rattle.script_runner.specs.Runs.{RunsLines}
 use Rattle.script_runner.specs.Submissions.{bio_of}
@@ -201,8 +201,8 @@ asked_stands bio asked requests.NotAsked id old new asks is = absurd (cc is)
 -- where a line adds no request, each stays followed
 kept_followed : {D L : Type 0} {d : Ghosts D} {l : Ghosts L} (old new : Running D L d l)
     → new.requests.items ≡ old.requests.items
-    → EventsGrow (core_of old.recorder).events (core_of new.recorder).events → IsFollowed old
-    → IsFollowed new
+    → EventsGrow (core_of old.recorder).events (core_of new.recorder).events → TrackedAreRecorded old
+    → TrackedAreRecorded new
 kept_followed old new same grows followed = λ place bio id found.
     stays (core_of old.recorder).events (core_of new.recorder).events id
     (core_events.Submit bio) grows
@@ -212,7 +212,7 @@ kept_followed old new same grows followed = λ place bio id found.
 -- each line keeps them followed
 line_followed : {D L : Type 0} {d : Ghosts D} {l : Ghosts L} (m : Answering D L)
     (names : List ScriptId) (command : Command) (text : List ℕ) (old new : Running D L d l)
-    → RunsLine m names command text old new → IsFollowed old → IsFollowed new
+    → RunsLine m names command text old new → TrackedAreRecorded old → TrackedAreRecorded new
 line_followed {D} {L} {d} {l} m names (commands.Submit submission) text old new line followed =
     λ place bio id found.
     elim (last_case old.requests.items line.does.request (requests.Asked bio (Some id)) place
@@ -236,9 +236,9 @@ line_followed {D} {L} {d} {l} m names (commands.Step step) text old new line fol
 -- and all lines do
 pub lines_followed : {D L : Type 0} {d : Ghosts D} {l : Ghosts L} (m : Answering D L)
     (names : List ScriptId) (body : List Command) (text : List ℕ) (old new : Running D L d l)
-    → RunsLines m names body text old new → IsFollowed old → IsFollowed new
+    → RunsLines m names body text old new → TrackedAreRecorded old → TrackedAreRecorded new
 lines_followed {D} {L} {d} {l} m names [] text old new ran followed =
-    subst (λ (run : Running D L d l). IsFollowed run) (sym ran.1) followed
+    subst (λ (run : Running D L d l). TrackedAreRecorded run) (sym ran.1) followed
 lines_followed {D} {L} {d} {l} m names (command ∷ body) text old new ran followed =
     lines_followed {d = d} {l = l} m names body ran.2 ran.0 new ran.5
     (line_followed {d = d} {l = l} m names command ran.1 old ran.0 ran.4 followed)

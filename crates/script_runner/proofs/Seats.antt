@@ -21,7 +21,7 @@ use Rattle.script_runner.specs.declared.tally.Outcome.TheVariants.{Refused}
 use Rattle.script_runner.specs.declared.tally.Tally.{Tally}
 use Rattle.script_runner.specs.inside.SeatWork.{DoesLine, DoesLines, Makes}
 use Rattle.script_runner.specs.inside.SeatWork.{Player}
-use Rattle.script_runner.specs.SeatRuns.{AreMade, IsMade, IsSeatRun, calls_of}
+use Rattle.script_runner.specs.SeatRuns.{AreMade, MakesCall, IsSeatRun, calls_of}
 use Rattle.script_runner.specs.Submissions.{bio_of}
 use Rattle.script_runner.specs.Tallies.{CallResult, HasRoom, and_kept, counted, how_many, is_done}
 use Rattle.script_runner.specs.Tallies.{is_failed, is_logged, is_not_logged, is_refused, mark_outcome}
@@ -79,10 +79,10 @@ own_few number (line ∷ lines) = also (line.seat == number) (own_few number lin
 -- calls, and then one call more
 made_more : (old between new : Part) (calls : List Call) (comes : List CallResult) (call : Call)
     (came : CallResult)
-    → AreMade old calls comes between → IsMade between call came new
+    → AreMade old calls comes between → MakesCall between call came new
     → AreMade old (calls ++ call ∷ []) (comes ++ came ∷ []) new
 made_more old between new [] [] call came made one =
-    (new, subst (λ (part : Part). IsMade part call came new) made one, refl)
+    (new, subst (λ (part : Part). MakesCall part call came new) made one, refl)
 made_more old between new [] (first ∷ comes) call came made one = absurd made
 made_more old between new (first ∷ calls) [] call came made one = absurd made
 made_more old between new (first ∷ calls) (one_came ∷ comes) call came made one =

@@ -22,7 +22,7 @@ use Rattle.log_store.specs.Store.{entries_of}
 use Rattle.dmlw_script.specs.Plans.{ScriptValue}
 use Rattle.recorder.specs.declared.recorder.Recorder.{Recorder}
 use Rattle.recorder.specs.RecorderView.{log_of}
-use Rattle.recorder.specs.CrashReplay.{ReplaysToWhatCouldBe}
+use Rattle.recorder.specs.CrashReplay.{ReplaysToPossible}
 use Rattle.recorder.specs.Fields.{core_of, recorder_view}
 use Rattle.refusals.specs.declared.run_error.RunError.{RunError}
 use Rattle.script_runner.specs.NewRecorder.{IsNewOn, IsUnmadeOn}
@@ -129,7 +129,7 @@ pub record IsRecorded (plan : ScriptValue) (text : List ℕ) (status : Status) (
   -- the completion list of the recorder's events. It has all entries that were settled, and all
   -- that were acknowledged. Each prefix of it replays to what the recorded device could hold
   pub beginning : lies.log_disk ≡ 0 →
-      ReplaysToWhatCouldBe (recorder_view last.recorder) (recorder_view last.recorder)
+      ReplaysToPossible (recorder_view last.recorder) (recorder_view last.recorder)
       (seen_on plan.log_disk image)
   -- if recording was closed and logging didn't end, the log is the whole completion list
   pub whole : lies.log_disk ≡ 0 → has_no_close (core_of last.recorder).events ≡ false

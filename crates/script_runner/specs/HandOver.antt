@@ -21,15 +21,15 @@ FlushesFirst {D} does now call answer old new =
 -- A request is passed to the device at the time `now`, and `answer` is its result. A write with
 -- flush is passed as a flush, and then as a write if the flush succeeds. A read makes no call, and
 -- its result is Ok.
-abbrev pub HandsOver : {D : Type 0} → Deeds D → ℕ → Bio → Result ℕ DevError → D → D → Type 0
-HandsOver does now (bios.Write first bytes true fua meta) answer old new =
+abbrev pub PassesRequest : {D : Type 0} → Deeds D → ℕ → Bio → Result ℕ DevError → D → D → Type 0
+PassesRequest does now (bios.Write first bytes true fua meta) answer old new =
     FlushesFirst does now (Writes first bytes fua) answer old new
-HandsOver does now (bios.Write first bytes false fua meta) answer old new =
+PassesRequest does now (bios.Write first bytes false fua meta) answer old new =
     does old (Writes first bytes fua) now answer new
-HandsOver does now bios.Flush answer old new = does old Flushes now answer new
-HandsOver does now (bios.Discard first count) answer old new =
+PassesRequest does now bios.Flush answer old new = does old Flushes now answer new
+PassesRequest does now (bios.Discard first count) answer old new =
     does old (Discards first count) now answer new
-HandsOver does now (bios.Read first count) answer old new = (answer ≡ Ok now) × (new ≡ old)
+PassesRequest does now (bios.Read first count) answer old new = (answer ≡ Ok now) × (new ≡ old)
 
 -- `count` sectors from sector `first` on were read. Some has their bytes. None means that nothing
 -- was read. Either memory for the bytes ran out, and the device wasn't called; or the device failed

@@ -41,7 +41,7 @@ use Rattle.script_runner.specs.declared.running.Running.{Running}
 use Rattle.script_runner.specs.declared.step_error.StepError.{StepError}
 use Rattle.script_runner.specs.declared.step_error.StepError.TheVariants.{AtLine, Whole}
 use Rattle.refusals.specs.Errors.{IsFileError}
-use Rattle.script_runner.specs.HandOver.{ReadsSectors, HandsOver}
+use Rattle.script_runner.specs.HandOver.{ReadsSectors, PassesRequest}
 use Rattle.script_runner.specs.Submissions.{bio_of, is_asked}
 use Rattle.script_runner.specs.Texts.{mark_failed, read_line, outcome_line}
 
@@ -58,9 +58,9 @@ reply_of None = replies.Passed
 -- read prints that it failed.
 
 -- The data device answered that its memory ran out.
-abbrev pub is_starved : Result ℕ DevError → Bool
-is_starved (Err errors.Memory) = true
-is_starved _ = false
+abbrev pub is_out_of_memory : Result ℕ DevError → Bool
+is_out_of_memory (Err errors.Memory) = true
+is_out_of_memory _ = false
 
 -- The turn reports that logging ended because memory ran out.
 abbrev pub is_memory_end : Turn → Bool
@@ -73,8 +73,8 @@ is_refusal (replies.Refused refusal) = true
 is_refusal _ = false
 
 -- Memory sufficed for everything that the lines asked, except perhaps for reads.
-abbrev pub is_ample : {D L : Type 0} {d : Ghosts D} {l : Ghosts L} → Running D L d l → Bool
-is_ample run = not run.short && list_all is_asked run.requests.items
+abbrev pub had_memory : {D L : Type 0} {d : Ghosts D} {l : Ghosts L} → Running D L d l → Bool
+had_memory run = not run.short && list_all is_asked run.requests.items
 
 -- ---- lines
 
@@ -110,13 +110,13 @@ RecordsEnd None ok old new = new ≡ old
 
 -- A request that was submitted is passed to the data device. The result is recorded and printed.
 -- The run gets short if the device's memory ran out.
-pub record EndsAsked {D L : Type 0} {d : Ghosts D} {l : Ghosts L} (bio : Bio) (id : Option ℕ)
+pub record EndsSubmittedRequest {D L : Type 0} {d : Ghosts D} {l : Ghosts L} (bio : Bio) (id : Option ℕ)
     (name : ScriptId) (text : List ℕ) (old new : Running D L d l) : Type 0 where
   pub answer : Result ℕ DevError
-  pub hands_over : HandsOver d.does old.moment bio answer old.disk new.disk
+  pub hands_over : PassesRequest d.does old.moment bio answer old.disk new.disk
   pub hears : RecordsEnd id (is_ok answer) old.recorder new.recorder
   pub kept : new.requests.items ≡ old.requests.items
-  pub short : new.short ≡ (old.short || is_starved answer)
+  pub short : new.short ≡ (old.short || is_out_of_memory answer)
   pub prints : text ≡ outcome_line name (is_ok answer)
 
 -- A line doesn't change the data device or the list of requests, and prints nothing.
@@ -130,7 +130,7 @@ pub record KeepsData {D L : Type 0} {d : Ghosts D} {l : Ghosts L} (text : List �
 -- prints nothing.
 abbrev pub EndsRequest : {D L : Type 0} {d : Ghosts D} {l : Ghosts L} → Option Request → ScriptId
     → List ℕ → Running D L d l → Running D L d l → Type 0
-EndsRequest (Some (requests.Asked bio id)) name text old new = EndsAsked bio id name text old new
+EndsRequest (Some (requests.Asked bio id)) name text old new = EndsSubmittedRequest bio id name text old new
 EndsRequest (Some requests.NotAsked) name text old new =
     KeepsData text old new × (new.recorder ≡ old.recorder) × (new.short ≡ old.short)
 EndsRequest None name text old new = ⊥

@@ -13,8 +13,8 @@ use Rattle.script_runner.specs.Submissions.{bio_of}
 use Rattle.recorder.specs.Fields.{core_of}
 
 -- If the recorder tracks a request by an id, the event at this id is the request's Submit.
-abbrev pub IsFollowed : {D L : Type 0} {d : Ghosts D} {l : Ghosts L} → Running D L d l → Type 0
-IsFollowed run =
+abbrev pub TrackedAreRecorded : {D L : Type 0} {d : Ghosts D} {l : Ghosts L} → Running D L d l → Type 0
+TrackedAreRecorded run =
     (place : ℕ) (bio : Bio) (id : ℕ)
     → slice_get run.requests.items place ≡ Some (requests.Asked bio (Some id))
     → slice_get (core_of run.recorder).events id ≡ Some (core_events.Submit bio)

@@ -18,7 +18,7 @@ use Rattle.layer_table.specs.Layers.{disk_of, stack_does, stack_shown}
 use Rattle.lock_state.specs.Comparison.{Receipt}
 use Rattle.lock_state.specs.Calls.{Holds}
 use Rattle.lock_state.specs.Comparison.{Each}
-use Rattle.lock_state.specs.History.{KeepsCause, Part, first_cause, named, new_part, owned}
+use Rattle.lock_state.specs.History.{KeepsCause, Part, first_cause, named, new_part, recorded_count}
 use Rattle.lock_state.specs.LegalHistory.{LegalHistory}
 use Rattle.lock_state.specs.PlacedItems.{Ground, HasCause, KeepsGround, entries_in, ground_of}
 use Rattle.log_format.specs.LogOf.{status_of}
@@ -44,11 +44,11 @@ use Rattle.layer_table.specs.LayerOrder.{some_drops}
 -- A seat made `call`. The recorder gave an answer, and the seat's part changed from `old` to `new`
 -- as this answer allows. `came` has the outcome of the answer, and the receipt if the answer has
 -- one.
-abbrev pub IsMade : Part → Call → CallResult → Part → Type 0
-IsMade old (Submit submission) came new =
+abbrev pub MakesCall : Part → Call → CallResult → Part → Type 0
+MakesCall old (Submit submission) came new =
     (answer : Answer Receipt) × Answered old (bio_of submission) answer new
     × (came ≡ record { outcome = outcome_of answer; receipt = receipt_in answer })
-IsMade old (Mark text) came new =
+MakesCall old (Mark text) came new =
     (answer : MarkAnswer Receipt) × Marked old text answer new
     × (came ≡ record { outcome = mark_outcome answer; receipt = mark_receipt_in answer })
 
@@ -58,7 +58,7 @@ AreMade old [] [] new = new ≡ old
 AreMade old [] (came ∷ others) new = ⊥
 AreMade old (call ∷ calls) [] new = ⊥
 AreMade old (call ∷ calls) (came ∷ others) new =
-    (between : Part) × IsMade old call came between × AreMade between calls others new
+    (between : Part) × MakesCall old call came between × AreMade between calls others new
 
 -- The calls in the lines of seat `number`, in their order.
 abbrev pub calls_of : ℕ → List SeatCall → List Call
@@ -93,7 +93,7 @@ pub record IsClosed (ground : Ground) (bytes sectors : ℕ) (seats : List Part)
   -- the events and the seats' own lists are one legal history
   pub legal : LegalHistory bytes sectors closed.core.state.events closed.by.items seats
   pub shut : has_no_close closed.core.state.events ≡ false
-  pub counts : named closed.by.items ≡ owned seats
+  pub counts : named closed.by.items ≡ recorded_count seats
   pub agrees : Agrees (record {
     core = closed.core.state;
     by = closed.by.items;

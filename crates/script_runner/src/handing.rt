@@ -2,7 +2,7 @@
 ghost use Rattle.std.specs.Prelude.{◌≡◌, ◌*◌, IfSome, Ok, option_map, IsTrue, is_ok, length};
 ghost use Rattle.bio.specs.Check.{check_answer, range_answer};
 ghost use Rattle.blockdev.specs.Calls.{Flushes, IsByteRange, Writes};
-ghost use Rattle.script_runner.specs.HandOver.{HandsOver, ReadsSectors};
+ghost use Rattle.script_runner.specs.HandOver.{PassesRequest, ReadsSectors};
 
 use bio::{Bio, DevError, Ms, SECTOR_BYTES};
 use blockdev::BlockDev;
@@ -16,7 +16,7 @@ const SECTOR: usize = SECTOR_BYTES as usize;
 // `Ok(now)`.
 pub(crate) fn do_request<D: BlockDev>(device: &mut D, now: Ms, bio: &Bio) -> Result<Ms, DevError>
     requires { IsTrue (is_ok (check_answer bio.now (D.shown device.old).size)) }
-    ensures does { HandsOver D.does now bio.now result device.old device.new }
+    ensures does { PassesRequest D.does now bio.now result device.old device.new }
     ensures size { (D.shown device.new).size ≡ (D.shown device.old).size }
 {
     match bio {

@@ -11,7 +11,7 @@ ghost use Rattle.bio.specs.Lawful.{has_no_close};
 ghost use Rattle.pending.specs.CoreState.{IsSound};
 ghost use Rattle.recorder.specs.Growth.{HasWholeLog, RecorderFrame};
 ghost use Rattle.recorder.specs.RecorderView.{log_of};
-ghost use Rattle.recorder.specs.CrashReplay.{ReplaysToWhatCouldBe};
+ghost use Rattle.recorder.specs.CrashReplay.{ReplaysToPossible};
 ghost use Rattle.layer_table.specs.Layers.{stack_shown};
 ghost use Rattle.script_runner.specs.DiskRun.{DiskRecorder, DiskRun, IsUnmade, Starts};
 ghost use Rattle.refusals.specs.declared.run_error.RunError.{RunError};
@@ -22,7 +22,7 @@ ghost use Rattle.recorder.specs.Fields.{core_of, recorder_view};
 ghost use Rattle.bio.specs.Content.{Content};
 ghost use Rattle.std.specs.List.{AllZip};
 ghost use Rattle.script_runner.specs.declared.request.Request.{Request};
-ghost use Rattle.script_runner.specs.RequestEvents.{IsFollowed, IsRequestOf, submissions_of};
+ghost use Rattle.script_runner.specs.RequestEvents.{TrackedAreRecorded, IsRequestOf, submissions_of};
 ghost use Rattle.script_runner.specs.Lines.{answering, RecordsMark};
 ghost use Rattle.script_runner.specs.Runs.{RunsLines};
 ghost use Rattle.script_runner.specs.WholeLog.{IsWritten};
@@ -52,7 +52,7 @@ pub fn headline()
         → RecorderFrame (recorder_view old) (recorder_view new) →
         (stack_shown new.store.device).lies ≡ 0
         → (stack_shown new.store.device).since (stack_shown old.store.device).moment left →
-        ReplaysToWhatCouldBe (recorder_view old) (recorder_view new) left }
+        ReplaysToPossible (recorder_view old) (recorder_view new) left }
 {
     recorder::laws::crashed_logs_replay_to_what_could_be::<Stack>();
 }
@@ -101,8 +101,8 @@ pub fn requests_are_in_the_events<D: Message + Drop, L: Message + Drop>()
         × AllZip IsRequestOf (submissions_of body) more }
     ensures recorded { (names : List ScriptId) (body : List Command) (text : List ℕ)
         (old new : Running D L D.BlockDev L.BlockDev) →
-        RunsLines (answering D.answers L.answers) names body text old new → IsFollowed old
-        → IsFollowed new }
+        RunsLines (answering D.answers L.answers) names body text old new → TrackedAreRecorded old
+        → TrackedAreRecorded new }
 {}
 
 /// If a line queued a mark, the recorder's event at its id is the mark with its text. Lines that

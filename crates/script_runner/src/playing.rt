@@ -7,7 +7,7 @@ ghost use Rattle.refusals.specs.Errors.{memory_error};
 ghost use Rattle.script_runner.specs.NewRecorder.{IsNewOn, IsUnmadeOn};
 ghost use Rattle.script_runner.specs.Lines.{answering};
 ghost use Rattle.script_runner.specs.DiskRun.{FailsOnDisks, IsStackOf, Starts, stack_answering};
-ghost use Rattle.script_runner.specs.inside.Play.{FailsPlaying, IsPlayed, StartsBeside, StartsOn};
+ghost use Rattle.script_runner.specs.inside.Play.{FailsPlaying, IsPlayed, StartsOnStack, StartsOn};
 
 use crate::run_script::run;
 use crate::running::Running;
@@ -62,12 +62,12 @@ fn play_beside<L: Message + Drop, O: Write>(
     requires { bytes_of script.now.log_size / 512 ≤ (L.shown log).size }
     ensures played { IfOk result
         (λ played. IsPlayed {l = L.BlockDev} (answering StackAnswers L.answers) script.now
-        (StartsBeside (bytes_of script.now.log_size) script.now.data_disk log) (O.contents out.old)
+        (StartsOnStack (bytes_of script.now.log_size) script.now.data_disk log) (O.contents out.old)
         (O.contents out.new) played.recorder played.data_lies played.ample) }
     ensures faults { IfErr result
         (FailsPlaying {l = L.BlockDev} (answering StackAnswers L.answers) text.now script.now
         (IsUnmadeOn L.BlockDev (bytes_of script.now.log_size) log)
-        (StartsBeside (bytes_of script.now.log_size) script.now.data_disk log) (O.contents out.old)
+        (StartsOnStack (bytes_of script.now.log_size) script.now.data_disk log) (O.contents out.old)
         (O.contents out.new)) }
 {
     let data = new_stack(alloc, script.data())?;
@@ -100,7 +100,7 @@ fn play<D: Message + Drop, L: Message + Drop, O: Write>(
 {
     let mut running = start_on(alloc, log, script.log_size(), disk, script.names().len())?;
     run(text, script, &mut running, out)?;
-    let ample = running.is_ample();
+    let ample = running.had_memory();
     let (recorder, disk) = running.into_parts();
     Ok(Played {
         recorder,

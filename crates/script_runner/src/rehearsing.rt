@@ -66,7 +66,7 @@ pub fn events_of_run(alloc: Global, text: &[u8], script: &Script) -> Result<Rehe
     // For the prover: the script satisfies `IsPlan`, as every script does.
     let _commands = script.commands();
     let played = play_on_disks(alloc, text, script, &mut io::sink())?;
-    let ample = is_ample(played.ample, played.recorder.events());
+    let ample = had_memory(played.ample, played.recorder.events());
     kept_if(
         ample,
         Rehearsed {
@@ -76,7 +76,7 @@ pub fn events_of_run(alloc: Global, text: &[u8], script: &Script) -> Result<Rehe
 }
 
 // Returns whether memory sufficed: `asked` says it for the script's lines, `events` for logging.
-fn is_ample(asked: bool, events: &[CoreEvent]) -> bool
+fn had_memory(asked: bool, events: &[CoreEvent]) -> bool
     ensures { result ≡ (asked && not (list_any is_memory_stop events.now)) }
 {
     asked && !has_memory_stop(events)

@@ -7,7 +7,7 @@ use crate::asking::{ask, complete_request};
 use crate::handing::{do_request, read_sectors};
 use crate::print::{name_of, print_mark, print_outcome, print_read, print_submission};
 use crate::request::{Request, are_asked};
-use crate::shortage::{is_memory_end, is_refusal, is_starved, last_turn};
+use crate::shortage::{is_memory_end, is_out_of_memory, is_refusal, last_turn};
 use crate::step_error::StepError;
 use crate::write_data::WriteData;
 use bio::{Bytes, Event, Ms};
@@ -37,7 +37,7 @@ pub struct Running<D: BlockDev + Drop, L: BlockDev + Drop> {
 
 impl<D: BlockDev + Drop, L: BlockDev + Drop> Running<D, L> {
     ghost use Rattle.std.specs.Prelude.{◌≡◌, IfOk, [], false};
-    ghost use Rattle.script_runner.specs.Lines.{is_ample};
+    ghost use Rattle.script_runner.specs.Lines.{had_memory};
 
     /// Returns the run of a script before its first line, at time 0, with room for `requests`
     /// requests.
@@ -70,8 +70,8 @@ impl<D: BlockDev + Drop, L: BlockDev + Drop> Running<D, L> {
     }
 
     /// Returns whether memory sufficed for all lines, except perhaps for reads.
-    pub fn is_ample(&self) -> bool
-        ensures { result ≡ is_ample self.now }
+    pub fn had_memory(&self) -> bool
+        ensures { result ≡ had_memory self.now }
     {
         !self.short && are_asked(self.requests.as_slice())
     }
@@ -159,7 +159,7 @@ impl<D: Message + Drop, L: Message + Drop> Running<D, L> {
             Request::Asked { bio, id } => {
                 let answer = do_request(&mut self.disk, self.moment, bio);
                 let ok = answer.is_ok();
-                self.short |= is_starved(&answer);
+                self.short |= is_out_of_memory(&answer);
                 complete_request(&mut self.recorder, *id, ok);
                 print_outcome(name_of(names, request), ok, out)
             }

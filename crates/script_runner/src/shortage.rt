@@ -1,14 +1,14 @@
 //! Tests whether an answer of a device or of the recorder says that memory ran out.
 ghost use Rattle.std.specs.Prelude.{◌≡◌};
 ghost use Rattle.recorder.specs.Calls.{last_turn};
-ghost use Rattle.script_runner.specs.Lines.{is_memory_end, is_refusal, is_starved};
+ghost use Rattle.script_runner.specs.Lines.{is_memory_end, is_refusal, is_out_of_memory};
 
 use bio::{DevError, End, Ms};
 use recorder::{Reply, Turn};
 
 // Returns whether the data device answered that its memory ran out.
-pub(crate) fn is_starved(answer: &Result<Ms, DevError>) -> bool
-    ensures { result ≡ is_starved answer.now }
+pub(crate) fn is_out_of_memory(answer: &Result<Ms, DevError>) -> bool
+    ensures { result ≡ is_out_of_memory answer.now }
 {
     matches!(answer, Err(DevError::Memory))
 }

@@ -1,4 +1,5 @@
--- The view of a disk, which its candidates define, satisfies the law of devices.
+-- Laws of candidates: the view of a disk, which its candidates define, satisfies the law of
+-- devices.
 use Rattle.std.proofs.Common.{◌≡◌, ℕ, suc, zero, ◌<◌, ◌≤◌, Bool, true, false, IsTrue, Option, None}
 use Rattle.std.proofs.Common.{Some, List, [], ◌∷◌, length, refl, ap, subst, sym, ◌∙◌, inl, inr}
 use Rattle.std.proofs.Common.{arith, lit<}
@@ -29,7 +30,7 @@ one_contains x y has = at has.0 has.1 has.2
 abbrev pub IsCurrent : Cache → Type 0
 IsCurrent cache = (sector : ℕ) → Contains (cache.may sector) (cache.now sector)
 
--- Each candidate of a sector after a call was one before, or is the call's value.
+-- Each candidate of a sector after a call was a candidate before, or is the call's value.
 candidate_torn : (value : Option (List ℕ)) (fua : Bool) (old : List (List ℕ)) (now left : List ℕ)
     → Contains old now
     → Contains (candidates_after value fua old) left
@@ -43,7 +44,7 @@ candidate_torn (Some value) false old now left current has =
       | inr after ↦ (now, current, inr (one_contains value left after))
     ]
 
--- With FUA, each candidate after a call that has a value for the sector is this value.
+-- If a call has FUA and a value for the sector, each candidate after the call is this value.
 candidate_durable : (value : Option (List ℕ)) (fua : Bool) (old : List (List ℕ)) (now left : List ℕ)
     → IsTrue fua → Contains old now
     → Contains (candidates_after value fua old) left
@@ -62,14 +63,14 @@ candidate_current (Some value) true old now current = contains_one value
 candidate_current (Some value) false old now current =
     Contains-append_right old (value ∷ []) value (contains_one value)
 
--- Each candidate before a call without FUA is one after the call.
+-- Each candidate before a call without FUA is still a candidate after the call.
 candidate_kept : (value : Option (List ℕ)) (old : List (List ℕ)) (before : List ℕ)
     → Contains old before
     → Contains (candidates_after value false old) before
 candidate_kept None old before has = has
 candidate_kept (Some value) old before has = Contains-append_left old (value ∷ []) before has
 
--- Whatever a crash after a call leaves, it is a content that a crash could leave before, patched.
+-- Each content that a crash may leave after a call is one that a crash could leave before, patched.
 pub left-torn : (patch : Patch) (fua : Bool) (cache : Cache) (left : Content) → IsCurrent cache
     → MayLeave (after_step (Puts patch fua) cache) left → AfterPatch patch (MayLeave cache) left
 left-torn patch fua cache left current may =
@@ -79,7 +80,8 @@ left-torn patch fua cache left current may =
     (current sector) (may sector) in
     (λ sector. (at sector).0, λ sector. (at sector).1, λ sector. (at sector).2)
 
--- With FUA, it has all of the call's values.
+-- Each content that a crash may leave after a call with FUA is one that it could leave before, with
+-- all of the call's values.
 pub left-durable : (patch : Patch) (fua : Bool) (cache : Cache) (left : Content) → IsTrue fua
     → IsCurrent cache
     → MayLeave (after_step (Puts patch fua) cache) left → AfterWhole patch (MayLeave cache) left
@@ -90,18 +92,19 @@ left-durable patch fua cache left is current may =
     (left sector) is (current sector) (may sector) in
     (λ sector. (at sector).0, λ sector. (at sector).1, λ sector. (at sector).2)
 
--- Whatever a crash could leave before a call without FUA, it may leave after the call.
+-- Each content that a crash could leave before a call without FUA, a crash may leave after the
+-- call.
 pub left-kept : (patch : Patch) (cache : Cache) (left : Content) → MayLeave cache left
     → MayLeave (after_step (Puts patch false) cache) left
 left-kept patch cache left may =
     λ sector. candidate_kept (patch sector) (cache.may sector) (left sector) (may sector)
 
--- If all values are durable, a crash leaves exactly them.
+-- If all values are durable, a crash leaves exactly these values.
 pub left-settled : (content left : Content) → MayLeave (settled content) left → (sector : ℕ)
     → left sector ≡ content sector
 left-settled content left may sector = one_contains (content sector) (left sector) (may sector)
 
--- Whatever a crash leaves after a flush, it could leave before the flush.
+-- Each content that a crash may leave after a flush, a crash could leave before the flush.
 pub left-flushed : (cache : Cache) (left : Content) → IsCurrent cache
     → MayLeave (settled cache.now) left → MayLeave cache left
 left-flushed cache left current may = λ sector.
@@ -117,7 +120,7 @@ is_current start (Puts patch fua ∷ past) = λ sector.
     (is_current start past sector)
 is_current start (Flushes ∷ past) = λ sector. contains_one ((cache_after start past).now sector)
 
--- Whatever a crash leaves after a step, it may leave during the step.
+-- Each content that a crash may leave after a step, a crash may leave during the step.
 during : (start : Content) (step : Step) (past : List Step) (left : Content)
     → MayLeave (cache_after start (step ∷ past)) left
     → LeftDuring step (cache_after start past) left
@@ -126,7 +129,7 @@ during start (Puts patch fua) past left may =
 during start Flushes past left may =
     left-flushed (cache_after start past) left (is_current start past) may
 
--- `MatchBool` is one of two types, by a test.
+-- `MatchBool b P Q` holds if `P` holds when `b` is true, and `Q` when `b` is false.
 match_intro : (b : Bool) (P Q : Type 0) → (b ≡ true → P) → (b ≡ false → Q) → MatchBool b P Q
 match_intro true P Q yes_case no_case = yes_case refl
 match_intro false P Q yes_case no_case = no_case refl
@@ -160,8 +163,8 @@ since-now start (step ∷ past) left may =
     (LeftSince start past (suc (length past)) left ⊎ LeftDuring step (cache_after start past) left)
     (lt-ltb (length past) (suc (length past)) (omega arith)) may
 
--- Whatever a crash since an earlier reading may have left, it may have left before the step or
--- during it.
+-- If a crash since an earlier reading may have left a content, a crash before the step or during
+-- the step may have left it.
 pub since-step : (start : Content) (step : Step) (past : List Step) (moment : ℕ) (left : Content)
     → moment ≤ length past
     → LeftSince start (step ∷ past) moment left
@@ -171,7 +174,8 @@ since-step start step past moment left h may =
     (LeftSince start past moment left ⊎ LeftDuring step (cache_after start past) left)
     (le-ltb (length past) moment h) may
 
--- Whatever a crash may have left before a step, it may still have left after it.
+-- Each content that a crash may have left before a step is still one that a crash may have left
+-- after the step.
 pub since-kept : (start : Content) (step : Step) (past : List Step) (moment : ℕ) (left : Content)
     → moment ≤ length past
     → LeftSince start past moment left → LeftSince start (step ∷ past) moment left
@@ -191,7 +195,7 @@ since-during start step past left during_it =
     (λ after. let before = le-ltb (length past) (length past) (omega arith) in cc)
     (λ before. inr during_it)
 
--- A write or a discard satisfies its frame.
+-- A write or a discard changes the view of a disk within the call's frame.
 pub goes_puts : (size : ℕ) (start : Content) (past : List Step) (patch : Patch) (fua : Bool)
     → DeviceFrame patch (view_of size start past) (view_of size start (Puts patch fua ∷ past))
 goes_puts size start past patch fua = record {
@@ -208,7 +212,7 @@ goes_puts size start past patch fua = record {
   honest = λ none. refl;
 }
 
--- A write or a discard is done.
+-- A write or a discard of a disk is done (`WriteDone`).
 pub lands_puts : (size : ℕ) (start : Content) (past : List Step) (patch : Patch) (fua : Bool)
     → WriteDone patch fua (view_of size start past) (view_of size start (Puts patch fua ∷ past))
 lands_puts size start past patch fua = record {
@@ -218,7 +222,7 @@ lands_puts size start past patch fua = record {
       (is_current start past) may;
 }
 
--- A flush satisfies its frame.
+-- A flush changes the view of a disk within the frame of a flush.
 pub goes_flush : (size : ℕ) (start : Content) (past : List Step)
     → DeviceFrame nothing (view_of size start past) (view_of size start (Flushes ∷ past))
 goes_flush size start past = record {
@@ -243,7 +247,7 @@ goes_flush size start past = record {
   honest = λ none. refl;
 }
 
--- A flush is done: a crash then leaves the content.
+-- A flush of a disk is done (`FlushDone`): a crash then leaves the content.
 pub syncs_flush : (size : ℕ) (start : Content) (past : List Step)
     → FlushDone (view_of size start (Flushes ∷ past))
 syncs_flush size start past =
@@ -253,13 +257,13 @@ syncs_flush size start past =
 pub syncs_start : (size : ℕ) (start : Content) → FlushDone (view_of size start [])
 syncs_start size start = record { only = λ left may. left-settled start left may }
 
--- each value that the steps put is a whole sector
+-- each value that the steps put has 512 bytes
 abbrev pub HasWholeSteps : List Step → Type 0
 HasWholeSteps [] = Unit {0}
 HasWholeSteps (Puts patch fua ∷ past) = HasWholeValues patch × HasWholeSteps past
 HasWholeSteps (Flushes ∷ past) = HasWholeSteps past
 
--- each of these values is a whole sector
+-- each of `values` has 512 bytes
 abbrev AreWhole : List (List ℕ) → Type 0
 AreWhole values = (value : List ℕ) → Contains values value → length value ≡ 512
 
@@ -331,8 +335,8 @@ since-whole size start (step ∷ past) whole steps moment left may =
       ]
     ]
 
--- If the size is a disk's, and the first content and all values have whole sectors, the view is
--- lawful.
+-- If the size is 1 to 1,048,576, and the first content and all values that were put have whole
+-- sectors, the view is lawful.
 pub view-lawful : (size : ℕ) (start : Content) (past : List Step) → 0 < size → size ≤ 1048576
     → HasWholeSectors size start
     → HasWholeSteps past → IsLawful (view_of size start past)

@@ -24,8 +24,8 @@ pub data Step : Type 0 where
 abbrev pub settled : Content → Cache
 settled content = record { now = content; may = λ sector. content sector ∷ [] }
 
--- The candidates of a sector after a call. A value written with FUA is the only one; another value
--- is added as the last one.
+-- The candidates of a sector after a call. A value with FUA becomes the only candidate. A value
+-- without FUA is added as the last candidate.
 abbrev pub candidates_after : Option (List ℕ) → Bool → List (List ℕ) → List (List ℕ)
 candidates_after None fua old = old
 candidates_after (Some value) true old = value ∷ []
@@ -49,8 +49,8 @@ cache_after start (step ∷ past) = after_step step (cache_after start past)
 abbrev pub MayLeave : Cache → Content → Type 0
 MayLeave cache left = (sector : ℕ) → Contains (cache.may sector) (left sector)
 
--- A crash during a step may leave this content. During a write or discard it is a content that it
--- could leave before, patched; during a flush, one that it could leave before.
+-- A crash during the step may leave the content. During a write or discard, this is a content that
+-- a crash could leave before, patched. During a flush, it is one that a crash could leave before.
 abbrev pub LeftDuring : Step → Cache → Content → Type 0
 LeftDuring (Puts patch fua) cache = AfterPatch patch (MayLeave cache)
 LeftDuring Flushes cache = MayLeave cache
@@ -81,14 +81,14 @@ view_of size start past = record {
 abbrev pub unsynced_at : Cache → ℕ → ℕ
 unsynced_at cache sector = if nat_lt 1 (length (cache.may sector)) then 1 else 0
 
--- the number of unsynced sectors below this one
+-- the number of unsynced sectors below the given sector
 abbrev pub unsynced_below : Cache → ℕ → ℕ
 unsynced_below cache zero = 0
 unsynced_below cache (suc sector) = unsynced_below cache sector + unsynced_at cache sector
 
--- The index of the candidate that a sector takes. The n-th unsynced sector takes the n-th pick,
--- modulo the number of its candidates. Without a pick it takes the durable value. A synced sector
--- has only one candidate.
+-- The index of the candidate that a sector takes. The n-th unsynced sector takes the n-th pick
+-- modulo the number of its candidates. If there is no n-th pick, it takes 0, the durable value's
+-- index. A synced sector has only one candidate.
 abbrev pub choice_of : Cache → List ℕ → ℕ → ℕ
 choice_of cache picks sector =
     unwrap_or (slice_get picks (unsynced_below cache sector)) 0 % length (cache.may sector)

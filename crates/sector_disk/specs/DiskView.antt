@@ -38,8 +38,8 @@ flushed_after [] = Flushes ∷ []
 flushed_after (Flushes ∷ past) = Flushes ∷ past
 flushed_after (Puts patch fua ∷ past) = Flushes ∷ Puts patch fua ∷ past
 
--- The result of a call that takes memory. Either it is Ok at the time `now`, and the call is done.
--- Or it is out of memory, and nothing is changed.
+-- The result of a call that takes memory. Either the result is an Ok with the time `now`, and
+-- `done` holds. Or an allocation failed, and `unchanged` holds.
 abbrev pub IsDoneOrRefused : ℕ → Result ℕ DevError → Type 0 → Type 0 → Type 0
 IsDoneOrRefused now (Ok end) done unchanged = (end ≡ now) × done
 IsDoneOrRefused now (Err Memory) done unchanged = unchanged

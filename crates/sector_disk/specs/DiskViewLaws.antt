@@ -16,7 +16,7 @@ use Rattle.sector_disk.specs.DiskView.{shown_of, start_of}
 use Rattle.sector_disk.specs.inside.Storage.{change_values, flushed_if, step_after, steps_of}
 use Rattle.sector_disk.specs.inside.Storage.{value_at, value_in, values_of}
 
--- each value of a call is a whole sector
+-- each value that a call puts has 512 bytes
 values-whole : (call : Call) → HasWholeValues (values_of call)
 values-whole call = at call.first call.change
   where
@@ -25,7 +25,7 @@ values-whole call = at call.first call.change
     at first (Image bytes) = writes-whole first bytes
     at first (Discard count) = discards-whole first count
 
--- Each value that a disk has in a sector is a whole sector.
+-- The value of a sector by the call at any index has 512 bytes.
 pub value_at-whole : (calls : List Call) (place sector : ℕ)
     → length (value_at calls place sector) ≡ 512
 value_at-whole calls place sector = at (slice_get calls place)
@@ -44,7 +44,7 @@ flushed-whole : (flushed : Bool) (past : List Step) → HasWholeSteps past
 flushed-whole true past whole = whole
 flushed-whole false past whole = whole
 
--- Each value that the steps of a disk's past put is a whole sector.
+-- Each value that the steps of a disk's past put has 512 bytes.
 steps-whole : (calls : List Call) (begun n : ℕ) → HasWholeSteps (steps_of calls begun n)
 steps-whole calls begun zero = tt
 steps-whole calls begun (suc n) = at (slice_get calls (begun + n)) (steps-whole calls begun n)

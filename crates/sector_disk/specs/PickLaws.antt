@@ -1,4 +1,4 @@
--- Laws of the picks of a crash: any picks leave a content that a crash may leave, and some picks
+-- Laws of the picks of a crash: all picks leave a content that a crash may leave, and some picks
 -- leave each such content.
 use Rattle.std.proofs.Common.{◌≡◌, ℕ, suc, zero, ◌+◌, ◌%◌, ◌<◌, true, false, Some, List, [], ◌∷◌}
 use Rattle.std.proofs.Common.{◌++◌, length, refl, ap, sym, ◌∙◌, inl, inr, arith, length-append}
@@ -13,7 +13,7 @@ use Rattle.bio.specs.PlaceLaws.{slice_get-within}
 use Rattle.sector_disk.specs.Candidates.{Cache, MayLeave, choice_of, left_by, unsynced_below}
 use Rattle.sector_disk.specs.CandidateLaws.{IsCurrent}
 
--- If an index is within a list, the element there is one of the list.
+-- If `k` is an index of the list, the list contains the element at `k`.
 at-contains : (xs : List (List ℕ)) (k : ℕ) → k < length xs
     → Contains xs (unwrap_or (slice_get xs k) [])
 at-contains xs k h =
@@ -26,7 +26,7 @@ at-contains xs k h =
           (unwrap_or (slice_get xs k) []) (there ∙ ap (λ (x : List ℕ). Some x) (sym same)),
     )
 
--- Whatever any picks leave, a crash may leave.
+-- A crash may leave the content that `picks` leave, whatever `picks` are.
 pub picks_leave_one : (cache : Cache) (picks : List ℕ) → IsCurrent cache
     → MayLeave cache (left_by cache picks)
 picks_leave_one cache picks current = λ sector.
@@ -35,7 +35,7 @@ picks_leave_one cache picks current = λ sector.
     at-contains (cache.may sector) (choice_of cache picks sector)
     (mod-lt (unwrap_or (slice_get picks (unsynced_below cache sector)) 0) some)
 
--- the picks by which each unsynced sector below a number takes the candidate at its `index`
+-- the picks by which each unsynced sector below a number takes its candidate at `index sector`
 abbrev picks_for : Cache → (ℕ → ℕ) → ℕ → List ℕ
 picks_for cache index zero = []
 picks_for cache index (suc sector) =
@@ -56,7 +56,7 @@ length-picks cache index (suc n) =
     one true = refl
     one false = refl
 
--- Each unsynced sector's pick is at the number of unsynced sectors below it.
+-- In the picks, the index of an unsynced sector's pick is the number of unsynced sectors below it.
 pick-there : (cache : Cache) (index : ℕ → ℕ) (n sector : ℕ) → sector < n
     → 1 < length (cache.may sector)
     → slice_get (picks_for cache index n) (unsynced_below cache sector) ≡ Some (index sector)
@@ -84,7 +84,7 @@ pick-there cache index (suc n) sector h many = elim (last_or_below sector n h) [
       ∙ earlier
 ]
 
--- With these picks, each sector takes the candidate at its `index`.
+-- With the picks of `picks_for`, each sector below `n` takes its candidate at `index sector`.
 choice-there : (cache : Cache) (index : ℕ → ℕ) (n sector : ℕ) → sector < n
     → index sector < length (cache.may sector)
     → choice_of cache (picks_for cache index n) sector ≡ index sector
@@ -101,7 +101,7 @@ choice-there cache index n sector h within = elim (cases_lt 1 (length (cache.may
       omega arith
 ]
 
--- Whatever a crash may leave, some picks leave it in all sectors of the disk.
+-- For each content that a crash may leave, some picks leave it in all sectors of the disk.
 pub each_is_picked : (size : ℕ) (cache : Cache) (left : Content) → MayLeave cache left
     → (picks : List ℕ) × ((sector : ℕ) → sector < size → left_by cache picks sector ≡ left sector)
 each_is_picked size cache left may =

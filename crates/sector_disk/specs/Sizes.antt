@@ -9,7 +9,7 @@ pub record IsDiskSize (sectors : ℕ) : Type 0 where
   pub some : 0 < sectors
   pub few : sectors ≤ 1048576
 
--- an image of a disk may have `length` bytes: whole sectors, at least one, and at most a disk's
+-- an image of a disk may have `length` bytes: 1 to 1,048,576 whole sectors
 pub record IsImageSize (length : ℕ) : Type 0 where
   pub whole : length % 512 ≡ 0
   pub some : 0 < length

@@ -1,4 +1,5 @@
-//! The writes and discards that a disk keeps, and the sectors' values that are read from them.
+//! The writes and discards that a disk stores as its past, and reads of the values that they put in
+//! sectors.
 ghost use Rattle.std.specs.Prelude.{true, ◌∷◌, ◌++◌, ◌≡◌, ◌%◌, ◌*◌, ◌+◌, ◌/◌, ◌≤◌, IfOk};
 ghost use Rattle.std.specs.Prelude.{None, OnErr, OnOk, Some, [], drop, length};
 ghost use Rattle.std.specs.Prelude.{replicate, slice_get, take, unwrap_or};
@@ -42,16 +43,16 @@ impl Change {
     }
 }
 
-/// A write or a discard that a disk keeps. A disk keeps all its calls, so a call is small.
+/// A write or a discard in a disk's past. A disk stores all its calls, so a call is small.
 #[derive(Debug, Drop)]
 pub struct Call {
-    /// The first sector of the call. It fits, since a disk has less than 2^32 sectors.
+    /// The first sector of the call. A disk has less than 2^32 sectors, so 32 bits suffice.
     pub first: u32,
     pub fua: bool,
-    /// Whether a flush came between the previous call and this one.
+    /// Whether a flush came between the previous call and this call.
     pub after_flush: bool,
     pub change: Change,
-    /// For each of the call's sectors, the index of the call that had put its value before.
+    /// For each of the call's sectors, the index of the call whose value the sector had before.
     pub before: Runs,
 }
 
@@ -84,6 +85,7 @@ fn read_image(image: &Image, first: u64, sector: u64, buffer: &mut [u8])
 }
 
 // Reads the value that the call put in the sector; zeroes if it put none.
+#[tactic(auto, using(crate::specs::inside::Storage::change_values, crate::proofs::SectorValues::discarded))]
 fn read_call(call: &Call, sector: u64, buffer: &mut [u8])
     requires { length buffer.old ≡ 512 }
     ensures { buffer.new ≡ value_in (Some call.now) sector }
@@ -95,7 +97,8 @@ fn read_call(call: &Call, sector: u64, buffer: &mut [u8])
     }
 }
 
-// Reads the value that the call at index `place` put in the sector; zeroes if there is none.
+// Reads the value that the call at index `place` put in the sector; zeroes if there is no such
+// value.
 fn read_place(calls: &[Call], place: usize, sector: u64, buffer: &mut [u8])
     requires { length buffer.old ≡ 512 }
     ensures { buffer.new ≡ value_at calls.now place sector }
@@ -106,14 +109,15 @@ fn read_place(calls: &[Call], place: usize, sector: u64, buffer: &mut [u8])
     }
 }
 
-// Returns the index of the sector's call; the first call's if the table is empty or shorter.
+// Returns the index that `places` has for the sector, or 0 if the table is too short.
 fn place_of(places: &[usize], sector: usize) -> usize
     ensures { result ≡ place_of places.now sector }
 {
     places.get(sector).copied().unwrap_or(0)
 }
 
-/// Reads whole sectors from `first` on. Each has the value of the call at its index in `places`.
+/// Reads whole sectors from `first` on. Each sector gets the value of the call whose index `places`
+/// has for it.
 pub fn read_places(calls: &[Call], places: &[usize], first: usize, buffer: &mut [u8])
     requires whole { length buffer.old % 512 ≡ 0 }
     requires within { first + length buffer.old / 512 ≤ 1048576 }
@@ -154,8 +158,8 @@ fn is_write_of(change: &Change, sectors: usize) -> bool
     }
 }
 
-// Puts the values of later calls into an image: for each sector whose newest call isn't the first
-// one. `later` are the calls after the first.
+// Puts the values of later calls into an image: for each sector whose index in `places` isn't 0.
+// `later` are the calls after the first.
 fn put_later(later: &[Call], places: &[usize], sectors: usize, image: &mut [u8])
     requires whole { length image.old ≡ 512 * sectors }
     requires few { sectors ≤ 1048576 }
@@ -175,7 +179,7 @@ fn put_later(later: &[Call], places: &[usize], sectors: usize, image: &mut [u8])
     }
 }
 
-// As above, for an image in a vector.
+// Does what `put_later` does to an image in a vector.
 fn put_in(later: &[Call], places: &[usize], sectors: usize, image: &mut Vec<u8>)
     requires whole { length image.old.items ≡ 512 * sectors }
     requires few { sectors ≤ 1048576 }
@@ -184,8 +188,9 @@ fn put_in(later: &[Call], places: &[usize], sectors: usize, image: &mut Vec<u8>)
     put_later(later, places, sectors, image);
 }
 
-/// Returns the bytes of all sectors, each with the value of its newest call. The first call is a
-/// write of all sectors: its bytes are reused for the result. Lack of memory is an error.
+/// Returns the bytes of all sectors, each with the value of the call whose index `places` has for
+/// it. The first call is a write of all sectors, and its bytes are reused for the result. Lack of
+/// memory is an error.
 pub fn take_image(
     alloc: Global,
     calls: &mut [Call],
@@ -207,7 +212,7 @@ pub fn take_image(
     Ok(Vec::new(alloc))
 }
 
-/// Copies the entries of `count` sectors from `first` on. Lack of memory is an error.
+/// Copies the table's entries of `count` sectors from `first` on. Lack of memory is an error.
 pub fn copy_places(
     alloc: Global,
     places: &[usize],
@@ -220,7 +225,7 @@ pub fn copy_places(
     Runs::from_slice(alloc, &places[first..first + count])
 }
 
-// Sets the entries of `count` sectors from `first` on to `place`.
+// Sets the table's entries of `count` sectors from `first` on to `place`.
 fn fill_places(places: &mut Vec<usize>, first: usize, count: usize, place: usize)
     requires { first + count ≤ length places.old.items }
     ensures { IsFilled first count place places.old.items places.new.items }
@@ -228,7 +233,8 @@ fn fill_places(places: &mut Vec<usize>, first: usize, count: usize, place: usize
     places[first..first + count].fill(place);
 }
 
-/// Adds a call as the newest of its sectors. If an allocation fails, nothing is changed.
+/// Appends a call, and makes it the newest call of its sectors. If an allocation fails, nothing is
+/// changed.
 pub fn add_call(
     calls: &mut Vec<Call>,
     newest: &mut Vec<usize>,
@@ -249,15 +255,15 @@ pub fn add_call(
     Ok(())
 }
 
-/// Returns whether the call at index `place` isn't durable: it came after the last flush or crash,
-/// and without FUA.
+/// Returns whether the call at index `place` isn't durable: it has no FUA, and came after the last
+/// flush or crash.
 pub fn is_open(calls: &[Call], synced: usize, place: usize) -> bool
     ensures { result ≡ is_open calls.now synced place }
 {
     synced <= place && calls.get(place).is_some_and(|call| !call.fua)
 }
 
-/// Returns the index of the call that had put the sector's value before the call at `place` did.
+/// Returns the index of the call whose value the sector had before the call at `place`.
 pub fn before(calls: &[Call], place: usize, sector: usize) -> usize
     ensures { result ≡ before_at calls.now place sector }
 {

@@ -1,4 +1,4 @@
-//! Finds the candidate of each sector that the picks of a crash name. `crash` calls `choose`.
+//! Finds, for each sector, the candidate that the picks of a crash name. `crash` calls `choose`.
 ghost use Rattle.std.specs.Prelude.{◌≡◌, ◌-◌, ◌%◌, ◌<◌, ◌≤◌, length, slice_get, true, unwrap_or, ℕ};
 ghost use Rattle.sector_disk.specs.Candidates.{Cache};
 ghost use Rattle.sector_disk.specs.inside.Choice.{AreChosen};
@@ -40,7 +40,7 @@ fn pick_at(picks: &[u64], place: usize) -> u64
     picks.get(place).copied().unwrap_or(0)
 }
 
-/// Sets, for each sector, the index of the call whose value the picks name.
+/// Sets each sector's entry in `chosen` to the index of the call whose value the picks name.
 pub fn choose(
     calls: &[Call],
     synced: usize,

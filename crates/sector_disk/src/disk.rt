@@ -1,4 +1,4 @@
-//! A disk in memory that keeps its past, so that contracts know exactly what a crash may leave.
+//! A disk in memory that stores its past, so that contracts know exactly what a crash may leave.
 ghost use Rattle.std.proofs.Props.{props};
 ghost use Rattle.std.specs.Prelude.{◌≤◌, length, vec_capacity};
 ghost use Rattle.sector_disk.specs.inside.Storage.{IsKept};
@@ -13,21 +13,21 @@ mod power;
 
 /// A disk in memory, of 1 to 1,048,576 sectors of 512 bytes, with a cache that `crash` loses.
 ///
-/// The disk keeps its past for as long as it lives. A call takes 64 bytes, and the bytes of a
-/// write, except those at its end that are all the same. If its sectors' previous writes differ, a
-/// call also takes 16 bytes for each run of sectors with the same previous write. From the first
-/// call on, the disk has a table of 8 bytes for each sector. It also has room for a second table,
-/// which the first crash fills.
+/// The disk stores each call for as long as the disk lives. A call takes 64 bytes, and a write also
+/// its bytes, except the repeated bytes at its end. If the previous calls of a call's sectors
+/// differ, each run of sectors with the same previous call takes 16 bytes more. From the first call
+/// on, the disk has a table of 8 bytes for each sector. It also has room for a second table, which
+/// the first crash fills.
 #[derive(Debug, Drop)]
 pub struct SectorDisk {
     alloc: Global,
     sectors: u64,
     // The writes and discards since the disk was made. The first one is the disk's first content.
     calls: Vec<Call>,
-    // For each sector, the index of the call that put its value. Empty before the second call: then
+    // For each sector, the index of the call whose value it has. Empty before the second call: then
     // each sector has the value of the first call.
     newest: Vec<usize>,
-    // For each sector, the index of the call that put its value before the past began, at the last
+    // For each sector, the index of the call whose value it had when the past began, at the last
     // crash. Empty before the first crash: then each sector has the value of the first call. It has
     // room for all sectors.
     base: Vec<usize>,

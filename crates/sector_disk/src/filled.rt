@@ -1,18 +1,18 @@
-//! Bytes whose last ones are often all the same, as in a sector. The first bytes are stored, and
-//! the repeated byte once.
+//! Bytes that often end with a repeated byte, as the data of a sector does. The repeated byte is
+//! stored once, and the bytes before it as they are.
 ghost use Rattle.std.specs.Prelude.{◌≡◌, ◌+◌, ◌++◌, ◌-◌, ◌<◌, ◌≤◌, IfOk, OnOk, drop, length, replicate, take};
 
 use std::alloc::{AllocError, Global};
 use std::marker::Model;
 
-/// A list of bytes. If the bytes at its end are all the same, they take no memory.
+/// A list of bytes. A repeated byte at its end takes no memory.
 #[derive(Debug, Drop)]
 pub struct FilledBytes {
-    // The first bytes.
+    // The bytes before the repeated byte.
     bytes: Vec<u8>,
-    // The number of the bytes that follow.
+    // How often the byte `fill` follows them.
     more: u32,
-    // The value of each byte that follows.
+    // The repeated byte.
     fill: u8,
 }
 
@@ -26,8 +26,8 @@ impl Model for FilledBytes {
     ghost invariant = { λ b. length b.bytes.items + b.more < 18446744073709551616 };
 }
 
-// Returns `end`, moved back over each group of N bytes before it that are all `fill`. From `end`
-// on, all bytes are `fill` already.
+// Moves `end` back while the N bytes before it are all `fill`, and returns it. From `end` on, all
+// bytes are `fill` already.
 fn without_groups<const N: usize>(bytes: &[u8], end: usize, fill: u8) -> usize
     requires some { 0 < N }
     requires within { end ≤ length bytes.now }
@@ -43,7 +43,7 @@ fn without_groups<const N: usize>(bytes: &[u8], end: usize, fill: u8) -> usize
     end
 }
 
-/// Returns an index from which on all bytes are `fill`, as low as possible.
+/// Returns the lowest index from which on all bytes are `fill`.
 pub(crate) fn count_before(bytes: &[u8], fill: u8) -> usize
     ensures within { result ≤ length bytes.now }
     ensures filled { drop result bytes.now ≡ replicate (length bytes.now - result) fill }
@@ -55,8 +55,8 @@ pub(crate) fn count_before(bytes: &[u8], fill: u8) -> usize
     without_groups::<1>(bytes, end, fill)
 }
 
-// Splits bytes of which those from `end` on are all `fill`: returns the number of bytes to store,
-// and how often `fill` follows. If that count doesn't fit, all bytes are stored.
+// Returns how many bytes to store, and how often `fill` follows them. The bytes from `end` on are
+// all `fill`; if their count doesn't fit in 32 bits, all bytes are stored.
 fn split_counts(bytes: &[u8], end: usize, fill: u8) -> (usize, u32)
     requires within { end ≤ length bytes.now }
     requires filled { drop end bytes.now ≡ replicate (length bytes.now - end) fill }
@@ -81,7 +81,7 @@ impl FilledBytes {
         }
     }
 
-    /// Makes the list of the bytes of a vector, which is kept. Takes no memory.
+    /// Makes the list of a vector's bytes, and stores the vector as it is. Takes no memory.
     pub fn from_vec(bytes: Vec<u8>) -> FilledBytes
         ensures { result ≡ bytes.items }
     {
@@ -92,7 +92,7 @@ impl FilledBytes {
         }
     }
 
-    /// Makes the list of the bytes of a slice. Takes memory for the bytes up to the last one that
+    /// Makes the list of a slice's bytes. Takes memory for the bytes up to the last one that
     /// differs from the byte at the end.
     ///
     /// # Errors
@@ -105,8 +105,8 @@ impl FilledBytes {
         FilledBytes::from_filled(alloc, bytes, count_before(bytes, fill), fill)
     }
 
-    /// Makes the list of the bytes of a slice, of which those from `end` on are all `fill`. Takes
-    /// memory for the bytes before `end`.
+    /// Makes the list of a slice's bytes; from `end` on, all of them are `fill`. Takes memory for
+    /// the bytes before `end`.
     ///
     /// # Errors
     ///
@@ -148,7 +148,8 @@ impl FilledBytes {
         rest.fill(self.fill);
     }
 
-    /// Appends the bytes to a vector. If an allocation fails, it may have a prefix of them.
+    /// Appends the bytes to a vector. If an allocation fails, a prefix of the bytes may be
+    /// appended.
     ///
     /// # Errors
     ///
@@ -161,7 +162,7 @@ impl FilledBytes {
         to.resize(to.len() + self.more as usize, self.fill)
     }
 
-    /// Returns the bytes as a vector. Takes no memory if the list was made of a vector.
+    /// Returns the bytes as a vector. Takes no memory if `from_vec` made the list.
     ///
     /// # Errors
     ///

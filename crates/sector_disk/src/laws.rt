@@ -1,5 +1,5 @@
-//! Laws of crashes of a disk: a crash may leave exactly what picks can name, unsynced sectors may
-//! have old values, and a call that is interrupted tears.
+//! Laws of crashes of a disk. A crash may leave exactly what picks can name. Unsynced sectors may
+//! have old values, and a crash tears a running call.
 ghost use Rattle.std.specs.Prelude.{◌∷◌, ◌++◌, ◌≡◌, ◌+◌, ◌-◌, ◌/◌, ◌<◌, ◌≤◌, Bool, List, Ok, []};
 ghost use Rattle.std.specs.Prelude.{false, length, replicate, true, ℕ};
 ghost use Rattle.blockdev.specs.Calls.{Discards, Flushes, Writes};
@@ -8,21 +8,23 @@ ghost use Rattle.sector_disk.specs.declared.disk.SectorDisk.{SectorDisk};
 ghost use Rattle.sector_disk.specs.DiskView.{Does, cache_of, shown_of};
 ghost use Rattle.bio.specs.Content.{Content, Patched, discards, sector_of, writes};
 
-/// Whatever any picks leave, a crash may leave.
+/// A crash may leave the content that `picks` leave, whatever `picks` are.
+#[tactic(auto, using(crate::proofs::Lawful::picks_leave))]
 pub fn picks_leave_one()
     ensures { (disk : SectorDisk) (picks : List ℕ)
         → (shown_of disk).crash (left_by (cache_of disk) picks) }
 {}
 
-/// Whatever a crash may leave, some picks leave it in all sectors of the disk.
+/// For each content that a crash may leave, some picks leave it in all sectors of the disk.
+#[tactic(auto, using(crate::specs::PickLaws::each_is_picked, crate::specs::DiskView::cache_of))]
 pub fn each_crash_is_picked()
     ensures { (disk : SectorDisk) (left : Content) → (shown_of disk).crash left →
         (picks : List ℕ) × ((sector : ℕ) → sector < (shown_of disk).size →
         left_by (cache_of disk) picks sector ≡ left sector) }
 {}
 
-/// An unsynced sector may have an old value: whatever a crash could leave before a write without
-/// FUA or a discard, it may leave after it.
+/// An unsynced sector may have an old value. What a crash could leave before a write without FUA or
+/// a discard, it may also leave after the call.
 pub fn unsynced_sectors_may_be_old()
     ensures write { (old new : SectorDisk) (first : ℕ) (bytes : List ℕ) (now end : ℕ)
         (left : Content) →
@@ -33,8 +35,9 @@ pub fn unsynced_sectors_may_be_old()
         (shown_of old).crash left → (shown_of new).crash left }
 {}
 
-/// While a write (also one with FUA) or a discard runs, a crash may leave any part of it: in each
-/// of its sectors the old value or the new one, over whatever a crash could leave before.
+/// While a write (also one with FUA) or a discard runs, a crash may leave any part of the call. The
+/// result is any content that a crash could leave before, with the call's values in any of their
+/// sectors.
 pub fn running_calls_tear()
     ensures write { (old new : SectorDisk) (first : ℕ) (bytes : List ℕ) (fua : Bool) (now end : ℕ)
         (before left : Content) →
@@ -47,8 +50,9 @@ pub fn running_calls_tear()
         (shown_of new).since (shown_of old).moment left }
 {}
 
-/// The candidates of a sector after a call that covers it. A write without FUA or a discard adds
-/// one. After a write with FUA, and after a flush, only the sector's value is left.
+/// A write without FUA or a discard adds its value to the candidates of each sector that it covers.
+/// A write with FUA makes its value the only candidate there. After a flush, each sector's only
+/// candidate is its value.
 pub fn calls_make_candidates()
     ensures plain { (old new : SectorDisk) (first : ℕ) (bytes : List ℕ) (now end sector : ℕ) →
         Does old (Writes first bytes false) now (Ok end) new →

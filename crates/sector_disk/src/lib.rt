@@ -1,8 +1,8 @@
-//! A disk in memory, whose crashes are known exactly.
+//! A disk in memory. Its contracts say exactly what a crash may leave.
 //!
-//! `SectorDisk` is a device that fails only if an allocation fails, and never lies. It keeps its
-//! past: its first content, and each write and discard since. So contracts know what a crash at any
-//! time may leave, and `crash` leaves exactly what its picks name (`specs/Candidates`).
+//! `SectorDisk` is a device that fails only if an allocation fails, and never lies. The disk stores
+//! its past: its first content, and each write and discard since. `crash` leaves exactly what its
+//! picks name (`specs/Candidates`).
 #![tactic(auto)]
 
 pub use disk::SectorDisk;

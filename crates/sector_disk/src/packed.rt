@@ -1,4 +1,5 @@
-//! Whole sectors, each stored without the bytes at its end that repeat the byte before them.
+//! Whole sectors, each stored without the bytes at the sector's end that repeat the byte before
+//! them.
 ghost use Rattle.std.specs.Prelude.{◌≡◌, ◌+◌, ◌++◌, ◌<◌, ◌≤◌, ◌%◌, IfOk, IsSome, OnOk, drop, length, take};
 ghost use Rattle.sector_disk.specs.inside.Packed.{ArePacked, part_at, refilled};
 
@@ -10,14 +11,13 @@ use std::marker::Model;
 // The size of a bound in bytes.
 const BOUND: usize = 4;
 
-/// The bytes of up to 128 whole sectors. The bytes at a sector's end that are all the same are
-/// stored as one byte.
+/// The bytes of up to 128 whole sectors. A repeated byte at a sector's end is stored once.
 #[derive(Debug, Drop)]
 pub struct PackedSectors {
-    // For each sector in turn, its bytes up to and including the first of those at its end that are
-    // all the same.
+    // For each sector in turn, its bytes up to and including the first of the equal bytes at its
+    // end.
     bytes: Vec<u8>,
-    // For each sector, the index in `bytes` of its first byte; then the index after the last byte.
+    // For each sector, the index in `bytes` of its first stored byte; then the length of `bytes`.
     bounds: Vec<u32>,
 }
 
@@ -33,7 +33,9 @@ impl Model for PackedSectors {
     ghost invariant = { λ s. ArePacked s.bytes.items s.bounds.items };
 }
 
-// Returns how many of a sector's first bytes to store. The last of them fills the rest.
+// Returns how many of a sector's first bytes to store. The last stored byte fills the rest of the
+// sector.
+#[tactic(auto, using(crate::proofs::PackedParts::refilled_held))]
 fn count_held(sector: &[u8]) -> usize
     requires { length sector.now ≡ 512 }
     ensures within { result ≤ 512 }
@@ -67,8 +69,8 @@ fn refill(part: &[u8], buffer: &mut [u8])
     rest.fill(last);
 }
 
-/// Returns the number of bytes to store if a slice is packed. Returns none if the slice isn't whole
-/// sectors, or if packing takes more than `most` bytes of memory.
+/// Returns how many bytes of a slice to store if it is packed. Returns none if the slice isn't
+/// whole sectors, or if packing takes more than `most` bytes of memory.
 pub fn packed_size(bytes: &[u8], most: usize) -> Option<usize>
     ensures { IsSome result → length bytes.now % 512 ≡ 0 }
 {
@@ -115,7 +117,7 @@ impl PackedSectors {
         })
     }
 
-    /// Returns the number of bytes: those of whole sectors.
+    /// Returns the number of bytes of all the sectors, unpacked.
     pub fn len(&self) -> usize
         ensures count { result ≡ length self.now }
         ensures whole { result % 512 ≡ 0 }
@@ -123,7 +125,7 @@ impl PackedSectors {
         (self.bounds.len() - 1) * SECTOR
     }
 
-    /// Reads the sector from byte `from` on.
+    /// Reads the sector that begins at byte `from`.
     pub fn read_sector(&self, from: usize, buffer: &mut [u8])
         requires sector { length buffer.old ≡ 512 }
         requires place { from % 512 ≡ 0 }
@@ -134,7 +136,8 @@ impl PackedSectors {
         refill(part, buffer);
     }
 
-    /// Appends the bytes to a vector. If an allocation fails, it may have a prefix of them.
+    /// Appends the unpacked bytes to a vector. If an allocation fails, a prefix of them may be
+    /// appended.
     ///
     /// # Errors
     ///

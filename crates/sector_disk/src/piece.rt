@@ -13,8 +13,8 @@ enum Held {
     Packed(PackedSectors),
 }
 
-/// A list of up to 65,536 bytes. The bytes at its end that are all the same are stored once. If it
-/// takes at most half of the memory, the same is done for each sector.
+/// A list of up to 65,536 bytes. A repeated byte at the end is stored once, or one for each sector
+/// if that at least halves the memory.
 #[derive(Debug, Drop)]
 pub struct Piece {
     held: Held,
@@ -49,7 +49,7 @@ impl Piece {
         Ok(Piece { held })
     }
 
-    /// Reads the sector from byte `from` on.
+    /// Reads the sector that begins at byte `from`.
     pub fn read_sector(&self, from: usize, buffer: &mut [u8])
         requires sector { length buffer.old ≡ 512 }
         requires place { from % 512 ≡ 0 }
@@ -62,7 +62,8 @@ impl Piece {
         }
     }
 
-    /// Appends the bytes to a vector. If an allocation fails, it may have a prefix of them.
+    /// Appends the bytes to a vector. If an allocation fails, a prefix of the bytes may be
+    /// appended.
     ///
     /// # Errors
     ///

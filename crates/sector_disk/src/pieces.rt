@@ -1,4 +1,4 @@
-//! A long list of bytes, in pieces whose repeated ends take no memory.
+//! A long list of bytes, in pieces. A repeated byte at the end of a piece takes no memory.
 ghost use Rattle.std.specs.Prelude.{◌≡◌, ◌<◌, ◌≤◌, ◌+◌, ◌++◌, ◌%◌, IfOk, OnErr, OnOk, [], drop, length};
 ghost use Rattle.std.specs.Prelude.{take};
 ghost use Rattle.sector_disk.specs.inside.Pieces.{AreWhole, joined};
@@ -10,7 +10,7 @@ use std::marker::Model;
 // The number of bytes of each piece but the last.
 const PIECE: usize = 65_536;
 
-// Reads the sector from byte `from` on of the joined pieces.
+// Reads the sector that begins at byte `from` of the joined pieces.
 fn read_piece(pieces: &[Piece], from: usize, buffer: &mut [u8])
     requires whole { AreWhole pieces.now }
     requires sector { length buffer.old ≡ 512 }
@@ -24,8 +24,8 @@ fn read_piece(pieces: &[Piece], from: usize, buffer: &mut [u8])
 }
 
 /// A list of bytes, such as the image of a disk, in pieces of 65,536 bytes; the last piece may have
-/// fewer. In a piece, the bytes at the end that are all the same are stored once. If it takes at
-/// most half of the memory, the same is done for each sector of the piece.
+/// fewer. A repeated byte at the end of a piece is stored once, or one for each sector if that at
+/// least halves the memory.
 #[derive(Debug, Drop)]
 pub struct Image {
     pieces: Vec<Piece>,
@@ -112,7 +112,7 @@ impl Image {
         self.count
     }
 
-    /// Appends the bytes of a slice as a piece.
+    /// Appends the bytes of `piece` as one piece.
     ///
     /// # Errors
     ///
@@ -130,7 +130,7 @@ impl Image {
         Ok(())
     }
 
-    /// Reads the sector from byte `from` on.
+    /// Reads the sector that begins at byte `from`.
     pub fn read_sector(&self, from: usize, buffer: &mut [u8])
         requires sector { length buffer.old ≡ 512 }
         requires place { from % 512 ≡ 0 }

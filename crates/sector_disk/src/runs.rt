@@ -24,7 +24,7 @@ pub struct Runs {
 enum Held {
     // One run: a number, and how often it repeats.
     One { count: u32, value: usize },
-    // Runs, one after another.
+    // The runs of the list, in order.
     More(Box<Vec<Run>>),
 }
 

@@ -17,8 +17,8 @@ use Rattle.bio.specs.Content.{Content}
 use Rattle.lock_state.specs.declared.note.Done.{Done}
 use Rattle.lock_state.specs.declared.note.Item.{Item}
 use Rattle.lock_state.specs.Comparison.{Receipt}
-use Rattle.lock_state.specs.Close.{IsOwn, IsShort}
-use Rattle.lock_state.specs.Comparison.{BeginsTaken, Fails, IsServed, Names}
+use Rattle.lock_state.specs.Close.{SeatMatches, LeftUnplaced}
+use Rattle.lock_state.specs.Comparison.{IsTakenPrefix, Fails, IsServed, Names}
 use Rattle.lock_state.specs.History.{Part, Queue, new_part}
 use Rattle.shared.specs.Answers.{Answered, Marked}
 use Rattle.shared.specs.Close.{Agrees, Differs, IfBusy, IsReceipt, LeavesLog}
@@ -48,16 +48,16 @@ module _ (queue : Queue) (placed : List Item) (settled : ℕ) (end : Option End)
     (seats : List Part) (receipts : List Receipt)
     (agrees : Agrees queue placed settled end calls seats receipts)
   where
-    other_seat : Fails (IsOwn queue end) seats → ⊥
+    other_seat : Fails (SeatMatches queue end) seats → ⊥
     other_seat (k, seat, there, fails) = fails (agrees.own k seat there)
 
     other_receipt : Fails (Names placed settled) receipts → ⊥
     other_receipt (k, receipt, there, fails) = fails (agrees.named k receipt there)
 
-    other_items : (BeginsTaken queue.core placed → ⊥) → ⊥
+    other_items : (IsTakenPrefix queue.core placed → ⊥) → ⊥
     other_items fails = fails agrees.begins
 
-    short_log : IsShort queue placed end → ⊥
+    short_log : LeftUnplaced queue placed end → ⊥
     short_log short = agrees.whole short
 
     other_calls : Fails (IsServed queue.core.events calls) queue.core.events → ⊥

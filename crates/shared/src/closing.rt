@@ -7,10 +7,10 @@ ghost use Rattle.bio.specs.Content.{Content};
 ghost use Rattle.refusals.specs.declared.end.End.{End as Cause};
 ghost use Rattle.refusals.specs.declared.end.End.TheVariants.{Full};
 ghost use Rattle.lock_state.specs.Calls.{Holds};
-ghost use Rattle.lock_state.specs.Close.{HasNoRoom, IsShort, StopsWithLog};
-ghost use Rattle.lock_state.specs.Comparison.{BeginsTaken, Each, Receipt as Naming};
+ghost use Rattle.lock_state.specs.Close.{HasNoRoom, LeftUnplaced, StopsWithLog};
+ghost use Rattle.lock_state.specs.Comparison.{IsTakenPrefix, Each, Receipt as Naming};
 ghost use Rattle.lock_state.specs.FirstStop.{HasStopCause};
-ghost use Rattle.lock_state.specs.History.{KeepsCause, Part, first_cause, named, owned};
+ghost use Rattle.lock_state.specs.History.{KeepsCause, Part, first_cause, named, recorded_count};
 ghost use Rattle.lock_state.specs.LegalHistory.{LegalHistory};
 ghost use Rattle.lock_state.specs.PlacedItems.{HasCause, LeavesPrefix, KeepsGround, Stay};
 ghost use Rattle.lock_state.specs.PlacedItems.{entries_in};
@@ -91,7 +91,7 @@ pub struct Open<D: BlockDev + Drop, L: BlockDev + Drop, R: Run + Names> {
 /// history. It has the parts of the recorder, without any further writes. It also has what was
 /// posted about the log, and everything that the close got.
 #[derive(Drop)]
-pub struct Strangers<D: Drop, L: Drop, R: Run + Names> {
+pub struct Mismatch<D: Drop, L: Drop, R: Run + Names> {
     pub closed: Closed<D, L>,
     pub posts: Posts<R>,
     /// Why the waiting threads were released, if they were.
@@ -119,7 +119,7 @@ impl<D: BlockDev + Drop, L: BlockDev + Drop, R: Run + Names> Shared<D, L, R> {
         seats: Vec<Seat<R>>,
         writer: WriterSeat<R>,
         receipts: Vec<Receipt<R>>,
-    ) -> Result<Ending<D, L, R>, Unclosed<Open<D, L, R>, Strangers<D, L, R>>>
+    ) -> Result<Ending<D, L, R>, Unclosed<Open<D, L, R>, Mismatch<D, L, R>>>
         ensures agrees { IfOk result
             (λ c. Agrees (record {
               core = c.closed.core.state;
@@ -134,7 +134,7 @@ impl<D: BlockDev + Drop, L: BlockDev + Drop, R: Run + Names> Shared<D, L, R> {
         ensures closed { IfOk result (λ c. has_no_close c.closed.core.state.events ≡ false) }
         ensures counts { IfOk result
             (λ c. length seats.items ≡ R.parts → 0 < R.parts
-            → named c.closed.by.items ≡ owned seats.items) }
+            → named c.closed.by.items ≡ recorded_count seats.items) }
         ensures receipts { IfOk result
             (λ c. Each (IsReceipt c.closed.core.state c.closed.settled) receipts.items) }
         ensures crash { IfOk result
@@ -230,7 +230,7 @@ impl<D: BlockDev + Drop, L: BlockDev + Drop, R: Run + Names> Shared<D, L, R> {
             (λ e. IfForeign e (λ f. Each (StatusHasCause f.closed.store_end f.released) f.posts)) }
         ensures foreign_counts { IfErr result (λ e. IfForeign e (λ f.
             length seats.items ≡ R.parts → 0 < R.parts
-            → named f.closed.by.items ≡ owned seats.items)) }
+            → named f.closed.by.items ≡ recorded_count seats.items)) }
         ensures foreign_back { IfErr result (λ e. IfForeign e (λ f.
             (f.seats.items ≡ seats.items) × (f.writer ≡ writer)
             × (f.receipts.items ≡ receipts.items))) }
@@ -283,7 +283,7 @@ impl<D: BlockDev + Drop, L: BlockDev + Drop, R: Run + Names> Shared<D, L, R> {
                 found,
             });
         }
-        Err(Unclosed::Foreign(Strangers {
+        Err(Unclosed::Foreign(Mismatch {
             closed: take_apart(queue, log, device),
             posts,
             released,
@@ -391,8 +391,8 @@ fn finish<D: BlockDev + Drop, L: BlockDev + Drop, R: Run>(
     device: DataState<D, R>,
 ) -> Closed<D, L>
     requires closed { has_no_close queue.core.events ≡ false }
-    requires begins { BeginsTaken queue.core log.placed }
-    requires whole { IsShort queue log.placed log.end → ⊥ }
+    requires begins { IsTakenPrefix queue.core log.placed }
+    requires whole { LeftUnplaced queue log.placed log.end → ⊥ }
     ensures agrees { (seats : List Part) (receipts : List Naming)
         → Agrees queue log.placed log.settled log.end device.calls seats receipts →
         Agrees (record { core = result.core.state; by = result.by.items; stop = result.stop })

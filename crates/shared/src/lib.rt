@@ -9,7 +9,7 @@
 
 pub use answer::{Answer, MarkAnswer, MarkRefusal};
 pub use board::{Names, StatusSeat};
-pub use closing::{Closed, Ending, Open, Strangers, Unclosed};
+pub use closing::{Closed, Ending, Mismatch, Open, Unclosed};
 pub use lock_state::{Done, Item, Receipt, Run, Seat};
 pub use posts::Posts;
 pub use seat::WriterSeat;

@@ -328,7 +328,7 @@ fn a_seat_writes_flushes_and_reads(rt: HostRuntime) -> Result<(), Fail> {
 }
 
 #[test]
-fn a_write_behind_a_stop_is_told_its_cause(rt: HostRuntime) -> Result<(), Fail> {
+fn a_write_after_a_stop_gets_its_cause(rt: HostRuntime) -> Result<(), Fail> {
     let alloc = rt.alloc();
     let unnamed = Unnamed::new(alloc, 1)?;
     assert!(rt; stopped::<Brand, HostRuntime>(&rt, alloc, unnamed)?);

@@ -12,7 +12,7 @@ use Rattle.bio.specs.declared.event.CoreEvent.{CoreEvent}
 use Rattle.bio.specs.PossibleLaws.{covered_value}
 use Rattle.world.specs.declared.step.Step.{Step}
 use Rattle.world.specs.declared.step.Step.TheVariants.{Submit, Land, Destage, End, Power}
-use Rattle.world.specs.Cells.{AllSteps, CellState, IsFresh, IsLike, IsRun, WorldState, empty_cell}
+use Rattle.world.specs.Cells.{AllSteps, CellState, IsFresh, IsSameMachine, IsRun, WorldState, empty_cell}
 use Rattle.world.specs.Cells.{landed_of, left_after, machine_of, settled_of}
 use Rattle.world.specs.Machine.{Machine, after, is_among, may_take, newest, start}
 use Rattle.world.specs.Runs.{durable, is_run, taken, values_of_id}
@@ -20,7 +20,7 @@ use Rattle.world.proofs.Sound.{IsSound, keeps, start_sound}
 use Rattle.world.proofs.Steps.{among_new, clash}
 
 -- machines that are alike are one
-like : (a b : Machine) → IsLike a b → a ≡ b
+like : (a b : Machine) → IsSameMachine a b → a ≡ b
 like a b same =
     ap (λ (landed : ℕ → List ℕ). record {
       landed = landed;

@@ -17,10 +17,10 @@ use Rattle.bio.specs.RequestLaws.{event_within, submits_within}
 use Rattle.judge.specs.declared.accounts.Account.{Account}
 use Rattle.judge.specs.Accounts.{IsAccount, is_held_from, last_below, place_at}
 use Rattle.judge.specs.Laws.{any_below-last, held-parts, held_somewhere, kept_within}
-use Rattle.judge.specs.Laws.{last_below-found, none_passes, stands_within}
+use Rattle.judge.specs.Laws.{last_below-found, none_passes, value-within}
 use Rattle.world.specs.declared.step.Step.{Step}
 use Rattle.world.specs.Runs.{Leaves, values_of_id}
-use Rattle.world.specs.inside.Plan.{AllEnd, IsChoice, is_upto, plan, sure_by}
+use Rattle.world.specs.inside.Plan.{EndsFit, IsChoice, is_upto, plan, sure_by}
 use Rattle.world.proofs.LastSteps.{plan_leaves}
 use Rattle.world.proofs.Steps.{clash}
 
@@ -34,7 +34,7 @@ each_within sectors events id lawful within =
 
 -- so no request of it ends past the device
 pub lawful_ends : (sectors : ℕ) (events : List CoreEvent) → is_lawful sectors events ≡ true
-    → sectors < 2 ^ 64 → AllEnd events
+    → sectors < 2 ^ 64 → EndsFit events
 lawful_ends sectors events lawful small = λ id bio is.
     let within =
     each_within sectors events id lawful
@@ -92,7 +92,7 @@ none_held sectors events first now account sector lawful possible told none =
             clash (covers_at sector (slice_get events from.0)) covers
             (event_within (slice_get events from.0) sectors sector
             (each_within sectors events from.0 lawful
-            (stands_within events sector from.0 (now sector) from.1)) past)
+            (value-within events sector from.0 (now sector) from.1)) past)
       ]
     ]
 

@@ -9,7 +9,7 @@ use Rattle.world.specs.declared.step.Step.{Step}
 use Rattle.world.specs.declared.step.Step.TheVariants.{Submit, Land, Destage, End, Power}
 use Rattle.world.specs.Cells.{CellState, machine_in}
 use Rattle.world.specs.Machine.{before_submit, may_succeed, may_take, settled_if_ended}
-use Rattle.world.specs.inside.StepTests.{end_settled, is_allowed, is_landed, is_settled, pends}
+use Rattle.world.specs.inside.StepTests.{end_settled, is_allowed, is_landed, is_settled, is_pending_in}
 use Rattle.world.specs.inside.StepTests.{succeeds}
 
 settled_is : (events : List CoreEvent) (cells : List CellState) (calls : List Step) (off : Bool)
@@ -49,5 +49,5 @@ allowed_is events cells calls off (Submit id) = refl
 allowed_is events cells calls off (Land id sector) = refl
 allowed_is events cells calls off (Destage sector) = refl
 allowed_is events cells calls off (End id ok) =
-    ap (λ b. pends calls id && (not ok || b)) (succeeds_is events cells calls off id)
+    ap (λ b. is_pending_in calls id && (not ok || b)) (succeeds_is events cells calls off id)
 allowed_is events cells calls off Power = refl

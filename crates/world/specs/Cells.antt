@@ -8,26 +8,26 @@ use Rattle.world.specs.declared.step.Step.TheVariants.{Destage}
 use Rattle.world.specs.Machine.{Machine, after, has_step, newest, start}
 use Rattle.world.specs.Runs.{durable, is_run, taken, values_of_id}
 
--- One sector. `landed` lists the requests that landed there, newest first; `settled` lists those
--- that had landed when the sector was last destaged.
+-- The cell of one sector. `landed` lists the requests that landed there, newest first. `settled`
+-- lists those that had landed when the sector was last destaged.
 pub record CellState : Type 0 where
   pub landed : List ℕ
   pub settled : List ℕ
 
--- a sector on which nothing landed
+-- the cell of a sector on which nothing landed
 abbrev pub empty_cell : CellState
 empty_cell = record { landed = []; settled = [] }
 
--- the sector after the request `id` landed there
+-- the cell after the request `id` landed in its sector
 abbrev pub landing : ℕ → CellState → CellState
 landing id cell = record cell { landed = id ∷ cell.landed }
 
--- a sector after it was destaged
+-- the cell after its sector was destaged
 abbrev pub settling : CellState → CellState
 settling cell = record cell { settled = cell.landed }
 
 -- The state of a `World`: a cell for each sector, the calls so far (newest first), whether power
--- has failed, and the bytes of the durable content.
+-- has failed, and the durable bytes.
 pub record WorldState : Type 0 where
   pub cells : List CellState
   pub calls : List Step
@@ -44,7 +44,7 @@ abbrev pub settled_of : Option CellState → List ℕ
 settled_of None = []
 settled_of (Some cell) = cell.settled
 
--- the machine with these cells, calls and power
+-- the machine with these cells and calls; power has failed if `off` is true
 abbrev pub machine_in : List CellState → List Step → Bool → Machine
 machine_in cells calls off = record {
   landed = λ sector. landed_of (slice_get cells sector);
@@ -64,19 +64,19 @@ pub record IsFresh (first : List ℕ) (world : WorldState) : Type 0 where
   pub off : world.off ≡ false
   pub image : world.image ≡ first
 
--- `a` and `b` have the same lists in each sector, the same calls, and the same power
-pub record IsLike (a b : Machine) : Type 0 where
+-- `a` and `b` have the same lists for each sector, the same calls, and the same `off`
+pub record IsSameMachine (a b : Machine) : Type 0 where
   pub landed : (sector : ℕ) → a.landed sector ≡ b.landed sector
   pub settled : (sector : ℕ) → a.settled sector ≡ b.settled sector
   pub calls : a.calls ≡ b.calls
   pub off : a.off ≡ b.off
 
--- `old`, with the patch's value (if it has one) in the sector `at` only
+-- `old`, except that the sector `at` has the patch's value, if there is one
 abbrev pub put_at : Patch → ℕ → Content → Content
 put_at patch at old sector = if sector == at then put patch old sector else old sector
 
--- The image's value of `sector` after the step. A destage gives its sector the value of the newest
--- request that landed there; no other step changes the image.
+-- The value of `sector` in the image after the step. A destage gives its sector the value of the
+-- newest request that landed there; no other step changes the image.
 abbrev pub left_after : List CoreEvent → Machine → Step → Content → Content
 left_after events m (Destage at) old sector =
     put_at (values_of_id events (newest (m.landed at))) at old sector
@@ -89,10 +89,11 @@ pub record IsPut (patch : Patch) (at : ℕ) (old new : List ℕ) : Type 0 where
       → sector_of new sector ≡ put_at patch at (sector_of old) sector
 
 -- `new` is `old` after it takes the step. The machine of `old` can take the step, and the machine
--- of `new` is the one after it. The image changes as `left_after` says, and keeps its size.
+-- of `new` is that machine after the step. The image changes as `left_after` says, and keeps its
+-- size.
 pub record Steps (events : List CoreEvent) (step : Step) (old new : WorldState) : Type 0 where
   pub may : has_step events (machine_of old) step ≡ true
-  pub after : IsLike (machine_of new) (after (machine_of old) step)
+  pub after : IsSameMachine (machine_of new) (after (machine_of old) step)
   pub left : (sector : ℕ) → sector < length old.cells → sector_of new.image sector
       ≡ left_after events (machine_of old) step (sector_of old.image) sector
   pub sectors : length new.cells ≡ length old.cells
@@ -104,8 +105,9 @@ AllSteps events [] old new = old ≡ new
 AllSteps events (step ∷ steps) old new =
     (mid : WorldState) × Steps events step old mid × AllSteps events steps mid new
 
--- `steps` is a run of the machine from its start, and `world` models the machine after it. The
--- image of `world` is the durable content then, if `first` was there before the run.
+-- `steps` is a run of the machine from its start, and `world` models the machine after it. If
+-- `first` was on the device before the run, the image of `world` is the durable content after the
+-- run.
 pub record IsRun (events : List CoreEvent) (first : List ℕ) (steps : List Step)
     (world : WorldState) : Type 0 where
   pub runs : is_run events start steps ≡ true

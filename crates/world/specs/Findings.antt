@@ -8,9 +8,9 @@ use Rattle.world.specs.declared.finding.Finding.{Finding}
 use Rattle.world.specs.declared.finding.Finding.TheVariants.{Run, RuledOut}
 use Rattle.world.specs.Runs.{Leaves}
 
--- What a finding means for an image `now` of `sectors` sectors, after the events, if `first` was
--- there before them. `Run`: this run of the machine fits the events and leaves `now`. `RuledOut`:
--- the verdict on `now` is this No.
+-- What a finding means for an image `now` of `sectors` sectors after the events, if `first` was on
+-- the device before the events. `Run`: the run fits the events and leaves `now`. `RuledOut`: the
+-- verdict on `now` is No with this sector and request.
 abbrev pub IsFinding : ℕ → List CoreEvent → Content → Content → Finding → Type 0
 IsFinding sectors events first now (Run run) = Leaves events first run.items now
 IsFinding sectors events first now (RuledOut sector by) =

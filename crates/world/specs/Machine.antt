@@ -1,6 +1,6 @@
--- A device with a volatile cache, as a machine that takes steps: a request lands in a sector, a
--- sector is destaged, a request ends, or power fails. A request's id is the index of the event that
--- submits it.
+-- A device with a volatile cache, as a machine that takes steps. A request is submitted, lands in a
+-- sector, or ends; a sector is destaged; or power fails. A request's id is the index of the event
+-- that submits it.
 use Rattle.std.specs.Prelude.{ℕ, ◌+◌, ◌==◌, Bool, true, false, not, ◌&&◌, ◌||◌, Option, Some, None}
 use Rattle.std.specs.Prelude.{is_some, List, [], ◌∷◌, slice_get, if◌then◌else◌}
 use Rattle.std.specs.List.{list_all, list_any}
@@ -30,7 +30,7 @@ start = record { landed = λ sector. []; settled = λ sector. []; calls = []; of
 abbrev pub with_sector : ℕ → List ℕ → (ℕ → List ℕ) → ℕ → List ℕ
 with_sector sector ids old other = if other == sector then ids else old other
 
--- `m` after it takes the step
+-- the machine `m` after the step
 abbrev pub after : Machine → Step → Machine
 after m (Submit id) = record m { calls = Submit id ∷ m.calls }
 after m (Land id sector) = record m { landed = with_sector sector (id ∷ m.landed sector) m.landed }
@@ -81,14 +81,14 @@ abbrev pub before_submit : ℕ → List Step → List Step
 before_submit id [] = []
 before_submit id (call ∷ calls) = if is_submit id call then calls else before_submit id calls
 
--- If the step is an end with success, its request is settled in each of its sectors.
+-- If the step is an end with success, the request that it ends passes `has_settled`.
 abbrev pub settled_if_ended : List CoreEvent → Machine → Step → Bool
 settled_if_ended events m (End id ok) = not ok || has_settled events m id
 settled_if_ended events m _ = true
 
--- The request `id` may end with success if it has landed on all its sectors. If it has FUA, each of
--- these must have been destaged after that. If it has a flush, each request that ended with success
--- before the flush's submission must be settled (`settled_if_ended`).
+-- The request `id` may end with success if it has landed on all its sectors. If it has FUA, it must
+-- also pass `has_settled`. If it has a flush, each request that ended with success before the
+-- submission of `id` must pass `has_settled`.
 abbrev pub may_succeed : List CoreEvent → Machine → ℕ → Bool
 may_succeed events m id =
     has_landed events m id
@@ -97,8 +97,8 @@ may_succeed events m id =
     || list_all (settled_if_ended events m) (before_submit id m.calls))
 
 -- The step may be taken, if power hasn't failed. Submit: the request wasn't submitted before. Land:
--- the request is pending, covers the sector, and hasn't landed there. Destage: some request landed
--- in the sector. End: the request is pending, and if the end is one with success, `may_succeed`
+-- the request is pending, covers the sector, and hasn't landed there yet. Destage: some request
+-- landed in the sector. End: the request is pending, and for an end with success `may_succeed`
 -- holds. Power: always.
 abbrev pub may_take : List CoreEvent → Machine → Step → Bool
 may_take events m (Submit id) =

@@ -9,7 +9,7 @@ use Rattle.world.specs.declared.step.Step.{Step}
 use Rattle.world.specs.declared.step.Step.TheVariants.{Submit, End}
 use Rattle.world.specs.Machine.{Machine, after, has_step, newest, start}
 
--- `m` after it takes the steps
+-- the machine `m` after the steps, one after another
 abbrev pub taken : Machine → List Step → Machine
 taken m [] = m
 taken m (step ∷ steps) = taken (after m step) steps
@@ -19,13 +19,14 @@ abbrev pub is_run : List CoreEvent → Machine → List Step → Bool
 is_run events m [] = true
 is_run events m (step ∷ steps) = has_step events m step && is_run events (after m step) steps
 
--- the step for the event at index `place`: its submission or end; none for another kind of event
+-- the step for the event at index `place`, if it is a submission or an end; no step for other
+-- events
 abbrev pub call_of : ℕ → Option CoreEvent → List Step
 call_of place (Some (core_events.Submit bio)) = Submit place ∷ []
 call_of place (Some (core_events.Complete id ok)) = End id ok ∷ []
 call_of place _ = []
 
--- the submissions and ends among the events before index `place`, newest first
+-- the steps for the submissions and ends among the events before index `place`, newest first
 abbrev pub calls_below : List CoreEvent → ℕ → List Step
 calls_below events zero = []
 calls_below events (suc place) = call_of place (slice_get events place) ++ calls_below events place
@@ -36,7 +37,7 @@ values_of_id events None = nothing
 values_of_id events (Some id) = values_at (slice_get events id)
 
 -- The durable content. Each sector has the value of the newest request that had landed when the
--- sector was last destaged. If there is none, the sector has its value in `first`.
+-- sector was last destaged. If no request had landed, the sector has its value in `first`.
 abbrev pub durable : List CoreEvent → Content → Machine → Content
 durable events first m sector = put (values_of_id events (newest (m.settled sector))) first sector
 

@@ -9,7 +9,7 @@ abbrev pub end_text : Bool → List ℕ
 end_text true = codes "ok"
 end_text false = codes "failed"
 
--- the step's name, then its id, its sector or its result, with spaces between them
+-- the step's name, then its id, sector and result, as far as it has them, with spaces between
 abbrev pub step_text : Step → List ℕ
 step_text (Submit id) = codes "submit " ++ decimal id
 step_text (Land id sector) = codes "land " ++ decimal id ++ codes " " ++ decimal sector

@@ -1,6 +1,7 @@
 //! Tests whether a `World` may take a step.
 //!
-//! The tests are those of the machine. They read the cells, and the calls so far, oldest first.
+//! The tests are those of the machine (`specs/Machine`). `cells` has one cell for each sector.
+//! `calls` are the submissions and ends so far, oldest first; contracts reverse them.
 ghost use Rattle.std.specs.Prelude.{◌≡◌, ◌+◌, ◌^◌, ◌<◌, Some, reverse, slice_get};
 ghost use Rattle.std.specs.List.{list_all, list_any};
 ghost use Rattle.bio.specs.declared.event.CoreEvent.TheVariants as core_events;
@@ -11,8 +12,8 @@ ghost use Rattle.world.specs.Cells.{landed_of, settled_of};
 ghost use Rattle.world.specs.Machine.{before_submit, is_among, is_end, is_submit, newest};
 ghost use Rattle.world.specs.inside.StepTests.{end_settled, is_allowed, is_in, is_landed};
 ghost use Rattle.world.specs.inside.StepTests.{is_settled};
-ghost use Rattle.world.specs.inside.StepTests.{pends, succeeds};
-ghost use Rattle.world.specs.inside.Plan.{AllEnd};
+ghost use Rattle.world.specs.inside.StepTests.{is_pending_in, succeeds};
+ghost use Rattle.world.specs.inside.Plan.{EndsFit};
 
 use crate::cell::Cell;
 use crate::step::Step;
@@ -20,19 +21,20 @@ use bio::{Bio, CoreEvent, Id};
 
 /// Returns whether the step may be taken, if power hasn't failed.
 pub fn is_allowed(cells: &[Cell], calls: &[Step], events: &[CoreEvent], step: &Step) -> bool
-    requires { AllEnd events.now }
+    requires { EndsFit events.now }
     ensures { result ≡ is_allowed events.now cells.now (reverse calls.now) step.now }
 {
     match step {
         Step::Submit(id) => is_request_at(events, id.place()) && !was_submitted(calls, id.place()),
         Step::Land(id, sector) => {
-            pends(calls, id.place())
+            is_pending_in(calls, id.place())
                 && covers_at(events, id.place(), *sector)
                 && !has_landed_at(cells, *sector as usize, id.place())
         }
         Step::Destage(sector) => newest_at(cells, *sector as usize).is_some(),
         Step::End(id, ok) => {
-            pends(calls, id.place()) && (!*ok || may_succeed(cells, calls, events, id.place()))
+            is_pending_in(calls, id.place())
+                && (!*ok || may_succeed(cells, calls, events, id.place()))
         }
         Step::Power => true,
     }
@@ -58,7 +60,7 @@ pub fn is_request(event: &CoreEvent) -> bool
     }
 }
 
-// Returns whether the call submits the request.
+// Returns whether the call submits the request `id`.
 fn is_submit(call: &Step, id: u64) -> bool
     ensures { result ≡ is_submit id call.now }
 {
@@ -68,7 +70,7 @@ fn is_submit(call: &Step, id: u64) -> bool
     }
 }
 
-// Returns whether the call ends the request.
+// Returns whether the call ends the request `id`.
 fn is_end(call: &Step, id: u64) -> bool
     ensures { result ≡ is_end id call.now }
 {
@@ -78,28 +80,28 @@ fn is_end(call: &Step, id: u64) -> bool
     }
 }
 
-// Returns whether some call submits the request.
+// Returns whether some call submits the request `id`.
 fn any_submit(calls: &[Step], id: u64) -> bool
     ensures { result ≡ list_any (is_submit id) calls.now }
 {
     calls.iter().any(|call| is_submit(call, id))
 }
 
-// Returns whether some call ends the request.
+// Returns whether some call ends the request `id`.
 fn any_end(calls: &[Step], id: u64) -> bool
     ensures { result ≡ list_any (is_end id) calls.now }
 {
     calls.iter().any(|call| is_end(call, id))
 }
 
-// Returns whether the request was submitted.
+// Returns whether the request was submitted. (The contract has `calls` newest first.)
 fn was_submitted(calls: &[Step], id: u64) -> bool
     ensures { result ≡ list_any (is_submit id) (reverse calls.now) }
 {
     any_submit(calls, id)
 }
 
-// Returns whether the request has ended.
+// Returns whether the request has ended. (The contract has `calls` newest first.)
 fn has_ended(calls: &[Step], id: u64) -> bool
     ensures { result ≡ list_any (is_end id) (reverse calls.now) }
 {
@@ -107,8 +109,8 @@ fn has_ended(calls: &[Step], id: u64) -> bool
 }
 
 // Returns whether the request was submitted and hasn't ended.
-fn pends(calls: &[Step], id: u64) -> bool
-    ensures { result ≡ pends (reverse calls.now) id }
+fn is_pending_in(calls: &[Step], id: u64) -> bool
+    ensures { result ≡ is_pending_in (reverse calls.now) id }
 {
     was_submitted(calls, id) && !has_ended(calls, id)
 }
@@ -207,7 +209,7 @@ fn has_settled(cells: &[Cell], bio: &Bio, id: u64) -> bool
 
 // Returns whether the request that the event submits has landed on each of its sectors.
 fn is_landed(cells: &[Cell], events: &[CoreEvent], event: &CoreEvent, id: u64) -> bool
-    requires within { AllEnd events.now }
+    requires within { EndsFit events.now }
     requires there { slice_get events.now id ≡ Some event.now }
     ensures { result ≡ is_landed cells.now id (Some event.now) }
 {
@@ -220,7 +222,7 @@ fn is_landed(cells: &[Cell], events: &[CoreEvent], event: &CoreEvent, id: u64) -
 
 // Returns whether the event's request is settled in each of its sectors.
 fn is_settled(cells: &[Cell], events: &[CoreEvent], event: &CoreEvent, id: u64) -> bool
-    requires within { AllEnd events.now }
+    requires within { EndsFit events.now }
     requires there { slice_get events.now id ≡ Some event.now }
     ensures { result ≡ is_settled cells.now id (Some event.now) }
 {
@@ -231,9 +233,10 @@ fn is_settled(cells: &[Cell], events: &[CoreEvent], event: &CoreEvent, id: u64) 
     }
 }
 
-// As above, for the event at index `id`; true if there is none.
+// Returns whether the request of the event at index `id` is settled in each of its sectors; true if
+// there is no such event.
 fn is_settled_at(cells: &[Cell], events: &[CoreEvent], id: u64) -> bool
-    requires { AllEnd events.now }
+    requires { EndsFit events.now }
     ensures { result ≡ is_settled cells.now id (slice_get events.now id) }
 {
     match events.get(id as usize) {
@@ -244,7 +247,7 @@ fn is_settled_at(cells: &[Cell], events: &[CoreEvent], id: u64) -> bool
 
 // Returns whether the call's request is settled; true if the call is no end with success.
 fn end_settled(cells: &[Cell], events: &[CoreEvent], call: &Step) -> bool
-    requires { AllEnd events.now }
+    requires { EndsFit events.now }
     ensures { result ≡ end_settled events.now cells.now call.now }
 {
     match call {
@@ -255,7 +258,7 @@ fn end_settled(cells: &[Cell], events: &[CoreEvent], call: &Step) -> bool
 
 // Returns whether each call passes `end_settled`.
 fn ends_settled(cells: &[Cell], events: &[CoreEvent], calls: &[Step]) -> bool
-    requires { AllEnd events.now }
+    requires { EndsFit events.now }
     ensures { result ≡ list_all (end_settled events.now cells.now) (reverse calls.now) }
 {
     for call in calls {
@@ -287,7 +290,7 @@ fn succeeds(
     event: &CoreEvent,
     id: u64,
 ) -> bool
-    requires within { AllEnd events.now }
+    requires within { EndsFit events.now }
     requires there { slice_get events.now id ≡ Some event.now }
     ensures { result ≡ succeeds events.now cells.now (reverse calls.now) id (Some event.now) }
 {
@@ -296,9 +299,10 @@ fn succeeds(
         && (!event.submits_flush() || ends_settled(cells, events, before_submit(calls, id)))
 }
 
-// As above, for the event at index `id`; true if there is none.
+// Returns whether the request of the event at index `id` may end with success; true if there is no
+// such event.
 fn may_succeed(cells: &[Cell], calls: &[Step], events: &[CoreEvent], id: u64) -> bool
-    requires { AllEnd events.now }
+    requires { EndsFit events.now }
     ensures { result ≡ succeeds events.now cells.now (reverse calls.now) id
         (slice_get events.now id) }
 {

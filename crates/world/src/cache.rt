@@ -1,6 +1,7 @@
-//! A device with a cache that takes steps.
+//! A device with a cache (`World`), which takes steps.
 //!
-//! It keeps a cell for each sector, the calls so far (oldest first), and the durable bytes.
+//! A `World` has a cell for each sector, the submissions and ends so far (oldest first), and the
+//! bytes of the durable content.
 ghost use Rattle.std.specs.Prelude.{◌≡◌, ◌∷◌, ◌*◌, ◌/◌, ◌%◌, ◌<◌, Err, IfOk, OnErr, OnOk};
 ghost use Rattle.std.specs.Prelude.{false, true, length, replicate, get_or, reverse, slice_get};
 ghost use Rattle.std.specs.Prelude.{slice_set};
@@ -45,7 +46,7 @@ impl Model for World {
     ghost invariant = { λ world. length world.image.items ≡ 512 * length world.cells.items };
 }
 
-// Makes cells for `sectors` sectors on which nothing landed.
+// Makes a cell for each of `sectors` sectors on which nothing landed.
 fn empty_cells(alloc: Global, sectors: usize) -> Result<Vec<Cell>, AllocError>
     ensures { IfOk result (λ cells. cells.items ≡ replicate sectors empty_cell) }
 {
@@ -57,7 +58,7 @@ fn empty_cells(alloc: Global, sectors: usize) -> Result<Vec<Cell>, AllocError>
 }
 
 impl World {
-    /// Returns a device before its first step that holds the bytes `first`, whole sectors of 512.
+    /// Returns a device that holds the bytes `first`, whole sectors of 512, and has taken no step.
     /// Takes memory for the bytes and 40 bytes for each sector. Lack of memory is the only error.
     pub fn new(alloc: Global, first: &[u8]) -> Result<World, AllocError>
         requires { length first.now % 512 ≡ 0 }
@@ -72,9 +73,9 @@ impl World {
         })
     }
 
-    /// Takes a step. `events` is a list that a recorder of the device may have recorded
-    /// (`is_lawful`), the same for all steps. Returns `BadStep` exactly if the device can't take
-    /// the step (`has_step`). After an error nothing has changed.
+    /// Takes a step. A recorder of the device may have recorded `events` (`is_lawful`); all steps
+    /// get the same events. Returns `BadStep` exactly if the device can't take the step
+    /// (`has_step`). After an error nothing has changed.
     ///
     /// Takes 24 bytes of memory for a submission or an end, and 8 for a landing. Takes time
     /// proportional to the number of calls so far. An end with success takes time also for the
@@ -136,7 +137,7 @@ impl World {
         Ok(())
     }
 
-    // Records that a request lands in a sector.
+    // Records that the request `id` lands in the sector.
     fn land(&mut self, id: u64, sector: usize) -> Result<(), AllocError>
         requires { sector < length self.old.cells }
         ensures landed { OnOk result (self.new ≡ record self.old {

@@ -1,5 +1,5 @@
-//! The requests that landed in one sector, oldest first, and how many of them had landed when the
-//! sector was last destaged.
+//! A `Cell`: the requests that landed in one sector, oldest first, and how many of them had landed
+//! when the sector was last destaged.
 ghost use Rattle.std.specs.Prelude.{◌≡◌, ◌∷◌, ◌≤◌, ◌<◌, OnErr, OnOk, get_or, length, reverse};
 ghost use Rattle.std.specs.Prelude.{slice_set, take};
 ghost use Rattle.world.specs.Cells.{CellState, empty_cell, landing, settling};
@@ -9,6 +9,8 @@ use bio::Id;
 use std::alloc::{AllocError, Global};
 use std::marker::Model;
 
+/// The requests that landed in one sector, `ids`, of which the first `safe` had landed when the
+/// sector was last destaged. Contracts see both lists newest first.
 #[derive(Debug, Drop)]
 pub struct Cell {
     ids: Vec<u64>,
@@ -37,7 +39,7 @@ impl Cell {
         }
     }
 
-    /// Records that a request lands.
+    /// Records that the request `id` lands in the sector.
     pub fn land(&mut self, id: u64) -> Result<(), AllocError>
         ensures landed { OnOk result
             (self.new ≡ record self.old { landed = id ∷ self.old.landed }) }
@@ -86,14 +88,14 @@ fn newest_of(ids: &[u64]) -> Option<Id>
     }
 }
 
-// Returns whether `id` is one of `ids`. The contract sees `ids` newest first.
+// Returns whether `id` is one of `ids`. `ids` are oldest first; the contract reverses them.
 fn is_among(ids: &[u64], id: u64) -> bool
     ensures { result ≡ is_among (reverse ids.now) id }
 {
     contains(ids, id)
 }
 
-// As above; the contract sees `ids` in their own order.
+// Returns whether `id` is one of `ids`. The contract doesn't reverse them.
 fn contains(ids: &[u64], id: u64) -> bool
     ensures { result ≡ is_among ids.now id }
 {

@@ -1,5 +1,5 @@
-//! The answer of `find` about an image: a run of the cache machine that leaves it, or what rules it
-//! out. `dmlw_commands` prints it.
+//! The answer of `find` about an image: a run of the cache machine that leaves the image, or what
+//! rules the image out. `dmlw_commands` prints it.
 use crate::step::Step;
 use bio::Id;
 

@@ -1,7 +1,8 @@
 //! The plan's steps for one request, sector by sector.
 //!
 //! If a request's value is wanted in a sector, the request lands there at its end, or after all
-//! events if it has no end. Else it lands there at its submission, if it ends with success.
+//! events if it has no end. Otherwise the request lands there at its submission, if it ends with
+//! success.
 ghost use Rattle.std.specs.Prelude.{◌≡◌, ◌+◌, ◌^◌, ◌<◌, ◌++◌, OnOk, Some};
 ghost use Rattle.bio.specs.declared.event.CoreEvent.TheVariants as core_events;
 ghost use Rattle.bio.specs.Requests.{first_sector, sector_count};
@@ -24,7 +25,7 @@ fn is_wanted(wanted: Option<usize>, id: usize) -> bool
     }
 }
 
-// Returns whether there is a `last` that `id` isn't past.
+// Returns whether `id` is at most `last`; false if `last` is none.
 fn is_upto(id: usize, last: Option<usize>) -> bool
     ensures { result ≡ is_upto id last }
 {
@@ -34,7 +35,8 @@ fn is_upto(id: usize, last: Option<usize>) -> bool
     }
 }
 
-// If `lands`, adds a landing of the request on the sector; if also `settles`, a destage follows.
+// If `lands`, adds to `run` a landing of the request `id` in the sector. If also `settles`, adds a
+// destage of the sector after it.
 fn touch(
     run: &mut Vec<Step>,
     lands: bool,
@@ -54,7 +56,8 @@ fn touch(
     Ok(())
 }
 
-// Adds the steps of a request for one sector at its submission. It lands only if `has_to`.
+// Adds a request's steps for one sector at the request's submission. The request lands there if
+// `has_to`, unless it is the wanted request.
 fn lands_early(
     run: &mut Vec<Step>,
     account: &Account,
@@ -71,7 +74,8 @@ fn lands_early(
     touch(run, lands, settles, id, sector)
 }
 
-// Adds the steps of a request for one sector at its end.
+// Adds a request's steps for one sector at the request's end: it lands there if it is the wanted
+// request.
 fn lands_late(
     run: &mut Vec<Step>,
     account: &Account,
@@ -85,8 +89,8 @@ fn lands_late(
     touch(run, lands, true, id, sector)
 }
 
-/// Adds the steps of a request for all its sectors at its submission. It lands only if `has_to`: if
-/// it ends with success.
+/// Adds a request's steps for all its sectors at the request's submission. `has_to` says whether
+/// the request ends with success: only then does it land now.
 pub fn land_early(
     run: &mut Vec<Step>,
     account: &Account,
@@ -107,7 +111,7 @@ pub fn land_early(
     Ok(())
 }
 
-/// Adds the steps of a request for all its sectors at its end.
+/// Adds a request's steps for all its sectors at the request's end.
 pub fn land_late(
     run: &mut Vec<Step>,
     account: &Account,

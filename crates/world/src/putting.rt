@@ -1,4 +1,4 @@
-//! Puts the value that a request has for one sector in an image.
+//! Puts a request's value for one sector into an image.
 ghost use Rattle.std.specs.Prelude.{◌≡◌, ◌/◌, ◌<◌, Some, length, slice_get};
 ghost use Rattle.bio.specs.Possible.{values_at, values_of};
 ghost use Rattle.bio.specs.Content.{Patch, discards, writes};
@@ -8,8 +8,8 @@ ghost use Rattle.world.specs.Runs.{values_of_id};
 use bio::{Bio, CoreEvent, Id};
 use judge::{SECTOR, place_in, sector_bytes};
 
-/// Puts the value that the request `newest` has for the sector in the image. Does nothing if there
-/// is no request.
+/// Puts the value that the request `newest` has for the sector into the image, if there is such a
+/// request and value.
 pub fn put_newest(image: &mut [u8], events: &[CoreEvent], newest: Option<Id>, sector: usize)
     requires { sector < length image.old / 512 }
     ensures { IsPut (values_of_id events.now newest) sector image.old image.new }
@@ -20,7 +20,7 @@ pub fn put_newest(image: &mut [u8], events: &[CoreEvent], newest: Option<Id>, se
     }
 }
 
-// As above, for the event at index `id`.
+// Puts the value that the request of the event at index `id` has for the sector, if any.
 fn put_id(image: &mut [u8], events: &[CoreEvent], id: u64, sector: usize)
     requires { sector < length image.old / 512 }
     ensures { IsPut (values_at (slice_get events.now id)) sector image.old image.new }
@@ -31,7 +31,7 @@ fn put_id(image: &mut [u8], events: &[CoreEvent], id: u64, sector: usize)
     }
 }
 
-// Puts the value of the request that the event submits, if any.
+// Puts the value that the event's request has for the sector, if any.
 fn put_event(image: &mut [u8], event: &CoreEvent, sector: usize)
     requires { sector < length image.old / 512 }
     ensures { IsPut (values_at (Some event.now)) sector image.old image.new }
@@ -66,7 +66,7 @@ fn put_written(image: &mut [u8], first: u64, bytes: &[u8], sector: usize)
     }
 }
 
-// Puts zeroes, if a discard covers the sector.
+// Puts zeroes in the sector, if a discard of `count` sectors from `first` on covers it.
 fn put_zeroes(image: &mut [u8], first: u64, count: u64, sector: usize)
     requires { sector < length image.old / 512 }
     ensures { IsPut (discards first count) sector image.old image.new }
@@ -77,7 +77,7 @@ fn put_zeroes(image: &mut [u8], first: u64, count: u64, sector: usize)
     }
 }
 
-// Puts `part` in the sector.
+// Puts the bytes `part` in the sector.
 fn put_bytes(image: &mut [u8], sector: usize, part: &[u8])
     requires within { sector < length image.old / 512 }
     requires part { length part.now ≡ 512 }

@@ -1,6 +1,7 @@
 //! Makes a run that leaves an image, from the judge's account of the image.
 //!
-//! The plan has steps for each event, then for each request that hasn't ended; at last power fails.
+//! The plan has steps for each event, then for each request that hasn't ended. Its last step is
+//! that power fails.
 ghost use Rattle.std.specs.Prelude.{◌≡◌, ℕ, ◌/◌, ◌%◌, ◌++◌, IfOk, MatchOption, OnOk, Some, length};
 ghost use Rattle.std.specs.Prelude.{slice_get, take, true};
 ghost use Rattle.bio.specs.Events.{end_of, is_open_at};
@@ -12,7 +13,7 @@ ghost use Rattle.bio.specs.Content.{sector_of};
 ghost use Rattle.bio.specs.Places.{collect};
 ghost use Rattle.world.specs.Findings.{IsFinding};
 ghost use Rattle.world.specs.Runs.{IsReachable, Leaves};
-ghost use Rattle.world.specs.inside.Plan.{AllEnd, by_sector, lands_late, plan, steps_left};
+ghost use Rattle.world.specs.inside.Plan.{EndsFit, by_sector, lands_late, plan, steps_left};
 ghost use Rattle.world.specs.inside.Plan.{steps_of, sure_by};
 
 use crate::allowed::is_request;
@@ -24,14 +25,14 @@ use judge::{Account, First, Verdict, beginning};
 use std::alloc::{AllocError, Global};
 
 /// Makes a machine run that fits the first `moment` events and leaves the image, if `first` was on
-/// the device before the first event. Returns none if there is no such run. `events` is a list that
-/// a recorder of the device may have recorded (`is_lawful`). A `moment` past the last event counts
-/// as all of them. The image has the device's length in bytes, whole sectors of 512.
+/// the device before the first event. Returns none if there is no such run. A recorder of the
+/// device may have recorded `events` (`is_lawful`). If `moment` is past the last event, it means
+/// all events. The image has the device's length in bytes, whole sectors of 512.
 ///
 /// Takes 32 bytes of memory for each sector, 16 for each event, and memory for the run's steps. A
 /// run has at most two steps for each sector of each request, one for each submission and end, and
-/// one for the power failure. Takes time proportional to the sum of these. Lack of memory is the
-/// only error.
+/// one for the power failure. Takes time proportional to all these numbers together. Lack of memory
+/// is the only error.
 pub fn reach(
     alloc: Global,
     events: &[CoreEvent],
@@ -54,8 +55,8 @@ pub fn reach(
     }
 }
 
-/// As `reach`, but if there is no such run, returns what rules the image out: the sector and
-/// request of the verdict of `could_hold`. Makes one account of the image for both.
+/// Makes a run as `reach` does. If there is no such run, returns the sector and the request that
+/// `could_hold` returns for the image. One account of the image serves both.
 pub fn find(
     alloc: Global,
     events: &[CoreEvent],
@@ -77,10 +78,10 @@ pub fn find(
     }
 }
 
-// Returns the run that the account's plan makes.
+// Returns the run of the plan that the account gives.
 fn run_of(alloc: Global, events: &[CoreEvent], account: &Account) -> Result<Vec<Step>, AllocError>
     requires ends { (id : ℕ) → place_at account.now.ends.items id ≡ end_of events.now id }
-    requires within { AllEnd events.now }
+    requires within { EndsFit events.now }
     ensures { IfOk result (λ run.
         run.items ≡ plan events.now (place_at account.now.held.items)
         (sure_by account.now.last.items)) }
@@ -95,7 +96,7 @@ fn run_of(alloc: Global, events: &[CoreEvent], account: &Account) -> Result<Vec<
 // Adds the plan's steps for all events.
 fn follow(run: &mut Vec<Step>, events: &[CoreEvent], account: &Account) -> Result<(), AllocError>
     requires ends { (id : ℕ) → place_at account.now.ends.items id ≡ end_of events.now id }
-    requires within { AllEnd events.now }
+    requires within { EndsFit events.now }
     ensures { OnOk result (run.new.items ≡ run.old.items ++ collect (λ place. steps_of events.now
         (place_at account.now.held.items) (sure_by account.now.last.items) place
         (slice_get events.now place)) (length events.now)) }
@@ -115,7 +116,7 @@ fn take_event(
     event: &CoreEvent,
 ) -> Result<(), AllocError>
     requires ends { (id : ℕ) → place_at account.now.ends.items id ≡ end_of events.now id }
-    requires within { AllEnd events.now }
+    requires within { EndsFit events.now }
     requires there { slice_get events.now place ≡ Some event.now }
     ensures { OnOk result (run.new.items ≡ run.old.items ++ steps_of events.now
         (place_at account.now.held.items) (sure_by account.now.last.items) place (Some event.now)) }
@@ -156,14 +157,14 @@ fn is_success_at(events: &[CoreEvent], place: usize) -> bool
     }
 }
 
-// Adds the plan's steps for the request `id` at its end.
+// Adds the plan's steps for the end of the request `id`.
 fn land_at(
     run: &mut Vec<Step>,
     events: &[CoreEvent],
     account: &Account,
     id: usize,
 ) -> Result<(), AllocError>
-    requires { AllEnd events.now }
+    requires { EndsFit events.now }
     ensures { OnOk result (run.new.items ≡ run.old.items
         ++ by_sector (lands_late (place_at account.now.held.items) id) (slice_get events.now id)) }
 {
@@ -173,7 +174,7 @@ fn land_at(
     }
 }
 
-// As above, for the event at index `id`.
+// Adds the plan's steps for the request `id`, which `event` submits, at its end.
 fn land_event(
     run: &mut Vec<Step>,
     events: &[CoreEvent],
@@ -181,7 +182,7 @@ fn land_event(
     id: usize,
     event: &CoreEvent,
 ) -> Result<(), AllocError>
-    requires within { AllEnd events.now }
+    requires within { EndsFit events.now }
     requires there { slice_get events.now id ≡ Some event.now }
     ensures { OnOk result (run.new.items ≡ run.old.items
         ++ by_sector (lands_late (place_at account.now.held.items) id) (Some event.now)) }
@@ -196,7 +197,7 @@ fn land_event(
 // Adds the plan's steps for all requests that haven't ended.
 fn finish(run: &mut Vec<Step>, events: &[CoreEvent], account: &Account) -> Result<(), AllocError>
     requires ends { (id : ℕ) → place_at account.now.ends.items id ≡ end_of events.now id }
-    requires within { AllEnd events.now }
+    requires within { EndsFit events.now }
     ensures { OnOk result (run.new.items ≡ run.old.items
         ++ collect (steps_left events.now (place_at account.now.held.items)) (length events.now)) }
 {
@@ -214,7 +215,7 @@ fn land_left(
     id: usize,
 ) -> Result<(), AllocError>
     requires ends { (id : ℕ) → place_at account.now.ends.items id ≡ end_of events.now id }
-    requires within { AllEnd events.now }
+    requires within { EndsFit events.now }
     ensures { OnOk result (run.new.items ≡ run.old.items
         ++ steps_left events.now (place_at account.now.held.items) id) }
 {

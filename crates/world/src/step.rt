@@ -5,9 +5,9 @@ ghost use Rattle.world.specs.Texts.{end_text, step_text};
 use bio::Id;
 use std::fmt;
 
-/// A step of a device with a cache. An id is the index of the submission in the event list; sectors
-/// are counted from 0. The text is `submit <id>`, `land <id> <sector>`, `destage <sector>`, `end
-/// <id> ok` or `end <id> failed`, or `power`.
+/// A step of a device with a cache. An id is the index of the request's submission in the event
+/// list; sectors are counted from 0. The text of a step is `submit <id>`, `land <id> <sector>`,
+/// `destage <sector>`, `end <id> ok`, `end <id> failed` or `power`.
 #[derive(Clone, Copy, Debug, PartialEq, Eq)]
 pub enum Step {
     /// The request is submitted.

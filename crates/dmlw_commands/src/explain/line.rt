@@ -2,42 +2,10 @@
 //! first word that doesn't fit, or what its place asks for.
 use crate::explain::places::write_place;
 use crate::explain::script_text::{Grammar, Numbered, is_space};
+use dmlw_script::{recorder_forms, seat_forms};
 use refusals::number_of;
 use std::fmt;
 use std::fmt::Write;
-
-// The lines that a script can have; angle brackets have the kind of a word, and square ones a word
-// that may be left out.
-const RECORDER_FORMS: [&str; 15] = [
-    "data <sectors>",
-    "log <sectors> [4096]",
-    "data-layer 0 <length> <target> ..",
-    "log-layer 0 <length> <target> ..",
-    "at <ms>",
-    "w <id> <first> <count> <byte> [flush] [fua] [meta]",
-    "f <id>",
-    "d <id> <first> <count>",
-    "c <id>",
-    "r <first> <count>",
-    "turn",
-    "mark <text>",
-    "message <disk> <layer> <text>",
-    "close",
-    "crash <pick> ..",
-];
-
-// The lines that a script of seats can have.
-const SEAT_FORMS: [&str; 9] = [
-    "data <sectors>",
-    "log <sectors> [4096]",
-    "seats <n>",
-    "data-layer 0 <length> <target> ..",
-    "log-layer 0 <length> <target> ..",
-    "s<k> w <first> <count> <byte> [flush] [fua] [meta]",
-    "s<k> f",
-    "s<k> d <first> <count>",
-    "s<k> mark <text>",
-];
 
 // Stands for a seat in a form.
 const SEAT: &[u8] = b"s<k>";
@@ -67,7 +35,7 @@ pub(crate) fn explain_line<W: Write>(
     }
     match form {
         Some(form) => {
-            write_flaw(grammar, text, line, form, to)?;
+            write_bad_word(grammar, text, line, form, to)?;
             writeln!(to, "  the form of the line: {form}")
         }
         None => write_unknown(grammar, line.text, to),
@@ -118,8 +86,8 @@ pub(crate) fn write_forms<W: Write>(grammar: Grammar, to: &mut W) -> fmt::Result
 
 fn forms_of(grammar: Grammar) -> &'static [&'static str] {
     match grammar {
-        Grammar::Recorder => &RECORDER_FORMS,
-        Grammar::Seats => &SEAT_FORMS,
+        Grammar::Recorder => recorder_forms(),
+        Grammar::Seats => seat_forms(),
     }
 }
 
@@ -206,7 +174,7 @@ fn begins_as(form: &[u8], line: &[u8]) -> bool {
 
 // Writes which word of a line is the first that doesn't fit a form. If all fit, writes what its
 // place asks for.
-fn write_flaw<W: Write>(
+fn write_bad_word<W: Write>(
     grammar: Grammar,
     text: &[u8],
     line: Numbered,
@@ -214,17 +182,17 @@ fn write_flaw<W: Write>(
     to: &mut W,
 ) -> fmt::Result {
     match flaw_of(line.text, form.as_bytes()) {
-        Flaw::None => write_place(grammar, text, line, to),
-        Flaw::Missing(wanted) => {
+        BadWord::None => write_place(grammar, text, line, to),
+        BadWord::Missing(wanted) => {
             let kind = Shown(wanted);
             writeln!(to, "  the word {kind} is missing")
         }
-        Flaw::Misfit(wanted, word) => {
+        BadWord::Misfit(wanted, word) => {
             let (word, kind) = (Shown(word), Shown(wanted));
             let meaning = meaning_of(wanted);
             writeln!(to, "  the word `{word}` isn't {kind}: {meaning}")
         }
-        Flaw::TooMany(word) => {
+        BadWord::TooMany(word) => {
             let word = Shown(word);
             let order = if form.ends_with("]") {
                 ", or is out of order"
@@ -237,7 +205,7 @@ fn write_flaw<W: Write>(
 }
 
 // What of a line doesn't fit a form.
-enum Flaw<'a> {
+enum BadWord<'a> {
     None,
     // A word of this kind is missing.
     Missing(&'a [u8]),
@@ -248,7 +216,7 @@ enum Flaw<'a> {
 }
 
 // Returns the first word of a line that doesn't fit a form.
-fn flaw_of<'a>(line: &'a [u8], form: &'a [u8]) -> Flaw<'a> {
+fn flaw_of<'a>(line: &'a [u8], form: &'a [u8]) -> BadWord<'a> {
     if form.ends_with(PICK) {
         return pick_flaw(line);
     }
@@ -258,26 +226,26 @@ fn flaw_of<'a>(line: &'a [u8], form: &'a [u8]) -> Flaw<'a> {
         match next {
             // What follows is one text, or has a grammar of its own.
             Some(_) if wanted == b"<text>".as_slice() || wanted == b"0".as_slice() =>
-                return Flaw::None,
+                return BadWord::None,
             Some(word) if fits(wanted, word) => next = words.next(),
             _ if wanted.starts_with(b"[".as_slice()) => {}
-            Some(word) => return Flaw::Misfit(wanted, word),
-            None => return Flaw::Missing(wanted),
+            Some(word) => return BadWord::Misfit(wanted, word),
+            None => return BadWord::Missing(wanted),
         }
     }
     match next {
-        Some(word) => Flaw::TooMany(word),
-        None => Flaw::None,
+        Some(word) => BadWord::TooMany(word),
+        None => BadWord::None,
     }
 }
 // Returns the first pick of a crash that isn't a number.
-fn pick_flaw(line: &[u8]) -> Flaw<'_> {
+fn pick_flaw(line: &[u8]) -> BadWord<'_> {
     for word in line.split(is_space).skip(1) {
         if number_of(word).is_none() {
-            return Flaw::Misfit(b"<pick>", word);
+            return BadWord::Misfit(b"<pick>", word);
         }
     }
-    Flaw::None
+    BadWord::None
 }
 
 // Returns whether a word is of the kind that a form has in its place.

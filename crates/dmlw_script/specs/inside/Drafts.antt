@@ -65,13 +65,8 @@ as_refusal (Err bad) = Err (bad_bio_refusal bad)
 -- the test of a line that names no request, at this time: no `at` goes back, and sectors pass their
 -- test
 abbrev pub step_test : (bytes sectors moment : ℕ) → Step → Result (Unit {0}) Refusal
-step_test bytes sectors moment steps.Close = Ok tt
-step_test bytes sectors moment (steps.Read first count) =
-    as_refusal (step_answer bytes sectors (steps.Read first count))
-step_test bytes sectors moment steps.Turn = Ok tt
-step_test bytes sectors moment (steps.Mark text) = Ok tt
 step_test bytes sectors moment (steps.At later) = if nat_lt later moment then Err BadLine else Ok tt
-step_test bytes sectors moment (steps.Message over layer text) = Ok tt
+step_test bytes sectors moment step = as_refusal (step_answer bytes sectors step)
 
 -- an end, whose request must be open
 abbrev pub ended_next : Option ℕ → Body → Result Body Refusal

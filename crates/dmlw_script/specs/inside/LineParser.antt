@@ -85,20 +85,24 @@ discard_words words = do
   sectors ← sectors_of words
   Some (submits.Discard sectors.0 sectors.1)
 
--- the write with these words: an id, and the other words
-abbrev pub write_of : List ℕ → Option LineMeaning
-write_of words = do
-  from_first ← after_byte 32 words
-  name ← id_of_word (before_byte 32 words)
-  submission ← write_words from_first
-  Some (submit name submission)
+-- the request with this first word and these other words
+abbrev pub submission_with : List ℕ → List ℕ → Option Submission
+submission_with verb words =
+    if bytes_eq verb (codes "w") then write_words words
+    else if bytes_eq verb (codes "d") then discard_words words
+    else None
 
--- the discard with these words: an id, and the other words
-abbrev pub discard_of : List ℕ → Option LineMeaning
-discard_of words = do
-  from_first ← after_byte 32 words
+-- the request with this first word and these other words, if there are any
+abbrev pub submission_of : List ℕ → Option (List ℕ) → Option Submission
+submission_of verb (Some words) = submission_with verb words
+submission_of verb None = if bytes_eq verb (codes "f") then Some submits.Flush else None
+
+-- the line that submits a request, with this first word and these other words: an id, and those of
+-- the request
+abbrev pub submit_of : List ℕ → List ℕ → Option LineMeaning
+submit_of verb words = do
   name ← id_of_word (before_byte 32 words)
-  submission ← discard_words from_first
+  submission ← submission_of verb (after_byte 32 words)
   Some (submit name submission)
 
 -- the read with these words: the first sector and the number of sectors
@@ -117,16 +121,12 @@ lone_word verb =
 -- the meaning of a line of the body with this first word and these other words
 abbrev pub body_words : List ℕ → List ℕ → Option LineMeaning
 body_words verb words =
-    if bytes_eq verb (codes "w") then write_of words
-    else if bytes_eq verb (codes "f") then option_map (λ name. submit name submits.Flush)
-    (id_of_word words)
-    else if bytes_eq verb (codes "d") then discard_of words
-    else if bytes_eq verb (codes "c") then option_map
+    if bytes_eq verb (codes "c") then option_map
     (λ name. parsed_lines.Body (body_lines.Complete name)) (id_of_word words)
     else if bytes_eq verb (codes "r") then read_of words
     else if bytes_eq verb (codes "at") then option_map (λ moment. step (steps.At moment))
     (number_of words)
-    else None
+    else submit_of verb words
 
 -- the line of a layer over this disk, with this table line
 abbrev pub layer_of : DiskName → List ℕ → HeadLine

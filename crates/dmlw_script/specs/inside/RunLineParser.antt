@@ -4,8 +4,6 @@ use Rattle.std.specs.Prelude.{◌≡◌, ℕ, ◌==◌, List, [], ◌∷◌, Opt
 use Rattle.std.specs.Option.{option_map, option_or}
 use Rattle.std.specs.Str.{bytes_eq}
 use Rattle.refusals.specs.declared.refusal.Refusal.TheVariants.{BadLine}
-use Rattle.dmlw_script.specs.declared.command.Submission.{Submission}
-use Rattle.dmlw_script.specs.declared.command.Submission.TheVariants as submits
 use Rattle.dmlw_script.specs.declared.line_error.LineError.{LineError}
 use Rattle.dmlw_script.specs.declared.line_error.LineError.TheVariants as line_errors
 use Rattle.dmlw_script.specs.declared.run_line.RunLine.{RunLine}
@@ -13,20 +11,8 @@ use Rattle.dmlw_script.specs.declared.run_line.RunLine.TheVariants as run_lines
 use Rattle.dmlw_script.specs.declared.seat_call.Call.{Call}
 use Rattle.dmlw_script.specs.declared.seat_call.Call.TheVariants as calls
 use Rattle.dmlw_script.specs.Lines.{is_line_text}
-use Rattle.dmlw_script.specs.inside.LineParser.{◌>>=◌, discard_words, head_words, write_words}
+use Rattle.dmlw_script.specs.inside.LineParser.{◌>>=◌, head_words, submission_of}
 use Rattle.refusals.specs.Words.{after_byte, before_byte, number_of}
-
--- the request that a seat submits with this first word and these other words
-abbrev pub submission_with : List ℕ → List ℕ → Option Submission
-submission_with verb words =
-    if bytes_eq verb (codes "w") then write_words words
-    else if bytes_eq verb (codes "d") then discard_words words
-    else None
-
--- the request that a seat submits with this first word and these other words, if there are any
-abbrev pub submission_of : List ℕ → Option (List ℕ) → Option Submission
-submission_of verb (Some words) = submission_with verb words
-submission_of verb None = if bytes_eq verb (codes "f") then Some submits.Flush else None
 
 -- the mark with this text, if there is a space after the first word
 abbrev pub mark_call : Option (List ℕ) → Option Call

@@ -10,18 +10,18 @@ use Rattle.judge.specs.inside.Last.{is_below_last}
 use Rattle.judge.specs.declared.verdict.Verdict.{Verdict}
 use Rattle.judge.specs.declared.verdict.Verdict.TheVariants.{Yes, No}
 
--- The sector has the value of the event's request. That request didn't end, at index `end`, before
--- the submission of the request that `last` has for the sector.
-abbrev pub is_fit : Option CoreEvent → Option ℕ → List (Option ℕ) → Content → ℕ → Bool
-is_fit event end last now sector =
+-- The sector has the value of the event's request, and that request didn't end before the index
+-- that `last` has for the sector. `end` is the index of the end.
+abbrev pub has_value_of : Option CoreEvent → Option ℕ → List (Option ℕ) → Content → ℕ → Bool
+has_value_of event end last now sector =
     not (is_below_last end (place_at last sector)) && is_value (values_at event sector) (now sector)
 
--- `new` is `old`, but with `place` for the sectors from `from` to before `to` that pass `is_fit`
+-- `new` is `old`, but with `place` for the sectors from `from` to before `to` that pass `has_value_of`
 pub record AreFit (event : Option CoreEvent) (end : Option ℕ) (last : List (Option ℕ))
     (now : Content) (place from to : ℕ) (old new : List (Option ℕ)) : Type 0 where
   pub size : length new ≡ length old
   pub within : (sector : ℕ) → sector < length old → from ≤ sector → sector < to
-      → place_at new sector ≡ (if is_fit event end last now sector then Some place else place_at old
+      → place_at new sector ≡ (if has_value_of event end last now sector then Some place else place_at old
       sector)
   pub outside : (sector : ℕ) → (sector < from) ⊎ (to ≤ sector)
       → place_at new sector ≡ place_at old sector
@@ -33,27 +33,27 @@ pub record AreHeld (events : List CoreEvent) (now : Content) (sectors below : �
   pub each : (sector : ℕ) → sector < sectors
       → place_at held sector ≡ last_below (is_held_from events now sector) below
 
--- the sector has its first value, and `last` has no durable request over it
+-- `now` has the value of `first` in the sector, and `last` has no durable request over the sector
 abbrev pub is_at_first : List (Option ℕ) → Content → Content → ℕ → Bool
 is_at_first last first now sector =
     is_none (place_at last sector) && bytes_eq (now sector) (first sector)
 
 -- `held` has a request for the sector, or the sector passes `is_at_first`
-abbrev pub is_fine : List (Option ℕ) → List (Option ℕ) → Content → Content → ℕ → Bool
-is_fine held last first now sector =
+abbrev pub could_hold_value : List (Option ℕ) → List (Option ℕ) → Content → Content → ℕ → Bool
+could_hold_value held last first now sector =
     is_some (place_at held sector) || is_at_first last first now sector
 
 -- `sector` is the lowest that isn't fine, and `by` is the request that `last` has for it
 pub record IsLowest (held last : List (Option ℕ)) (first now : Content) (sectors sector : ℕ)
     (by : Option ℕ) : Type 0 where
   pub within : sector < sectors
-  pub fails : is_fine held last first now sector ≡ false
-  pub lowest : (lower : ℕ) → lower < sector → is_fine held last first now lower ≡ true
+  pub fails : could_hold_value held last first now sector ≡ false
+  pub lowest : (lower : ℕ) → lower < sector → could_hold_value held last first now lower ≡ true
   pub ruled_out : by ≡ place_at last sector
 
--- the verdict that follows from `held` and `last`: yes if each sector is fine, else no with the
--- lowest that isn't
+-- the verdict that follows from `held` and `last`: yes if each sector is fine, or else no with the
+-- lowest sector that isn't
 abbrev pub IsFound : List (Option ℕ) → List (Option ℕ) → Content → Content → ℕ → Verdict → Type 0
 IsFound held last first now sectors Yes =
-    (sector : ℕ) → sector < sectors → is_fine held last first now sector ≡ true
+    (sector : ℕ) → sector < sectors → could_hold_value held last first now sector ≡ true
 IsFound held last first now sectors (No sector by) = IsLowest held last first now sectors sector by

@@ -7,12 +7,12 @@ use Rattle.bio.specs.Events.{is_below, is_end_of, is_flush_submit}
 use Rattle.bio.specs.Possible.{covers_at, ended_ok, is_kept}
 use Rattle.judge.specs.Accounts.{last_below, place_at}
 
--- the index of the end of the request `id`, if it is below `below`
+-- the index of the end of the request `id`, if that index is below `below`
 abbrev pub end_below : List CoreEvent → ℕ → ℕ → Option ℕ
 end_below events id below =
     first_below (λ later. nat_lt id later && is_end_of id (slice_get events later)) below
 
--- `ends` has, for each request, the index of its end, if it is below `below`
+-- `ends` has, for each request, the index of the request's end, if that index is below `below`
 pub record AreEnds (events : List CoreEvent) (below : ℕ) (ends : List (Option ℕ)) : Type 0 where
   pub size : length ends ≡ length events
   pub each : (id : ℕ) → place_at ends id ≡ end_below events id below
@@ -33,7 +33,8 @@ pub record AreLastKept (events : List CoreEvent) (sectors below : ℕ)
   pub each : (sector : ℕ) → sector < sectors
       → place_at last sector ≡ last_below (is_kept events sector) below
 
--- of the first `sectors` sectors, the event puts a value in those from `from` to before `to` only
+-- among the first `sectors` sectors, the event puts values exactly in those from `from` to before
+-- `to`
 pub record AreCovered (event : Option CoreEvent) (sectors from to : ℕ) : Type 0 where
   pub order : from ≤ to
   pub within : to ≤ sectors

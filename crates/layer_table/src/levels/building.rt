@@ -12,14 +12,13 @@ ghost use Rattle.layer_table.specs.Slots.{device_of, has_layer, has_no_gap, slot
 ghost use Rattle.layer_table.specs.ThreeLevel.{three_shown};
 ghost use Rattle.layer_table.specs.TwoLevel.{two_shown};
 
-use crate::any_gate::AnyGate;
-use crate::layer_spec::{LayerSpec, Target};
+use crate::layer_spec::LayerSpec;
 use crate::levels::{One, Three, Two};
 use crate::slot::Slot;
 use bio::Ms;
 use blockdev::BlockDev;
 use dust_layer::Dust;
-use fault_layers::{Gated, Linear};
+use fault_layers::{Gate, Gated, Linear, Target};
 use sector_disk::SectorDisk;
 use std::alloc::Global;
 
@@ -123,6 +122,7 @@ impl Three {
 }
 
 // Puts the layer over the device, in a slot.
+#[tactic(auto, using(crate::specs::Ranges::has_cycle))]
 pub(crate) fn layer<D: BlockDev + Drop>(
     alloc: Global,
     lower: D,
@@ -140,6 +140,6 @@ pub(crate) fn layer<D: BlockDev + Drop>(
     let range = Linear::new(lower, spec.offset, spec.length);
     match spec.target {
         Target::Dust { block_bytes } => Slot::Dusted(Dust::new(alloc, range, block_bytes)),
-        target => Slot::Decided(Gated::under(range, AnyGate::of(spec.offset, target, load))),
+        target => Slot::Decided(Gated::under(range, Gate::new(target, load), ())),
     }
 }

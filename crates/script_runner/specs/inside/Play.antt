@@ -9,7 +9,7 @@ use Rattle.refusals.specs.declared.run_error.RunError.{RunError}
 use Rattle.refusals.specs.Errors.{IsFileError}
 use Rattle.script_runner.specs.declared.running.Running.{Running}
 use Rattle.script_runner.specs.NewRecorder.{IsNewOn}
-use Rattle.script_runner.specs.Lines.{Answering, is_ample}
+use Rattle.script_runner.specs.Lines.{Answering, had_memory}
 use Rattle.layer_table.specs.Layers.{on_stack}
 use Rattle.script_runner.specs.DiskRun.{IsStackOf}
 use Rattle.script_runner.specs.Runs.{EndsRun, RunsLines}
@@ -26,7 +26,7 @@ pub record StartsOn {D L : Type 0} {d : Ghosts D} {l : Ghosts L} (bytes : ℕ) (
 
 -- `run` is a script's run before its first line, at time 0. Its data device is a stack as
 -- `data_disk` asks. Its new log is on `log`, and has sectors of `bytes` bytes.
-pub record StartsBeside {L : Type 0} {l : Ghosts L} (bytes : ℕ) (data_disk : Disk) (log : L)
+pub record StartsOnStack {L : Type 0} {l : Ghosts L} (bytes : ℕ) (data_disk : Disk) (log : L)
     (run : Running Stack L on_stack l) : Type 0 where
   pub stack : IsStackOf data_disk run.disk
   pub begun : IsNewOn bytes log run.recorder
@@ -48,7 +48,7 @@ pub record IsPlayed {D L : Type 0} {d : Ghosts D} {l : Ghosts L} (m : Answering 
   pub printed : Appends before after text
   pub left : recorder ≡ last.recorder
   pub lied : lies ≡ (d.shown last.disk).lies
-  pub found : ample ≡ is_ample last
+  pub found : ample ≡ had_memory last
 
 -- Why playing `plan` fails; `plan` was parsed from `text`.
 -- - `file`: memory ran out, or the output can't be written.

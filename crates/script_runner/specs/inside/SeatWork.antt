@@ -10,7 +10,7 @@ use Rattle.lock_state.specs.Comparison.{Receipt}
 use Rattle.lock_state.specs.History.{Part, new_part}
 use Rattle.script_runner.specs.declared.tally.Outcome.{Outcome}
 use Rattle.script_runner.specs.declared.tally.Tally.{Tally}
-use Rattle.script_runner.specs.SeatRuns.{IsMade, IsSeatRun}
+use Rattle.script_runner.specs.SeatRuns.{MakesCall, IsSeatRun}
 use Rattle.script_runner.specs.Tallies.{CallResult, and_kept, no_calls}
 
 -- What contracts see of a seat that makes calls: its number, its part, the counts of its outcomes
@@ -41,7 +41,7 @@ pub record CanMake (bytes sectors : ℕ) (call : Call) : Type 0 where
 -- count the call yet.
 pub record Makes (call : Call) (old : Player) (outcome : Outcome) (new : Player) : Type 0 where
   pub came : CallResult
-  pub made : IsMade old.part call came new.part
+  pub made : MakesCall old.part call came new.part
   pub told : came.outcome ≡ outcome
   pub kept : new.receipts ≡ and_kept old.receipts came.receipt
   pub number : new.number ≡ old.number

@@ -19,12 +19,12 @@ abbrev pub is_image_in : Option Call → ℕ → Bool
 is_image_in None count = false
 is_image_in (Some call) count = (call.first == 0) && is_write_of call.change count
 
--- the value of `sector` by the call at index `place`: the image's value for the first call, else
--- that of a later call
+-- the sector's value by the call at index `place`: the image's value for the first call, or else
+-- the value of a later call
 abbrev pub left_at : List Call → List ℕ → ℕ → Content
 left_at later image zero sector = sector_of image sector
 left_at later image (suc place) sector = value_at later place sector
 
--- the content of which each sector has the value of its newest call, whose index `places` has
+-- the content in which each sector has the value of the call whose index `places` has for it
 abbrev pub put_over : List Call → List ℕ → List ℕ → Content
 put_over later places image sector = left_at later image (place_of places sector) sector

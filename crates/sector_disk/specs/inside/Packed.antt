@@ -1,32 +1,33 @@
--- Whole sectors, each stored without the bytes at its end that repeat the byte before them.
+-- Whole sectors, each stored without the bytes at the sector's end that repeat the byte before
+-- them.
 use Rattle.std.specs.Prelude.{◌≡◌, ℕ, ◌+◌, ◌-◌, ◌*◌, ◌<◌, ◌≤◌, List, ◌++◌, length, replicate}
 use Rattle.std.specs.Prelude.{slice_index, slice_range}
 use Rattle.bio.specs.Content.{AgreeBelow, Content, gather, sector_of}
 
--- the sector of which `part` has the first bytes; the last byte of `part` fills the rest
+-- the sector that begins with `part`; the last byte of `part` fills the rest
 abbrev pub refilled : List ℕ → List ℕ
 refilled part = part ++ replicate (512 - length part) (slice_index part (length part - 1))
 
--- the stored bytes of a sector: those between its bound and the next
+-- the stored bytes of a sector: the bytes between its bound and the next bound
 abbrev pub part_at : List ℕ → List ℕ → ℕ → List ℕ
 part_at bytes bounds sector =
     slice_range bytes (slice_index bounds sector) (slice_index bounds (sector + 1))
 
--- the sectors that are stored as `bytes` and `bounds`
+-- the sectors that `bytes` and `bounds` store
 abbrev pub packed : List ℕ → List ℕ → Content
 packed bytes bounds sector = refilled (part_at bytes bounds sector)
 
--- the bytes of all these sectors
+-- the bytes of all the sectors that `bytes` and `bounds` store
 abbrev pub unpacked : List ℕ → List ℕ → List ℕ
 unpacked bytes bounds = gather (packed bytes bounds) 0 (length bounds - 1)
 
--- from `from` to before `to` there are at most 512 of the bytes
+-- the range from `from` to before `to` has at most 512 bytes, and is within `bytes`
 pub record IsPart (bytes : List ℕ) (from to : ℕ) : Type 0 where
   pub order : from ≤ to
   pub few : to ≤ from + 512
   pub within : to ≤ length bytes
 
--- between each bound and the next there are at most 512 of the bytes
+-- the range from each bound to the next has at most 512 bytes, and is within `bytes`
 abbrev pub AreParts : List ℕ → List ℕ → Type 0
 AreParts bytes bounds =
     (sector : ℕ) → sector + 1 < length bounds

@@ -12,7 +12,7 @@ AreWhole [] = Unit {0}
 AreWhole (piece ∷ []) = (0 < length piece) × (length piece ≤ 65536)
 AreWhole (piece ∷ (next ∷ rest)) = (length piece ≡ 65536) × AreWhole (next ∷ rest)
 
--- the pieces are those of an image of `count` bytes
+-- the pieces hold an image of `count` bytes
 pub record IsHeldIn (pieces : List (List ℕ)) (count : ℕ) : Type 0 where
   pub whole : AreWhole pieces
   pub counted : count ≡ length (joined pieces)

@@ -9,7 +9,7 @@ abbrev pub unrolled : List Run → List ℕ
 unrolled [] = []
 unrolled (run ∷ rest) = replicate run.count run.value ++ unrolled rest
 
--- the numbers that are stored
+-- the numbers that a `Held` stores
 abbrev pub held_values : Held → List ℕ
 held_values (One count value) = replicate count value
 held_values (More runs) = unrolled runs.value.items

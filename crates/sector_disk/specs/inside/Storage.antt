@@ -28,7 +28,7 @@ value_in (Some call) sector = unwrap_or (values_of call sector) (replicate 512 0
 abbrev pub value_at : List Call → ℕ → Content
 value_at calls place = value_in (slice_get calls place)
 
--- the index of the call that put the sector's value before this call did; 0 if there is none
+-- the index of the call whose value the sector had before this call; 0 if there is none
 abbrev pub before_in : Option Call → ℕ → ℕ
 before_in None sector = 0
 before_in (Some call) sector = unwrap_or (slice_get call.before (sector - call.first)) 0
@@ -41,17 +41,17 @@ abbrev pub is_plain : Option Call → Bool
 is_plain None = false
 is_plain (Some call) = not call.fua
 
--- The call at index `place` isn't durable: it came after the last flush or crash, and without FUA.
+-- The call at index `place` isn't durable: it has no FUA, and came after the last flush or crash.
 -- `synced` is the number of calls at that flush or crash.
 abbrev pub is_open : List Call → ℕ → ℕ → Bool
 is_open calls synced place = nat_le synced place && is_plain (slice_get calls place)
 
--- the past, with a flush after it if the flag is true
+-- the past, followed by a flush if the flag is true; newest first
 abbrev pub flushed_if : Bool → List Step → List Step
 flushed_if true past = Flushes ∷ past
 flushed_if false past = past
 
--- the past, with the call's step after it, and before that step a flush if one came before the call
+-- the past, then a flush if one came before the call, then the call's step; newest first
 abbrev pub step_after : Option Call → List Step → List Step
 step_after None past = past
 step_after (Some call) past = Puts (values_of call) call.fua ∷ flushed_if call.after_flush past
@@ -61,7 +61,7 @@ abbrev pub steps_of : List Call → ℕ → ℕ → List Step
 steps_of calls begun zero = []
 steps_of calls begun (suc n) = step_after (slice_get calls (begun + n)) (steps_of calls begun n)
 
--- the past of a disk since its call at index `begun`
+-- the steps of a disk's calls from index `begun` on, followed by a flush if `flushed`; newest first
 abbrev pub past_of : List Call → ℕ → Bool → List Step
 past_of calls begun flushed = flushed_if flushed (steps_of calls begun (length calls - begun))
 
@@ -69,7 +69,7 @@ past_of calls begun flushed = flushed_if flushed (steps_of calls begun (length c
 abbrev pub place_of : List ℕ → ℕ → ℕ
 place_of places sector = unwrap_or (slice_get places sector) 0
 
--- the content of which each sector has the value of the call at its index
+-- the content in which each sector has the value of the call whose index `places` has for it
 abbrev pub content_at : List Call → List ℕ → Content
 content_at calls places sector = value_at calls (place_of places sector) sector
 
@@ -78,7 +78,7 @@ abbrev pub cache_of : List Call → List ℕ → ℕ → Bool → Cache
 cache_of calls base begun flushed =
     cache_after (content_at calls base) (past_of calls begun flushed)
 
--- the index of the sector's call that is `n` calls before the one at `place`
+-- the index of the sector's call that is `n` of its calls before the call at `place`
 abbrev pub walk : List Call → ℕ → ℕ → ℕ → ℕ
 walk calls sector zero place = place
 walk calls sector (suc n) place = walk calls sector n (before_at calls place sector)
@@ -89,7 +89,8 @@ back calls sector zero place = []
 back calls sector (suc n) place =
     back calls sector n (before_at calls place sector) ++ value_at calls place sector ∷ []
 
--- of the sector's last `n` calls up to the one at `place`, the oldest is durable, the others open
+-- the sector has `n` calls up to the call at `place`: the oldest of them is durable, the others are
+-- open
 abbrev pub is_chain : List Call → ℕ → ℕ → ℕ → ℕ → Bool
 is_chain calls synced sector zero place = false
 is_chain calls synced sector (suc zero) place =
@@ -107,17 +108,17 @@ pub record IsPlaced (calls : List Call) (synced sector place : ℕ) (now : List 
   pub chain : is_chain calls synced sector (length may) place ≡ true
   pub few : length may ≤ length calls
 
--- each of the first `sectors` sectors has its newest call at the index that `newest` has for it
+-- for each of the first `sectors` sectors, `newest` has the index of its newest call
 pub record ArePlaced (calls : List Call) (synced sectors : ℕ) (newest : List ℕ)
     (cache : Cache) : Type 0 where
   pub each : (sector : ℕ) → sector < sectors
       → IsPlaced calls synced sector (place_of newest sector) (cache.now sector) (cache.may sector)
 
--- each index of the table is that of a call
+-- each index in the table is the index of a call
 pub record AreWithin (calls : List Call) (places : List ℕ) : Type 0 where
   pub each : (sector : ℕ) → place_of places sector < length calls
 
--- a table of this length has an entry for each sector, or is empty
+-- a table of this length has an entry for each of the `sectors` sectors, or is empty
 abbrev pub is_table : ℕ → ℕ → Bool
 is_table sectors zero = true
 is_table sectors (suc n) = suc n == sectors

@@ -14,7 +14,7 @@ use blockdev::BlockDev;
 use std::alloc::AllocError;
 
 impl SectorDisk {
-    // Makes the table `newest`, and room for the table `base`, unless it is made already. If an
+    // Makes the table `newest`, and room for the table `base`, unless this was done before. If an
     // allocation fails, nothing is changed.
     fn open_tables(&mut self) -> Result<(), AllocError>
         ensures made { OnOk result (length self.new.newest.items ≡ self.new.sectors) }
@@ -29,7 +29,7 @@ impl SectorDisk {
         Ok(())
     }
 
-    // Does a write or a discard, and keeps it. If an allocation fails, nothing is changed.
+    // Does a write or a discard: adds it to the past. If an allocation fails, nothing is changed.
     fn put(&mut self, first: u64, change: Change, fua: bool) -> Result<(), AllocError>
         requires { first + count_of change ≤ self.old.sectors }
         ensures ok { OnOk result

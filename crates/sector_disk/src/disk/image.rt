@@ -13,7 +13,7 @@ use crate::pieces::Image;
 use crate::runs::Runs;
 use std::alloc::{AllocError, Global};
 
-// Makes a disk from one change, which covers it from sector 0 on.
+// Makes a disk whose first call is `change`, on all its sectors.
 fn make(alloc: Global, change: Change) -> Result<SectorDisk, AllocError>
     requires { IsDiskSize (count_of change) }
     ensures { IfOk result (λ disk.
@@ -51,7 +51,7 @@ fn read_all(calls: &[Call], places: &[usize], image: &mut Vec<u8>)
     read_places(calls, places, 0, image);
 }
 
-// Returns the bytes of all sectors of a disk, which is dropped. If the first call is a write of all
+// Returns the bytes of all sectors of a disk with these calls. If the first call is a write of all
 // sectors, its bytes are reused.
 fn give_all(
     alloc: Global,
@@ -116,9 +116,9 @@ impl SectorDisk {
         Ok(image)
     }
 
-    /// Returns the image of the disk, which is dropped. If the disk was made of bytes, they are
-    /// reused with the later writes put over them, which takes no memory. Otherwise out of memory
-    /// is an error.
+    /// Returns the image of the disk, and drops the disk. If `from_bytes` made the disk, its bytes
+    /// are reused with the later calls put over them; this takes no memory. Otherwise lack of
+    /// memory is an error.
     pub fn into_bytes(self) -> Result<Vec<u8>, AllocError>
         ensures content { IfOk result (λ image.
             image.items ≡ gather (shown_of self).content 0 (shown_of self).size) }

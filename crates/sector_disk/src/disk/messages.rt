@@ -1,4 +1,4 @@
-//! The disk under layers that take messages: it answers each message with `BadMessage`.
+//! Messages that reach the disk below all layers: each fails with `BadMessage`.
 ghost use Rattle.std.specs.Prelude.{◌≡◌, Err};
 ghost use Rattle.blockdev.specs.declared.message.MessageError.TheVariants.{BadMessage};
 

@@ -15,7 +15,7 @@ fn copy_over(places: &[usize], copy: &mut Vec<usize>)
     copy.copy_from_slice(places);
 }
 
-// Makes the table `count` entries long. The table has room for them, so this takes no memory.
+// Extends the table to `count` entries. It has room for them, so this takes no memory.
 fn widen(places: &mut Vec<usize>, count: usize)
     requires room { count ≤ vec_capacity places.old }
     requires few { length places.old.items ≤ count }
@@ -28,9 +28,9 @@ fn widen(places: &mut Vec<usize>, count: usize)
 
 impl SectorDisk {
     /// Loses power. The n-th unsynced sector, from the lowest, has k candidates: its durable value,
-    /// then the values that were written to it since, in order. It keeps candidate `picks[n]`
-    /// modulo k, or the durable value if there is no such pick. Then a new past begins, and all
-    /// values that are left are durable.
+    /// then the values that were written to it since, in order. The sector is left with candidate
+    /// `picks[n]` modulo k, or with its durable value if there is no such pick. Then a new past
+    /// begins, and all values that are left are durable.
     ///
     /// Takes no memory and frees none: the calls before the crash stay stored.
     pub fn crash(&mut self, picks: &[u64])

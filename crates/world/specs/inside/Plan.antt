@@ -15,32 +15,35 @@ use Rattle.judge.specs.Accounts.{place_at}
 use Rattle.world.specs.declared.step.Step.{Step}
 use Rattle.world.specs.declared.step.Step.TheVariants.{Submit, Land, Destage, End, Power}
 
--- `id` is the wanted request
+-- there is a wanted request, and it is `id`
 abbrev pub is_wanted : Option ℕ → ℕ → Bool
 is_wanted None id = false
 is_wanted (Some wanted) id = wanted == id
 
--- the steps of `id` for `sector`: if `lands`, it lands there; if also `settles`, a destage follows
+-- the steps of the request `id` for `sector`: if `lands`, it lands there; if also `settles`, a
+-- destage of the sector follows
 abbrev pub touch : Bool → Bool → ℕ → ℕ → List Step
 touch lands settles id sector =
     if lands then Land id sector ∷ (if settles then Destage sector ∷ [] else []) else []
 
--- the steps of `id` for `sector` at its submission: it lands there if it has to and isn't the
--- wanted request; then the sector is destaged if `sure` holds
+-- the steps of the request `id` for `sector` at the request's submission. If `has_to`, it lands
+-- there, unless it is the wanted request. After that, the sector is destaged if `sure` holds.
 abbrev pub lands_if : Bool → (ℕ → Option ℕ) → (ℕ → ℕ → Bool) → ℕ → ℕ → List Step
 lands_if has_to wanted sure id sector =
     touch (not (is_wanted (wanted sector) id) && has_to) (sure id sector) id sector
 
--- as above; a request has to land if it ends with success
+-- the steps of the request `id` for `sector` at the request's submission; it has to land if it ends
+-- with success
 abbrev pub lands_early : List CoreEvent → (ℕ → Option ℕ) → (ℕ → ℕ → Bool) → ℕ → ℕ → List Step
 lands_early events wanted sure id = lands_if (ended_ok events id) wanted sure id
 
--- the steps of `id` for `sector` at its end: it lands there if it is the wanted request, and the
--- sector is destaged
+-- the steps of the request `id` for `sector` at the request's end: the wanted request lands there,
+-- and the sector is destaged
 abbrev pub lands_late : (ℕ → Option ℕ) → ℕ → ℕ → List Step
 lands_late wanted id sector = touch (is_wanted (wanted sector) id) true id sector
 
--- `steps` of each sector of the request that the event submits; none if it submits no request
+-- the steps that `steps` gives for each sector of the event's request, in order; no steps if the
+-- event submits no request
 abbrev pub by_sector : (ℕ → List Step) → Option CoreEvent → List Step
 by_sector steps (Some (core_events.Submit bio)) =
     collect (λ place. steps (first_sector bio + place)) (sector_count bio)
@@ -60,24 +63,25 @@ abbrev pub steps_left : List CoreEvent → (ℕ → Option ℕ) → ℕ → List
 steps_left events wanted id =
     if is_open_at events id then by_sector (lands_late wanted id) (slice_get events id) else []
 
--- the whole plan: the steps for each event, then those for each open request, and then power fails
+-- the whole plan: the steps for each event, then the steps for each open request, and then Power
 abbrev pub plan : List CoreEvent → (ℕ → Option ℕ) → (ℕ → ℕ → Bool) → List Step
 plan events wanted sure =
     collect (λ place. steps_of events wanted sure place (slice_get events place)) (length events)
     ++ (collect (steps_left events wanted) (length events) ++ Power ∷ [])
 
--- there is a `last`, and `id` isn't past it
+-- `id` is at most `last`; false if `last` is none
 abbrev pub is_upto : ℕ → Option ℕ → Bool
 is_upto id None = false
 is_upto id (Some last) = nat_le id last
 
--- `sure`, from the last durable request that `last` has for each sector: `id` isn't past it
+-- the `sure` of the plan: `id` is at most the last durable request over the sector, which `last`
+-- has
 abbrev pub sure_by : List (Option ℕ) → ℕ → ℕ → Bool
 sure_by last id sector = is_upto id (place_at last sector)
 
--- the end of each submitted request, its first sector plus its count, is below 2^64
-abbrev pub AllEnd : List CoreEvent → Type 0
-AllEnd events =
+-- for each submitted request, the first sector plus the number of sectors is below 2^64
+abbrev pub EndsFit : List CoreEvent → Type 0
+EndsFit events =
     (id : ℕ) (bio : Bio) → slice_get events id ≡ Some (core_events.Submit bio)
     → first_sector bio + sector_count bio < 2 ^ 64
 

@@ -13,4 +13,4 @@ returns c =
     (sym (drop_all c.loop-pick.pick-index c.args.picks.now (omega arith)))
     ∙ c.loop-pick.invariant in
     all ∙ ap (λ (x : List ℕ). c.args.out.now.items ++ x)
-    (sym (picks_spelled (codes "crash") c.args.picks.now))
+    (ap (λ (x : List ℕ). codes "crash" ++ x) (sym (picks_spelled c.args.picks.now)))

@@ -1,6 +1,6 @@
 use Rattle.std.proofs.Common.{◌≡◌, ℕ, suc, ◌+◌, ◌/◌, length, ◌∙◌, subst, arith}
 use Rattle.bio.specs.Content.{sector_of}
-use Rattle.bio.specs.PlaceLaws.{stands_there}
+use Rattle.bio.specs.PlaceLaws.{slice_get-of_get_or}
 use Rattle.judge.specs.inside.Accounts.{AreHeld}
 use Rattle.judge.proofs.HeldValues.{held_next}
 use Rattle.judge.proofs.held.held_values.Goals as goal
@@ -17,6 +17,6 @@ loop-place-preserved c =
     subst Until next
     (held_next events event now sectors place c.end_at.result c.args.last.now
     c.loop-place.held.items c.hold_values.new.held.items
-    (stands_there events place event c.loop-place-test.true c.index-events-place.is)
+    (slice_get-of_get_or events place event c.loop-place-test.true c.index-events-place.is)
     (c.end_at.ensures ∙ c.requires.ends.each place)
     c.requires.last c.hold_values.ensures.size c.hold_values.ensures.held c.loop-place.invariant)

@@ -1,6 +1,6 @@
 use Rattle.std.proofs.Common.{◌≡◌, ℕ, suc, ◌+◌, sym, ◌∙◌, subst, arith}
 use Rattle.judge.specs.inside.Last.{AreLastKept}
-use Rattle.bio.specs.PlaceLaws.{stands_there}
+use Rattle.bio.specs.PlaceLaws.{slice_get-of_get_or}
 use Rattle.judge.proofs.Last.{last_kept_durable, last_kept_other}
 use Rattle.judge.proofs.kept.last_kept.Goals as goal
 use Rattle.judge.proofs.kept.last_kept.Goals.{then-is_durable, else-is_durable}
@@ -18,7 +18,7 @@ loop-place-preserved c =
           rw w.last-is
           (last_kept_durable events event c.args.sectors place c.loop-place.last.items
           w.note_kept.new.last.items
-          (stands_there events place event c.loop-place-test.true c.index-events-place.is)
+          (slice_get-of_get_or events place event c.loop-place-test.true c.index-events-place.is)
           (sym c.is_durable.ensures ∙ w.if-is_durable.true)
           w.note_kept.ensures.size w.note_kept.ensures.covered w.note_kept.ensures.other before)
       | else-is_durable w ↦

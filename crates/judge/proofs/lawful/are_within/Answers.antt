@@ -1,7 +1,7 @@
 use Rattle.std.proofs.Common.{ℕ, ◌+◌, length, ap, sym, ◌∙◌, arith}
 use Rattle.std.specs.Prelude.{slice_get}
 use Rattle.bio.specs.Lawful.{is_within}
-use Rattle.bio.specs.PlaceLaws.{all_next, not_all, stands_there}
+use Rattle.bio.specs.PlaceLaws.{all_next, not_all, slice_get-of_get_or}
 use Rattle.judge.proofs.lawful.are_within.Goals as goal
 
 pub returns-then-not-is_within : goal.returns-then-not-is_within
@@ -11,7 +11,7 @@ returns-then-not-is_within c =
     not_all (λ (k : ℕ). is_within c.args.sectors (slice_get events k))
     (length events) place c.loop-event-test.true
     (ap (is_within c.args.sectors)
-    (stands_there events place c.event-item.result c.loop-event-test.true c.event-item.is)
+    (slice_get-of_get_or events place c.event-item.result c.loop-event-test.true c.event-item.is)
     ∙ (sym c.is_within.ensures ∙ c.if-not-is_within.true))
 
 pub loop-event-preserved : goal.loop-event-preserved
@@ -21,5 +21,5 @@ loop-event-preserved c =
     all_next (λ (k : ℕ). is_within c.args.sectors (slice_get events k)) place (place + 1)
     (omega arith) c.loop-event.invariant
     (ap (is_within c.args.sectors)
-    (stands_there events place c.event-item.result c.loop-event-test.true c.event-item.is)
+    (slice_get-of_get_or events place c.event-item.result c.loop-event-test.true c.event-item.is)
     ∙ (sym c.is_within.ensures ∙ c.if-not-is_within.false))

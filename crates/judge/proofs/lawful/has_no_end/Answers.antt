@@ -3,7 +3,7 @@ use Rattle.std.proofs.lemmas.Bool.{lt-ltb, le-ltb}
 use Rattle.std.specs.Prelude.{nat_lt, slice_get}
 use Rattle.bio.specs.PlaceLaws.{none_first_below, none_next, not_none}
 use Rattle.bio.specs.Events.{is_end_of}
-use Rattle.bio.specs.PlaceLaws.{stands_there}
+use Rattle.bio.specs.PlaceLaws.{slice_get-of_get_or}
 use Rattle.judge.proofs.lawful.has_no_end.Goals as goal
 
 pub loop-place-init : goal.loop-place-init
@@ -22,7 +22,7 @@ returns-then-is_end_of c =
     not_none (λ (k : ℕ). nat_lt id k && is_end_of id (slice_get events k))
     (length events) place c.loop-place-test.true
     (ap (λ b. b && is_end_of id (slice_get events place)) (lt-ltb id place (omega arith))
-    ∙ (ap (is_end_of id) (stands_there events place c.index-events-place.result
+    ∙ (ap (is_end_of id) (slice_get-of_get_or events place c.index-events-place.result
     c.loop-place-test.true c.index-events-place.is)
     ∙ (sym c.is_end_of.ensures ∙ c.if-is_end_of.true)))
 
@@ -35,6 +35,6 @@ loop-place-preserved c =
     none_next (λ (k : ℕ). nat_lt id k && is_end_of id (slice_get events k)) place (place + 1)
     (omega arith) c.loop-place.invariant
     (ap (λ b. b && is_end_of id (slice_get events place)) (lt-ltb id place (omega arith))
-    ∙ (ap (is_end_of id) (stands_there events place c.index-events-place.result
+    ∙ (ap (is_end_of id) (slice_get-of_get_or events place c.index-events-place.result
     c.loop-place-test.true c.index-events-place.is)
     ∙ (sym c.is_end_of.ensures ∙ c.if-is_end_of.false)))

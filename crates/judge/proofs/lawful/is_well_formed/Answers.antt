@@ -1,7 +1,7 @@
 use Rattle.std.proofs.Common.{ℕ, ◌+◌, length, take, ap, sym, ◌∙◌, arith}
 use Rattle.std.specs.Prelude.{slice_get}
 use Rattle.bio.specs.Lawful.{can_follow}
-use Rattle.bio.specs.PlaceLaws.{all_next, not_all, stands_there}
+use Rattle.bio.specs.PlaceLaws.{all_next, not_all, slice_get-of_get_or}
 use Rattle.judge.proofs.lawful.is_well_formed.Goals as goal
 
 pub returns-then-not-can_follow : goal.returns-then-not-can_follow
@@ -11,7 +11,7 @@ returns-then-not-can_follow c =
     not_all (λ (k : ℕ). can_follow (take k events) (slice_get events k))
     (length events) place c.loop-place-test.true
     (ap (can_follow (take place events))
-    (stands_there events place c.index-events-place.result c.loop-place-test.true
+    (slice_get-of_get_or events place c.index-events-place.result c.loop-place-test.true
     c.index-events-place.is)
     ∙ (sym c.can_follow.ensures ∙ c.if-not-can_follow.true))
 
@@ -22,6 +22,6 @@ loop-place-preserved c =
     all_next (λ (k : ℕ). can_follow (take k events) (slice_get events k)) place (place + 1)
     (omega arith) c.loop-place.invariant
     (ap (can_follow (take place events))
-    (stands_there events place c.index-events-place.result c.loop-place-test.true
+    (slice_get-of_get_or events place c.index-events-place.result c.loop-place-test.true
     c.index-events-place.is)
     ∙ (sym c.can_follow.ensures ∙ c.if-not-can_follow.false))

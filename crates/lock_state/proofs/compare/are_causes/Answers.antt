@@ -8,5 +8,5 @@ pub returns : goal.returns
 returns c =
     subst (λ (b : Bool). MatchBool b (AreCauses c.args.told.now c.args.stop c.args.end)
     (AreCauses c.args.told.now c.args.stop c.args.end → ⊥)) (sym c.are_all.ensures)
-    (causes_all c.args.told.now c.args.stop c.args.end _ _ _ c.may_be_told-full.ensures
-    c.may_be_told-device.ensures c.may_be_told-memory.ensures)
+    (causes_all c.args.told.now c.args.stop c.args.end _ _ _ c.may_be_reported-full.ensures
+    c.may_be_reported-device.ensures c.may_be_reported-memory.ensures)

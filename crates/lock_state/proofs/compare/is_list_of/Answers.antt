@@ -1,6 +1,6 @@
 use Rattle.std.proofs.Common.{◌≡◌, ◌+◌, ◌<◌, length, suc, sym, subst, arith, None}
 use Rattle.std.proofs.lemmas.Option.{slice_get-get_or}
-use Rattle.bio.specs.PlaceLaws.{stands_there}
+use Rattle.bio.specs.PlaceLaws.{slice_get-of_get_or}
 use Rattle.bio.specs.declared.event.CoreEvent.TheVariants.{Close}
 use Rattle.lock_state.proofs.SeatList.{Matched, matched-other, matched-own, unmatched}
 use Rattle.lock_state.proofs.compare.is_list_of.Goals as goal
@@ -11,7 +11,7 @@ returns-then-not-is_at c =
     let place = c.loop-place.place in
     let within : place < length c.args.events.now = omega arith in
     let event =
-    stands_there c.args.events.now place c.index-events-place.result within
+    slice_get-of_get_or c.args.events.now place c.index-events-place.result within
     c.index-events-place.is in
     let name = slice_get-get_or c.args.by.now place None (omega (arith, c.requires)) in
     unmatched c.args.events.now c.args.by.now c.args.seat c.args.list.now place c.loop-place.found _
@@ -26,7 +26,7 @@ loop-place-preserved c =
     elim c.if-is_seat.branch [
       | then-is_seat+else-not-is_at w ↦
           let event =
-          stands_there c.args.events.now place w.index-events-place.result within
+          slice_get-of_get_or c.args.events.now place w.index-events-place.result within
           w.index-events-place.is in
           let more : c.if-is_seat.found ≡ suc c.loop-place.found = omega (arith, w.found-is) in
           matched-own c.args.events.now c.args.by.now c.args.seat c.args.list.now place _

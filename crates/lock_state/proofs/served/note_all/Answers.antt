@@ -1,5 +1,5 @@
 use Rattle.std.proofs.Common.{◌≡◌, ◌+◌, ◌<◌, suc, List, length, take, sym, ◌∙◌, subst, arith}
-use Rattle.bio.specs.PlaceLaws.{stands_there}
+use Rattle.bio.specs.PlaceLaws.{slice_get-of_get_or}
 use Rattle.lock_state.specs.declared.note.Done.{Done}
 use Rattle.lock_state.specs.Comparison.{AllNotesMatch}
 use Rattle.lock_state.proofs.Lists.{take_next}
@@ -13,7 +13,7 @@ loop-place-preserved c =
     let place = c.loop-place.place in
     let call = c.index-calls-place.result in
     let within : place < length calls = omega arith in
-    let there = stands_there calls place call within c.index-calls-place.is in
+    let there = slice_get-of_get_or calls place call within c.index-calls-place.is in
     let next : place + 1 ≡ suc place = omega arith in (
       subst (λ (cs : List Done). AllNotesMatch cs c.note.new.notes)
           (sym (take_next calls place (place + 1) call next there))

@@ -67,7 +67,7 @@ returns-clause-played g c =
       ran = ran.1;
       printed = ran.2;
       left = c.into_parts-recorder.ensures.recorder;
-      found = c.is_ample-ample.ensures;
+      found = c.had_memory-ample.ensures;
       lied =
           c.lies.ensures ∙ ap (λ (d : g.row.D.Denot).
           (g.D.BlockDev.shown d).lies) c.into_parts-recorder.ensures.device;

@@ -5,7 +5,7 @@ use Rattle.log_format.specs.LogOf.{status_of}
 use Rattle.log_store.specs.Fields.{store_of}
 use Rattle.log_store.specs.Store.{entries_of}
 use Rattle.pending.specs.CoreState.{IsSound}
-use Rattle.recorder.specs.CrashReplay.{ReplaysToWhatCouldBe}
+use Rattle.recorder.specs.CrashReplay.{ReplaysToPossible}
 use Rattle.recorder.specs.Fields.{core_of, recorder_view}
 use Rattle.layer_table.specs.Layers.{stack_shown}
 use Rattle.bio.specs.Content.{Content}
@@ -38,7 +38,7 @@ returns-clause-recorded g c =
     (record { entries = says.counts; end = says.end; none = says.none; last = says.last }) in
     let replays : (stack_shown last.recorder.store.device).lies ≡ 0 → (left : Content) →
     (stack_shown last.recorder.store.device).crash left →
-    ReplaysToWhatCouldBe (recorder_view last.recorder) (recorder_view last.recorder) left =
+    ReplaysToPossible (recorder_view last.recorder) (recorder_view last.recorder) left =
     λ honest left may. c.crashed_logs_replay_to_what_could_be.ensures.between last.recorder
     left honest may in
     let sound =

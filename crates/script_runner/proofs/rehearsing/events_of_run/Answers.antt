@@ -77,7 +77,7 @@ returns-clause-faults c =
             (sym played.found)
             ∙ ap (λ (es : List CoreEvent). c.in_ok-played.played.ample
             && not (list_any is_memory_stop es)) (sym events)
-            ∙ sym c.is_ample-ample.ensures ∙ is.1);
+            ∙ sym c.had_memory-ample.ensures ∙ is.1);
       },
       is.0,
     ))
@@ -86,7 +86,7 @@ pub returns-clause-rehearsed : goal.returns-clause-rehearsed
 returns-clause-rehearsed c =
     let played = c.in_ok-played.ensures.played in
     of_kept c.kept_if.result _ _ _ c.kept_if.ensures.kept (λ found.
-    let both = and_parts c.in_ok-played.played.ample _ (sym c.is_ample-ample.ensures ∙ found) in
+    let both = and_parts c.in_ok-played.played.ample _ (sym c.had_memory-ample.ensures ∙ found) in
     let all = and_parts (not played.last.short) _ (sym played.found ∙ both.0) in
     record {
       start = played.start;

@@ -1,5 +1,5 @@
 use Rattle.std.proofs.Common.{◌+◌, sym, ◌∙◌, arith}
-use Rattle.bio.specs.PlaceLaws.{stands_there}
+use Rattle.bio.specs.PlaceLaws.{slice_get-of_get_or}
 use Rattle.world.proofs.Lists.{before_here, before_other}
 use Rattle.world.proofs.allowed.before_submit.Goals as goal
 use Rattle.world.proofs.allowed.before_submit.Goals.{then-is_submit, else-is_submit}
@@ -9,7 +9,7 @@ loop-place-preserved c =
     let calls = c.args.calls.now in
     let place = c.loop-place.place in
     let call = c.index-calls-place.result in
-    let there = stands_there calls place call c.loop-place-test.true c.index-calls-place.is in
+    let there = slice_get-of_get_or calls place call c.loop-place-test.true c.index-calls-place.is in
     elim c.if-is_submit.branch [
       | then-is_submit w ↦
           rw w.end-is

@@ -1,7 +1,7 @@
 use Rattle.std.proofs.Common.{◌≡◌, ◌+◌, List, take, ap, sym, ◌∙◌, arith}
 use Rattle.std.proofs.lemmas.List.{take_all}
 use Rattle.std.specs.List.{list_all}
-use Rattle.bio.specs.PlaceLaws.{stands_there}
+use Rattle.bio.specs.PlaceLaws.{slice_get-of_get_or}
 use Rattle.world.specs.declared.step.Step.{Step}
 use Rattle.world.specs.inside.StepTests.{end_settled}
 use Rattle.world.proofs.Lists.{all_more, all_reverse, some_fails}
@@ -12,7 +12,7 @@ returns-then-not-end_settled c =
     let calls = c.args.calls.now in
     let test = end_settled c.args.events.now c.args.cells.now in
     let there =
-    stands_there calls c.loop-call.call-index c.call-item.result c.loop-call-test.true
+    slice_get-of_get_or calls c.loop-call.call-index c.call-item.result c.loop-call-test.true
     c.call-item.is in
     sym (all_reverse test calls
     ∙ some_fails test calls c.loop-call.call-index c.call-item.result there
@@ -23,7 +23,7 @@ loop-call-preserved c =
     let calls = c.args.calls.now in
     let test = end_settled c.args.events.now c.args.cells.now in
     let place = c.loop-call.call-index in
-    let there = stands_there calls place c.call-item.result c.loop-call-test.true c.call-item.is in
+    let there = slice_get-of_get_or calls place c.call-item.result c.loop-call-test.true c.call-item.is in
     all_more test calls place (place + 1) c.call-item.result (omega arith) there
     (sym c.end_settled.ensures ∙ c.if-not-end_settled.false) c.loop-call.invariant
 

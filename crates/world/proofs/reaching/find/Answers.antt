@@ -6,7 +6,7 @@ use Rattle.judge.specs.declared.verdict.Verdict.{Verdict}
 use Rattle.judge.specs.Accounts.{IsAccount, place_at}
 use Rattle.judge.specs.Firsts.{first_on}
 use Rattle.judge.specs.Verdicts.{IsVerdict}
-use Rattle.world.specs.inside.Plan.{AllEnd, plan, sure_by}
+use Rattle.world.specs.inside.Plan.{EndsFit, plan, sure_by}
 use Rattle.world.proofs.PossibleChoice.{account_leaves, lawful_ends}
 use Rattle.world.proofs.reaching.find.Goals as goal
 
@@ -15,7 +15,7 @@ run_of-requires-clause-within c =
     let events = c.args.events.now in
     let sectors = length c.args.image.now / 512 in
     let size = c.type_inv.image in
-    subst AllEnd (sym c.beginning-events.ensures)
+    subst EndsFit (sym c.beginning-events.ensures)
     (lawful_ends sectors (take c.args.moment events)
     (lawful-take sectors events c.args.moment c.requires.lawful) (omega arith))
 

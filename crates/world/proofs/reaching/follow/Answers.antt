@@ -1,6 +1,6 @@
 use Rattle.std.proofs.Common.{ℕ, ◌+◌, ◌++◌, Option, List, ap, sym, ◌∙◌, arith}
 use Rattle.std.specs.Prelude.{slice_get}
-use Rattle.bio.specs.PlaceLaws.{stands_there}
+use Rattle.bio.specs.PlaceLaws.{slice_get-of_get_or}
 use Rattle.bio.specs.declared.event.CoreEvent.{CoreEvent}
 use Rattle.judge.specs.Accounts.{place_at}
 use Rattle.world.specs.declared.step.Step.{Step}
@@ -21,5 +21,5 @@ loop-place-preserved c =
     (omega arith) c.loop-place.invariant
     (c.in_ok-take_event.ensures
     ∙ ap (λ event. run ++ steps place event)
-    (sym (stands_there events place c.index-events-place.result c.loop-place-test.true
+    (sym (slice_get-of_get_or events place c.index-events-place.result c.loop-place-test.true
     c.index-events-place.is)))

@@ -1,11 +1,11 @@
 use Rattle.std.proofs.Common.{◌∙◌, ◌+◌, arith, sym}
-use Rattle.dmlw_commands.proofs.LastMoment.{none_next, stands_there, stop_is_last}
+use Rattle.dmlw_commands.proofs.LastMoment.{none_next, slice_get-of_get_or, stop_is_last}
 use Rattle.dmlw_commands.proofs.judge_image.moments.last_moment.Goals as goal
 
 pub returns-then-is_stop-clause-last : goal.returns-then-is_stop-clause-last
 returns-then-is_stop-clause-last c =
     let there =
-    stands_there c.args.events.now c.loop-place.place c.index-events-place.result
+    slice_get-of_get_or c.args.events.now c.loop-place.place c.index-events-place.result
     c.loop-place-test.true c.index-events-place.is in
     stop_is_last c.args.events.now c.loop-place.place c.index-events-place.result
     c.loop-place.invariant there (sym c.is_stop.ensures ∙ c.if-is_stop.true)
@@ -13,7 +13,7 @@ returns-then-is_stop-clause-last c =
 pub loop-place-preserved : goal.loop-place-preserved
 loop-place-preserved c =
     let there =
-    stands_there c.args.events.now c.loop-place.place c.index-events-place.result
+    slice_get-of_get_or c.args.events.now c.loop-place.place c.index-events-place.result
     c.loop-place-test.true c.index-events-place.is in
     none_next c.args.events.now c.loop-place.place
     (c.loop-place.place + 1) c.index-events-place.result

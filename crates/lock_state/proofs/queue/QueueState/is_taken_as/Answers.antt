@@ -3,7 +3,7 @@ use Rattle.std.proofs.Common.{subst, arith}
 use Rattle.std.specs.Prelude.{MatchBool}
 use Rattle.pending.specs.CoreState.{items_of}
 use Rattle.bio.specs.declared.event.CoreEvent.{CoreEvent}
-use Rattle.bio.specs.PlaceLaws.{stands_there, slice_get-within}
+use Rattle.bio.specs.PlaceLaws.{slice_get-of_get_or, slice_get-within}
 use Rattle.lock_state.specs.Comparison.{listed}
 use Rattle.lock_state.specs.History.{Queue}
 use Rattle.lock_state.proofs.TakenList.{taken_as, taken_match}
@@ -18,7 +18,7 @@ unreachable-requires g c =
     taken_as _ _ c.self.inside.core.state c.self.inside.taken.items c.args.k
     c.list_has_what_is_queued.ensures.only kept.lawful kept.within kept.took below in
     let here =
-    stands_there c.self.inside.taken.items c.args.k c.index-id.result.now
+    slice_get-of_get_or c.self.inside.taken.items c.args.k c.index-id.result.now
     (slice_get-within c.self.inside.taken.items c.args.k is.item.0 is.noted)
     c.index-id.ensures in
     let same : is.item.0 ≡ c.index-id.result.now = let a = is.noted in cc in
@@ -41,12 +41,12 @@ returns g c =
     taken_as _ _ c.self.inside.core.state c.self.inside.taken.items c.args.k
     c.list_has_what_is_queued.ensures.only kept.lawful kept.within kept.took below in
     let here =
-    stands_there c.self.inside.taken.items c.args.k c.index-id.result.now
+    slice_get-of_get_or c.self.inside.taken.items c.args.k c.index-id.result.now
     (slice_get-within c.self.inside.taken.items c.args.k is.item.0 is.noted)
     c.index-id.ensures in
     let found = c.in-Some.ensures.lookup in
     let event =
-    stands_there c.events.result.now c.place.result c.in-Some.event.now found.3.0 found.1 in
+    slice_get-of_get_or c.events.result.now c.place.result c.in-Some.event.now found.3.0 found.1 in
     let stands =
     ap (λ (x : List CoreEvent × ℕ). slice_get x.0 x.1)
     (λ i. (sym c.events.ensures.events i, sym c.place.ensures i)) ∙ event in

@@ -1,0 +1,208 @@
+-- Choices, and words: how a line is cut into them, and what is read as a number, an id or a byte.
+use Rattle.std.proofs.Common.{◌≡◌, ℕ, ◌+◌, ◌-◌, ◌*◌, ◌/◌, ◌%◌, ◌<◌, Bool, true, false, ◌&&◌}
+use Rattle.std.proofs.Common.{cond, List, [], ◌∷◌, ◌++◌, Option, Some, None, ◌⊎◌, inl, inr}
+use Rattle.std.proofs.Common.{refl, ap, subst, ◌∙◌, sym, arith}
+use Rattle.std.specs.Prelude.{◌==◌, nat_le, not}
+use Rattle.std.specs.Char.{is_ascii_digit}
+use Rattle.std.specs.List.{list_all}
+use Rattle.std.specs.Option.{option_map, option_or}
+use Rattle.std.specs.Str.{bytes_eq}
+use Rattle.std.proofs.lemmas.Bool.{and_parts, and_from, cond-true, eq-eqb}
+use Rattle.std.proofs.lemmas.Bool.{eqb-true}
+use Rattle.std.proofs.lemmas.Bool.Decides.{nat_tests}
+use Rattle.std.proofs.lemmas.List.{append-nil}
+use Rattle.std.proofs.lemmas.Slice.Eq.{bytes_eq-Decides}
+use Rattle.std.proofs.lemmas.Option.{cond_some}
+use Rattle.dmlw_script.specs.declared.script_id.ScriptId.{ScriptId}
+use Rattle.dmlw_script.specs.Ids.{is_id, is_name_byte, id_of_word, script_id}
+use Rattle.refusals.specs.WordLaws.{number_read}
+use Rattle.dmlw_script.specs.inside.LineParser.{◌>>=◌}
+use Rattle.dmlw_script.specs.Words.{byte_from, byte_of, byte_text, half_of, hex_digit}
+use Rattle.refusals.specs.Words.{after_byte, before_byte, number_of}
+
+-- ---- choices
+
+-- by which side was chosen
+pub chosen : {A P : Type 0} (t : Bool) (x y z : A) → cond t x y ≡ z → (t ≡ true → x ≡ z → P)
+    → (t ≡ false → y ≡ z → P) → P
+chosen true x y z e here other = here refl e
+chosen false x y z e here other = other refl e
+
+-- what goes on well has a value, and goes on well from there
+pub bind_some : {A B : Type 0} (o : Option A) (f : A → Option B) (y : B) → (o >>= f) ≡ Some y
+    → (x : A) × (o ≡ Some x) × (f x ≡ Some y)
+bind_some None f y e = absurd (cc)
+bind_some (Some x) f y e = (x, refl, e)
+
+-- a mapped value is one that was there
+pub map_some : {A B : Type 0} (f : A → B) (o : Option A) (y : B) → option_map f o ≡ Some y
+    → (x : A) × (o ≡ Some x) × (f x ≡ y)
+map_some f None y e = absurd (cc)
+map_some f (Some x) y e = (x, refl, cc)
+
+-- what is there is one
+pub same_some : {A : Type 0} (x y : A) → Some x ≡ Some y → x ≡ y
+same_some x y e = cc
+
+-- the first of two that is there is there
+pub first_some : {A : Type 0} (x y : Option A) (s : A) → option_or x y ≡ Some s
+    → (x ≡ Some s) ⊎ (y ≡ Some s)
+first_some None y s e = inr e
+first_some (Some x) y s e = inl e
+
+-- what has this value goes on from it
+pub bind_at : {A B : Type 0} (o : Option A) (f : A → Option B) (x : A) (y : Option B) → o ≡ Some x
+    → f x ≡ y → (o >>= f) ≡ y
+bind_at None f x y e g = absurd (cc)
+bind_at (Some z) f x y e g = let same : z ≡ x = cc in ap f same ∙ g
+
+-- ---- words
+
+-- no such byte stands in the word
+abbrev pub lacks : ℕ → List ℕ → Bool
+lacks mark word = list_all (λ b. not (b == mark)) word
+
+-- what is true of each byte stays so of a weaker test
+pub all_weaker : (p q : ℕ → Bool) → ((b : ℕ) → p b ≡ true → q b ≡ true) → (word : List ℕ)
+    → list_all p word ≡ true → list_all q word ≡ true
+all_weaker p q weaker [] all = refl
+all_weaker p q weaker (b ∷ word) all =
+    let parts : (p b ≡ true) × (list_all p word ≡ true) = and_parts _ _ all in
+    and_from _ _ (weaker b parts.0) (all_weaker p q weaker word parts.1)
+
+-- a digit is no space
+digit_not_space : (b : ℕ) → is_ascii_digit b ≡ true → not (b == 32) ≡ true
+digit_not_space b digit = grind (arith, nat_tests)
+
+-- a character of an id is no space
+name_byte_not_space : (b : ℕ) → is_name_byte b ≡ true → not (b == 32) ≡ true
+name_byte_not_space b letter = grind (arith, nat_tests)
+
+-- what is left behind a mark
+abbrev pub behind : ℕ → Option (List ℕ) → List ℕ
+behind mark None = []
+behind mark (Some bytes) = mark ∷ bytes
+
+-- one more byte before the mark, or that is one
+cut_step : (t : Bool) (b mark : ℕ) (bytes front : List ℕ) (rest : Option (List ℕ))
+    → (t ≡ true → b ≡ mark) → bytes ≡ front ++ behind mark rest
+    → b ∷ bytes ≡ cond t [] (b ∷ front) ++ behind mark (cond t (Some bytes) rest)
+cut_step true b mark bytes front rest here same = ap (λ (x : ℕ). x ∷ bytes) (here refl)
+cut_step false b mark bytes front rest here same = ap (λ (x : List ℕ). b ∷ x) same
+
+-- what stands before the mark and what is left behind it make up the bytes
+before_and_behind : (mark : ℕ) (bytes : List ℕ)
+    → bytes ≡ before_byte mark bytes ++ behind mark (after_byte mark bytes)
+before_and_behind mark [] = refl
+before_and_behind mark (b ∷ bytes) =
+    cut_step (b == mark) b mark bytes _ _ (eqb-true b mark) (before_and_behind mark bytes)
+
+-- what stands before a byte that isn't there is all
+pub before_all : (mark : ℕ) (bytes : List ℕ) → after_byte mark bytes ≡ None
+    → before_byte mark bytes ≡ bytes
+before_all mark bytes none =
+    sym (before_and_behind mark bytes
+    ∙ ap (λ (o : Option (List ℕ)). before_byte mark bytes ++ behind mark o) none
+    ∙ append-nil (before_byte mark bytes))
+
+-- one more byte of a word before the mark
+word_step : (t : Bool) (b : ℕ) (word front bytes : List ℕ) (there rest : Option (List ℕ))
+    → not t ≡ true → front ≡ word → there ≡ rest
+    → (cond t [] (b ∷ front) ≡ b ∷ word) × (cond t (Some bytes) there ≡ rest)
+word_step true b word front bytes there rest apart same is = absurd (cc)
+word_step false b word front bytes there rest apart same is = (ap (λ x. b ∷ x) same, is)
+
+-- a cut after a word that lacks the mark
+pub cut_word : (mark : ℕ) (word : List ℕ) (rest : Option (List ℕ)) → lacks mark word ≡ true
+    → (before_byte mark (word ++ behind mark rest) ≡ word)
+    × (after_byte mark (word ++ behind mark rest) ≡ rest)
+cut_word mark [] None lack = (refl, refl)
+cut_word mark [] (Some bytes) lack =
+    let same : (mark == mark) ≡ true = eq-eqb mark mark refl in
+    (cond-true _ _ _ same, cond-true _ _ _ same)
+cut_word mark (b ∷ word) rest lack =
+    let parts : (not (b == mark) ≡ true) × (lacks mark word ≡ true) = and_parts _ _ lack in
+    let more = cut_word mark word rest parts.1 in
+    word_step (b == mark) b word _ _ _ rest parts.0 more.0 more.1
+
+-- the same of a word with nothing behind it
+pub cut_alone : (mark : ℕ) (word : List ℕ) → lacks mark word ≡ true
+    → (before_byte mark word ≡ word) × (after_byte mark word ≡ None)
+cut_alone mark word lack =
+    subst (λ (x : List ℕ). (before_byte mark x ≡ word) × (after_byte mark x ≡ None))
+    (append-nil word) (cut_word mark word None lack)
+
+-- no space stands in a number
+pub number_lacks_space : (word : List ℕ) (n : ℕ) → number_of word ≡ Some n → lacks 32 word ≡ true
+number_lacks_space word n e =
+    let number = number_read word n e in
+    let digits : list_all is_ascii_digit word ≡ true =
+    (and_parts _ _ (and_parts _ _ number.0).0).1 in
+    all_weaker _ _ digit_not_space word digits
+
+-- no space stands in an id
+pub id_lacks_space : (word : List ℕ) (name : ScriptId) → id_of_word word ≡ Some name
+    → lacks 32 word ≡ true
+id_lacks_space word name e =
+    let id = cond_some (is_id word) (script_id word) name e in
+    all_weaker _ _ name_byte_not_space word (and_parts _ _ id.0).1
+
+-- ---- numbers, ids and bytes
+
+-- a digit is below 16
+half_low : (digit half : ℕ) → half_of digit ≡ Some half → half < 16
+half_low digit half e =
+    chosen _ _ _ _ e (λ low is. decimal_low low (same_some _ half is))
+    (λ other is. let high = cond_some _ _ _ is in letter_low high.0 high.1)
+  where
+    decimal_low : (nat_le 48 digit && nat_le digit 57) ≡ true → digit - 48 ≡ half → half < 16
+    decimal_low range value = grind (arith, nat_tests)
+
+    letter_low : (nat_le 97 digit && nat_le digit 102) ≡ true → digit - 87 ≡ half → half < 16
+    letter_low range value = grind (arith, nat_tests)
+
+-- a digit is read as it is
+half_again : (half : ℕ) → half < 16 → half_of (hex_digit half) ≡ Some half
+half_again half low = grind (arith, nat_tests)
+
+-- what is read as a byte is one
+pub byte_low : (word : List ℕ) (byte : ℕ) → byte_of word ≡ Some byte → byte < 256
+byte_low (high ∷ low ∷ []) byte e =
+    from_halves (half_of high) (half_of low) (half_low high) (half_low low) e
+  where
+    from_halves : (h l : Option ℕ) → ((x : ℕ) → h ≡ Some x → x < 16)
+        → ((y : ℕ) → l ≡ Some y → y < 16) → byte_from h l ≡ Some byte → byte < 256
+    from_halves (Some x) (Some y) h_low l_low e =
+        let first = h_low x refl in
+        let second = l_low y refl in
+        let sum : 16 * x + y ≡ byte = cc in omega arith
+    from_halves h l h_low l_low e = absurd (cc)
+byte_low word byte e = absurd (cc)
+
+-- a byte is read as it is
+pub byte_again : (byte : ℕ) → byte < 256 → byte_of (byte_text byte) ≡ Some byte
+byte_again byte low =
+    let whole : 16 * (byte / 16) + byte % 16 ≡ byte = omega arith in
+    rw (half_again (byte / 16) (omega arith), half_again (byte % 16) (omega arith), whole) refl
+
+-- a byte's digits are no spaces
+pub byte_lacks_space : (byte : ℕ) → byte < 256 → lacks 32 (byte_text byte) ≡ true
+byte_lacks_space byte low =
+    and_from _ _ (hex_not_space (byte / 16) (omega arith))
+    (and_from _ _ (hex_not_space (byte % 16) (omega arith)) refl)
+  where
+    hex_not_space : (half : ℕ) → half < 16 → not (hex_digit half == 32) ≡ true
+    hex_not_space half low = grind (arith, nat_tests)
+
+-- the test of two texts says whether they are one
+pub same_bytes : (xs ys : List ℕ) → bytes_eq xs ys ≡ true → xs ≡ ys
+same_bytes xs ys e = (bytes_eq-Decides xs ys).0 e
+
+-- a line of this first word, or of others
+pub verb_read : {A : Type 0} (says : List ℕ → A → Type 0) (verb word : List ℕ) (x y : Option A)
+    (s : A) → (x ≡ Some s → says word s) → (y ≡ Some s → says verb s)
+    → cond (bytes_eq verb word) x y ≡ Some s → says verb s
+verb_read says verb word x y s here other e =
+    chosen (bytes_eq verb word) x y (Some s) e
+    (λ same is. subst (λ (v : List ℕ). says v s) (sym (same_bytes verb word same)) (here is))
+    (λ apart is. other is)

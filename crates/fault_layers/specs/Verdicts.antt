@@ -1,0 +1,143 @@
+-- What a layer does with a call, by its target.
+use Rattle.std.specs.Prelude.{ℕ, zero, suc, ◌+◌, ◌-◌, ◌*◌, ◌%◌, ◌≤◌, Bool, true, false, nat_lt}
+use Rattle.fault_layers.specs.declared.feature.Feature.{Feature}
+use Rattle.fault_layers.specs.declared.feature.Feature.TheVariants as features
+use Rattle.fault_layers.specs.declared.gate.Kind.{Kind}
+use Rattle.fault_layers.specs.declared.gate.Kind.TheVariants.{Discard, Flush, Read, Write}
+use Rattle.fault_layers.specs.declared.gate.Verdict.{Verdict}
+use Rattle.fault_layers.specs.declared.gate.Verdict.TheVariants.{Delay, Drop, Fail, Pass}
+use Rattle.fault_layers.specs.declared.target.Target.{Target}
+use Rattle.fault_layers.specs.declared.target.Target.TheVariants as targets
+
+-- ---- flakey
+
+-- how long a flakey device is up and down, in seconds: together at least one, and within 32 bits
+pub record IsCycle (up down : ℕ) : Type 0 where
+  pub some : 1 ≤ up + down
+  pub few : up + down ≤ 4294967295
+
+-- what a flakey device looks at: seconds up and down, what it does while down, and the moment of
+-- its load
+pub record Cycle : Type 0 where
+  pub up : ℕ
+  pub down : ℕ
+  pub feature : Feature
+  pub load : ℕ
+
+-- it is up for the first seconds of each cycle since its
+-- load; a moment before the load counts as the load
+abbrev pub is_up : Cycle → ℕ → Bool
+is_up cycle now = nat_lt ((now - cycle.load) % (1000 * (cycle.up + cycle.down))) (1000 * cycle.up)
+
+-- what it does with a call while it is down
+abbrev pub down_verdict : Feature → Kind → Verdict
+down_verdict features.None kind = Fail
+down_verdict features.ErrorReads Read = Fail
+down_verdict features.ErrorReads Write = Pass
+down_verdict features.ErrorReads Discard = Pass
+down_verdict features.ErrorReads Flush = Pass
+down_verdict features.ErrorWrites Read = Pass
+down_verdict features.ErrorWrites Write = Fail
+down_verdict features.ErrorWrites Discard = Fail
+down_verdict features.ErrorWrites Flush = Fail
+down_verdict features.DropWrites Read = Pass
+down_verdict features.DropWrites Write = Drop
+down_verdict features.DropWrites Discard = Drop
+down_verdict features.DropWrites Flush = Drop
+
+-- while it is up every call passes
+abbrev pub verdict_if : Bool → Feature → Kind → Verdict
+verdict_if true feature kind = Pass
+verdict_if false feature kind = down_verdict feature kind
+
+abbrev pub flakey_verdict : Cycle → Kind → ℕ → Verdict
+flakey_verdict cycle kind now = verdict_if (is_up cycle now) cycle.feature kind
+
+-- with this feature a flakey layer that is down answers Ok to writes, discards and flushes, and
+-- drops them
+abbrev pub is_drop_writes : Feature → Bool
+is_drop_writes features.None = false
+is_drop_writes features.ErrorReads = false
+is_drop_writes features.ErrorWrites = false
+is_drop_writes features.DropWrites = true
+
+-- ---- fuse
+
+-- a call that is counted passes while there is one left
+abbrev pub while_left : ℕ → Verdict
+while_left zero = Fail
+while_left (suc calls) = Pass
+
+-- reads pass; writes, discards and flushes do while there are calls left
+abbrev pub fuse_verdict : ℕ → Kind → ℕ → Verdict
+fuse_verdict calls Read now = Pass
+fuse_verdict calls Write now = while_left calls
+fuse_verdict calls Discard now = while_left calls
+fuse_verdict calls Flush now = while_left calls
+
+-- each of these is one call less
+abbrev pub fuse_after : ℕ → Kind → ℕ → ℕ
+fuse_after calls Read now = calls
+fuse_after calls Write now = calls - 1
+fuse_after calls Discard now = calls - 1
+fuse_after calls Flush now = calls - 1
+
+-- ---- delay
+
+-- how much later a delay device's calls begin, in milliseconds
+pub record Delays : Type 0 where
+  pub read : ℕ
+  pub write : ℕ
+  pub flush : ℕ
+
+-- how much later a call of this kind begins; a discard is delayed as a write is
+abbrev pub delay_of : Delays → Kind → ℕ
+delay_of delays Read = delays.read
+delay_of delays Write = delays.write
+delay_of delays Discard = delays.write
+delay_of delays Flush = delays.flush
+
+-- every call passes, so much later
+abbrev pub delay_verdict : Delays → Kind → ℕ → Verdict
+delay_verdict delays kind now = Delay (delay_of delays kind)
+
+-- ---- all targets
+
+-- What decides about the calls of a layer: its target, and the moment of its load.
+pub record Loaded : Type 0 where
+  pub target : Target
+  pub load : ℕ
+
+-- The verdict about a call. A linear layer passes each, and so does one with bad blocks, which goes
+-- block by block in place of a gate.
+abbrev pub target_verdict : Target → ℕ → Kind → ℕ → Verdict
+target_verdict targets.Linear load kind now = Pass
+target_verdict targets.Error load kind now = Fail
+target_verdict (targets.Flakey up down feature) load kind now =
+    flakey_verdict (record { up = up; down = down; feature = feature; load = load }) kind now
+target_verdict (targets.Fuse calls) load kind now = fuse_verdict calls kind now
+target_verdict (targets.Dust bytes) load kind now = Pass
+target_verdict (targets.Delay read write flush) load kind now =
+    delay_verdict (record { read = read; write = write; flush = flush }) kind now
+
+abbrev pub verdict_of : Loaded → Kind → ℕ → Verdict
+verdict_of gate kind now = target_verdict gate.target gate.load kind now
+
+-- the target after a call: only a fuse changes
+abbrev pub target_after : Target → Kind → ℕ → Target
+target_after (targets.Fuse calls) kind now = targets.Fuse (fuse_after calls kind now)
+target_after target kind now = target
+
+abbrev pub loaded_after : Loaded → Kind → ℕ → Loaded
+loaded_after gate kind now =
+    record { target = target_after gate.target kind now; load = gate.load }
+
+-- whether the layer may report writes as done, and drop them
+abbrev pub drops_writes : Target → Bool
+drops_writes (targets.Flakey up down feature) = is_drop_writes feature
+drops_writes target = false
+
+-- a flakey target's seconds are in their range
+abbrev pub HasCycle : Target → Type 0
+HasCycle (targets.Flakey up down feature) = IsCycle up down
+HasCycle target = Unit {0}

@@ -1,5 +1,5 @@
 -- No layer drops a read, or a call that it may not drop; and a delayed call ends later.
-use Rattle.std.proofs.Common.{◌≡◌, ℕ, Bool, Ok, zero, suc, true, false, refl}
+use Rattle.std.proofs.Common.{◌≡◌, ◌∙◌, ℕ, Bool, Ok, zero, suc, true, false, true≢false, refl, sym}
 use Rattle.bio.specs.Moments.{later_by}
 use Rattle.blockdev.specs.Calls.{Call, Discards, Flushes, Reads, Writes}
 use Rattle.sector_disk.specs.DiskView.{Does}
@@ -13,54 +13,68 @@ use Rattle.fault_layers.specs.declared.gate.Verdict.TheVariants.{Drop}
 use Rattle.fault_layers.specs.declared.target.Target.{Target}
 use Rattle.fault_layers.specs.declared.target.Target.TheVariants as targets
 use Rattle.fault_layers.specs.Decision.{kind_of, IsDecided}
-use Rattle.fault_layers.specs.Verdicts.{delay_of, delay_verdict, down_verdict, drops_writes, is_up}
-use Rattle.fault_layers.specs.Verdicts.{is_drop_writes, loaded_after, target_verdict, verdict_if}
-use Rattle.fault_layers.specs.Verdicts.{verdict_of, while_left, Delays, Loaded}
+use Rattle.fault_layers.specs.Verdicts.{delay_of, delay_verdict, down_verdict, drops_writes}
+use Rattle.fault_layers.specs.Verdicts.{fuse_verdict, is_drop_writes, is_up, loaded_after}
+use Rattle.fault_layers.specs.Verdicts.{target_verdict, verdict_if, verdict_of, while_left}
+use Rattle.fault_layers.specs.Verdicts.{Delays, Loaded}
 
 -- ---- drops
 
--- what is down drops only with that feature
-down_honest : (feature : Feature) (kind : Kind) → is_drop_writes feature ≡ false
-    → down_verdict feature kind ≡ Drop → ⊥
-down_honest features.None kind none is = cc
-down_honest features.ErrorReads Read none is = cc
-down_honest features.ErrorReads Write none is = cc
-down_honest features.ErrorReads Discard none is = cc
-down_honest features.ErrorReads Flush none is = cc
-down_honest features.ErrorWrites Read none is = cc
-down_honest features.ErrorWrites Write none is = cc
-down_honest features.ErrorWrites Discard none is = cc
-down_honest features.ErrorWrites Flush none is = cc
-down_honest features.DropWrites kind none is = absurd (cc)
+-- a flakey layer that is down drops no read, and it drops only with that feature
+down_drops : (feature : Feature) (kind : Kind) → down_verdict feature kind ≡ Drop
+    → (is_drop_writes feature ≡ true) × (kind ≡ Read → ⊥)
+down_drops features.None kind is = absurd (cc)
+down_drops features.ErrorReads Read is = absurd (cc)
+down_drops features.ErrorReads Write is = absurd (cc)
+down_drops features.ErrorReads Discard is = absurd (cc)
+down_drops features.ErrorReads Flush is = absurd (cc)
+down_drops features.ErrorWrites Read is = absurd (cc)
+down_drops features.ErrorWrites Write is = absurd (cc)
+down_drops features.ErrorWrites Discard is = absurd (cc)
+down_drops features.ErrorWrites Flush is = absurd (cc)
+down_drops features.DropWrites Read is = absurd (cc)
+down_drops features.DropWrites Write is = (refl, λ read. cc)
+down_drops features.DropWrites Discard is = (refl, λ read. cc)
+down_drops features.DropWrites Flush is = (refl, λ read. cc)
 
-flakey_honest : (up : Bool) (feature : Feature) (kind : Kind) → is_drop_writes feature ≡ false
-    → verdict_if up feature kind ≡ Drop → ⊥
-flakey_honest true feature kind none is = cc
-flakey_honest false feature kind none is = down_honest feature kind none is
+flakey_drops : (up : Bool) (feature : Feature) (kind : Kind) → verdict_if up feature kind ≡ Drop
+    → (is_drop_writes feature ≡ true) × (kind ≡ Read → ⊥)
+flakey_drops true feature kind is = absurd (cc)
+flakey_drops false feature kind is = down_drops feature kind is
 
-while_honest : (calls : ℕ) → while_left calls ≡ Drop → ⊥
-while_honest zero is = cc
-while_honest (suc calls) is = cc
+-- a fuse drops nothing
+while_drops : (calls : ℕ) → while_left calls ≡ Drop → ⊥
+while_drops zero is = cc
+while_drops (suc calls) is = cc
 
-target_honest : (target : Target) (load : ℕ) (kind : Kind) (now : ℕ) → drops_writes target ≡ false
-    → target_verdict target load kind now ≡ Drop → ⊥
-target_honest targets.Linear load kind now none is = cc
-target_honest targets.Error load kind now none is = cc
-target_honest (targets.Flakey up down feature) load kind now none is =
-    flakey_honest
-    (is_up (record { up = up; down = down; feature = feature; load = load }) now) feature kind
-    none is
-target_honest (targets.Fuse calls) load Read now none is = cc
-target_honest (targets.Fuse calls) load Write now none is = while_honest calls is
-target_honest (targets.Fuse calls) load Discard now none is = while_honest calls is
-target_honest (targets.Fuse calls) load Flush now none is = while_honest calls is
-target_honest (targets.Dust bytes) load kind now none is = cc
-target_honest (targets.Delay read write flush) load kind now none is = cc
+fuse_drops : (calls : ℕ) (kind : Kind) (now : ℕ) → fuse_verdict calls kind now ≡ Drop → ⊥
+fuse_drops calls Read now is = cc
+fuse_drops calls Write now is = while_drops calls is
+fuse_drops calls Discard now is = while_drops calls is
+fuse_drops calls Flush now is = while_drops calls is
+
+-- what is dropped is no read, and the target may drop writes
+target_drops : (target : Target) (load : ℕ) (kind : Kind) (now : ℕ)
+    → target_verdict target load kind now ≡ Drop
+    → (drops_writes target ≡ true) × (kind ≡ Read → ⊥)
+target_drops targets.Linear load kind now is = absurd (cc)
+target_drops targets.Error load kind now is = absurd (cc)
+target_drops (targets.Flakey up down feature) load kind now is =
+    flakey_drops (is_up (record { up = up; down = down; feature = feature; load = load }) now)
+    feature kind is
+target_drops (targets.Fuse calls) load kind now is = absurd (fuse_drops calls kind now is)
+target_drops (targets.Dust bytes) load kind now is = absurd (cc)
+target_drops (targets.Delay read write flush) load kind now is = absurd (cc)
 
 -- a gate that may not drop calls drops none
 pub gate_honest : (loaded : Loaded) (kind : Kind) (now : ℕ) → drops_writes loaded.target ≡ false
     → verdict_of loaded kind now ≡ Drop → ⊥
-gate_honest loaded kind now = target_honest loaded.target loaded.load kind now
+gate_honest loaded kind now none is =
+    true≢false (sym (target_drops loaded.target loaded.load kind now is).0 ∙ none)
+
+-- a read can't be dropped: there would be no bytes to answer
+pub gate_keeps_reads : (loaded : Loaded) (now : ℕ) → verdict_of loaded Read now ≡ Drop → ⊥
+gate_keeps_reads loaded now is = (target_drops loaded.target loaded.load Read now is).1 refl
 
 -- a decision doesn't change whether it may
 target_stays : (target : Target) (load : ℕ) (kind : Kind) (now : ℕ)
@@ -76,28 +90,6 @@ target_stays (targets.Delay read write flush) load kind now = refl
 pub gate_stays : (loaded : Loaded) (kind : Kind) (now : ℕ)
     → drops_writes (loaded_after loaded kind now).target ≡ drops_writes loaded.target
 gate_stays loaded kind now = target_stays loaded.target loaded.load kind now
-
--- a read can't be dropped: there would be no bytes to answer
-reads_kept : (up : Bool) (feature : Feature) → verdict_if up feature Read ≡ Drop → ⊥
-reads_kept true feature is = cc
-reads_kept false features.None is = cc
-reads_kept false features.ErrorReads is = cc
-reads_kept false features.ErrorWrites is = cc
-reads_kept false features.DropWrites is = cc
-
-target_keeps_reads : (target : Target) (load now : ℕ) → target_verdict target load Read now ≡ Drop
-    → ⊥
-target_keeps_reads targets.Linear load now is = cc
-target_keeps_reads targets.Error load now is = cc
-target_keeps_reads (targets.Flakey up down feature) load now is =
-    reads_kept
-    (is_up (record { up = up; down = down; feature = feature; load = load }) now) feature is
-target_keeps_reads (targets.Fuse calls) load now is = cc
-target_keeps_reads (targets.Dust bytes) load now is = cc
-target_keeps_reads (targets.Delay read write flush) load now is = cc
-
-pub gate_keeps_reads : (loaded : Loaded) (now : ℕ) → verdict_of loaded Read now ≡ Drop → ⊥
-gate_keeps_reads loaded now = target_keeps_reads loaded.target loaded.load now
 
 -- ---- delays
 

@@ -1,34 +1,31 @@
 -- How every task ends.
-use Rattle.std.proofs.Common.{◌≡◌, ◌≤◌, ◌⊎◌, ◌++◌, ℕ, [], append-nil, Bool, false, true, List}
+use Rattle.std.proofs.Common.{◌≡◌, ◌∙◌, ◌≤◌, ◌⊎◌, ◌++◌, ℕ, [], append-nil, Bool, false, true, List}
 use Rattle.std.proofs.Common.{Option, Some, None, Result, Ok, Err, arith, inl, inr, refl, subst}
 use Rattle.std.proofs.Common.{sym}
 use Rattle.refusals.specs.declared.end.End.{End}
 use Rattle.bio.specs.declared.outcome.Status.{Status}
-use Rattle.refusals.specs.declared.refusal.Refusal.{Refusal}
 use Rattle.refusals.specs.declared.run_error.RunError.{RunError}
 use Rattle.refusals.specs.declared.run_error.RunError.TheVariants as faults
-use Rattle.refusals.specs.Errors.{IsFileError, memory_error}
+use Rattle.refusals.specs.Errors.{memory_error}
 use Rattle.dmlw_commands.specs.declared.exit.Exit.{Exit}
 use Rattle.dmlw_commands.specs.declared.exit.Exit.TheVariants.{Done, LoggingEnded, Refused}
 use Rattle.dmlw_commands.specs.declared.exit.Exit.TheVariants.{RuledOut, Usage}
-use Rattle.dmlw_commands.specs.Exits.{exit_after, exit_at, exit_by, exit_of, fault_line, status_of}
-use Rattle.dmlw_commands.specs.Exits.{reported_line}
+use Rattle.dmlw_commands.specs.Exits.{IsRefusal, exit_after, exit_at, exit_by, exit_of, fault_line}
+use Rattle.dmlw_commands.specs.Exits.{reported_line, status_of}
 use Rattle.dmlw_commands.specs.declared.ending.Ended.{Ended}
-use Rattle.dmlw_commands.specs.Ends.{ErrStream, Tells, ReportsLine}
-use Rattle.dmlw_files.specs.Files.{AsksFor, KeepsFiles, Write}
-use Rattle.dmlw_commands.specs.Records.{PrintsLog, Records}
-use Rattle.dmlw_commands.specs.LogRuns.{PrintsRun, Runs}
-use Rattle.dmlw_commands.specs.LogCopies.{Copies, PrintsCopy}
+use Rattle.dmlw_commands.specs.Ends.{ErrStream, Tells, ReportsLine, err_stream}
+use Rattle.dmlw_files.specs.Files.{KeepsFiles}
+use Rattle.dmlw_commands.specs.Makings.{Asks, FailsMaking, IsMade, Makes, Making}
+use Rattle.dmlw_commands.specs.Makings.{taken, unmade, unprinted, unwritten}
+use Rattle.dmlw_commands.specs.Seen.{Seen}
 use Rattle.world.specs.declared.finding.Finding.{Finding}
 use Rattle.world.specs.declared.finding.Finding.TheVariants as findings
-use Rattle.dmlw_commands.specs.Judgements.{exit_answered, exit_judged}
+use Rattle.dmlw_commands.specs.Judgements.{Meaning, exit_answered, verdict_meaning}
 use Rattle.dmlw_commands.specs.Paths.{finding_meaning}
-use Rattle.dmlw_commands.specs.Replays.{PrintsReplay, Replays}
 use Rattle.judge.specs.declared.verdict.Verdict.{Verdict}
 use Rattle.judge.specs.declared.verdict.Verdict.TheVariants as verdicts
-use Rattle.replay.specs.declared.upto.Upto.{Upto}
 use Rattle.dmlw_cli.specs.Commands.{AsksForOneWrite, EndsCommand, EndsTask, EndsUntasked, IsFaultLine}
-use Rattle.dmlw_cli.specs.Commands.{LeavesBy, ReportsBy, ReportsOneLine, ReportsUntasked}
+use Rattle.dmlw_cli.specs.Commands.{ReportsBy, ReportsOneLine, ReportsUntasked}
 use Rattle.clap.specs.Words.{Text, kind_of}
 use Rattle.clap.specs.declared.error.Error.{Error}
 use Rattle.dmlw_cli.specs.CommandLine.{is_formats}
@@ -40,212 +37,127 @@ use Rattle.std.specs.Io.KnownBytes.{Appends}
 use Rattle.dmlw_cli.specs.declared.task.Task.{Task}
 use Rattle.dmlw_cli.specs.declared.task.Task.TheVariants as tasks
 
--- an error of a file isn't the end of logging, nor a stop at an entry
-not_file : (end : End) → IsFileError (faults.LoggingEnded end) → ⊥
-not_file end (inl is) = cc
-not_file end (inr is) = cc
+-- each exit has a status from 0 to 3
+at_most : (exit : Exit) → status_of exit ≤ 3
+at_most Done = omega arith
+at_most Refused = omega arith
+at_most Usage = omega arith
+at_most LoggingEnded = omega arith
+at_most RuledOut = omega arith
 
-not_stop : (applied : ℕ) (refusal : Refusal) → IsFileError (faults.StoppedAfter applied refusal) → ⊥
-not_stop applied refusal (inl is) = cc
-not_stop applied refusal (inr is) = cc
-
--- where nothing was asked to be written, a command ends as any may
-pub ends_silently : (writes_old writes_new : Option (List Write)) (exit : Exit)
-    → writes_new ≡ writes_old
-    → EndsCommand writes_old writes_new (status_of exit)
-ends_silently writes_old writes_new exit same =
-    record { known = at_most exit; once = inl same; unwritten = λ usage. same }
-  where
-    at_most : (e : Exit) → status_of e ≤ 3
-    at_most Done = omega arith
-    at_most Refused = omega arith
-    at_most Usage = omega arith
-    at_most LoggingEnded = omega arith
-    at_most RuledOut = omega arith
-
--- what is refused has asked for no file, or for its log, which couldn't be written
-refused_writing : (prints : Status → Type 0) (writes_old writes_new : Option (List Write))
-    (fault : RunError)
-    → ((status : Status) → prints status → AsksForOneWrite writes_old writes_new)
-    → ((writes_new ≡ writes_old) ⊎ (IsFileError fault × (status : Status) × prints status))
-    → EndsCommand writes_old writes_new 1
-refused_writing prints writes_old writes_new fault asks (inl same) =
-    ends_silently writes_old writes_new Refused same
-refused_writing prints writes_old writes_new fault asks (inr (file, status, printed)) = record {
-  known = omega arith;
-  once = inr (asks status printed);
-  unwritten = λ usage. absurd (omega arith);
+-- where nothing was asked to be written and each file was kept, a command ends as any may
+ends_keeping : (old new : Seen) (exit : Exit) → new.writes ≡ old.writes
+    → KeepsFiles old.files new.files → EndsCommand old new exit
+ends_keeping old new exit same kept = record {
+  known = at_most exit;
+  once = inl same;
+  unwritten = λ usage. same;
+  kept = λ refused. kept;
+  unmade = λ ended. inl kept;
 }
 
--- a recording that came so far has asked for its log
-ends_logged : (end : Option End) (writes_old writes_new : Option (List Write))
-    → AsksForOneWrite writes_old writes_new
-    → EndsCommand writes_old writes_new (status_of (exit_at end))
-ends_logged None writes_old writes_new asked =
-    record { known = omega arith; once = inr asked; unwritten = λ usage. absurd (omega arith) }
-ends_logged (Some cause) writes_old writes_new asked =
-    record { known = omega arith; once = inr asked; unwritten = λ usage. absurd (omega arith) }
+-- a command that is done, or of which logging ended, is neither refused nor a usage fault
+abbrev IsLogged : Exit → Type 0
+IsLogged exit = (exit ≡ Done) ⊎ (exit ≡ LoggingEnded)
 
--- every recording ends so
-ends_recorded : (contents : Option (List ℕ)) (log : List ℕ)
-    (writes_old writes_new : Option (List Write)) (old new : Option (List ℕ))
-    (done : Result Status RunError) → Records contents log writes_old writes_new old new done
-    → EndsCommand writes_old writes_new (status_of (exit_after done))
-ends_recorded contents log writes_old writes_new old new (Ok status) asked =
-    ends_logged status.end writes_old writes_new (log, (asked.0, asked.2))
-ends_recorded contents log writes_old writes_new old new (Err (faults.Refused fault))
-    (writes, fails) =
-    refused_writing (PrintsLog contents log writes_old writes_new old new) writes_old writes_new
-    (faults.Refused fault)
-    (λ status printed. (log, (printed.0, printed.2))) writes
-ends_recorded contents log writes_old writes_new old new (Err (faults.LoggingEnded end))
-    (inl same, fails) =
-    ends_silently writes_old writes_new LoggingEnded same
-ends_recorded contents log writes_old writes_new old new (Err (faults.LoggingEnded end))
-    (inr (file, status, asked), fails) = absurd (not_file end file)
-ends_recorded contents log writes_old writes_new old new (Err (faults.StoppedAfter applied refusal))
-    (inl same, fails) =
-    ends_silently writes_old writes_new Refused same
-ends_recorded contents log writes_old writes_new old new (Err (faults.StoppedAfter applied refusal))
-    (inr (file, status, asked), fails) =
-    absurd (not_stop applied refusal file)
+not_usage : (exit : Exit) → IsLogged exit → exit ≡ Usage → ⊥
+not_usage exit (inl is) usage = cc
+not_usage exit (inr is) usage = cc
 
--- every run of seats ends so
-ends_run : (contents : Option (List ℕ)) (log : List ℕ) (writes_old writes_new : Option (List Write))
-    (old new : Option (List ℕ))
-    (done : Result Status RunError) → Runs contents log writes_old writes_new old new done
-    → EndsCommand writes_old writes_new (status_of (exit_after done))
-ends_run contents log writes_old writes_new old new (Ok status) asked =
-    ends_logged status.end writes_old writes_new (log, (asked.0, asked.2))
-ends_run contents log writes_old writes_new old new (Err (faults.Refused fault)) (writes, fails) =
-    refused_writing (PrintsRun contents log writes_old writes_new old new) writes_old writes_new
-    (faults.Refused fault)
-    (λ status printed. (log, (printed.0, printed.2))) writes
-ends_run contents log writes_old writes_new old new (Err (faults.LoggingEnded end))
-    (inl same, fails) =
-    ends_silently writes_old writes_new LoggingEnded same
-ends_run contents log writes_old writes_new old new (Err (faults.LoggingEnded end))
-    (inr (file, status, asked), fails) = absurd (not_file end file)
-ends_run contents log writes_old writes_new old new (Err (faults.StoppedAfter applied refusal))
-    (inl same, fails) =
-    ends_silently writes_old writes_new Refused same
-ends_run contents log writes_old writes_new old new (Err (faults.StoppedAfter applied refusal))
-    (inr (file, status, asked), fails) =
-    absurd (not_stop applied refusal file)
+not_refused : (exit : Exit) → IsLogged exit → IsRefusal exit → ⊥
+not_refused exit (inl is) (inl refused) = cc
+not_refused exit (inl is) (inr (inl refused)) = cc
+not_refused exit (inl is) (inr (inr refused)) = cc
+not_refused exit (inr is) (inl refused) = cc
+not_refused exit (inr is) (inr (inl refused)) = cc
+not_refused exit (inr is) (inr (inr refused)) = cc
 
--- what is refused by a run's error, or done, ends by no usage fault
-known_by : (done : Result ℕ RunError)
-    → (status_of (exit_by done) ≤ 3) × (status_of (exit_by done) ≡ 2 → ⊥)
-known_by (Ok count) = (omega arith, λ usage. absurd (omega arith))
-known_by (Err (faults.Refused fault)) = (omega arith, λ usage. absurd (omega arith))
-known_by (Err (faults.LoggingEnded end)) = (omega arith, λ usage. absurd (omega arith))
-known_by (Err (faults.StoppedAfter applied refusal)) = (omega arith, λ usage. absurd (omega arith))
+-- a fault is no usage fault
+fault_usage : (fault : RunError) → exit_of fault ≡ Usage → ⊥
+fault_usage (faults.Refused fault) usage = let no : Refused ≡ Usage = usage in cc
+fault_usage (faults.LoggingEnded end) usage = let no : LoggingEnded ≡ Usage = usage in cc
+fault_usage (faults.StoppedAfter applied refusal) usage = let no : Refused ≡ Usage = usage in cc
 
--- a replay or a copy that has asked for nothing, or for its image
-image_asks : (writes_old writes_new : Option (List Write)) (done : Result ℕ RunError)
-    → ((writes_new ≡ writes_old) ⊎ AsksForOneWrite writes_old writes_new)
-    → EndsCommand writes_old writes_new (status_of (exit_by done))
-image_asks writes_old writes_new done once =
-    let known = known_by done in
-    record { known = known.0; once = once; unwritten = λ usage. absurd (known.1 usage) }
+-- what is made is one file
+asked_one : {T : Type 0} (making : Making T) (name : List ℕ) (old new : Seen) (result : T)
+    → Asks making name old new result → AsksForOneWrite old.writes new.writes
+asked_one making name old new result asks = (name, (asks.image, asks.asked))
 
--- a replay that was printed has asked for its image
-printed_asks : (log_file first_file : Option (List ℕ)) (name : List ℕ) (upto : Upto)
-    (writes_old writes_new : Option (List Write)) (old new : Option (List ℕ))
-    (count : ℕ) → PrintsReplay log_file first_file name upto writes_old writes_new old new count
-    → AsksForOneWrite writes_old writes_new
-printed_asks log_file first_file name upto writes_old writes_new old new count prints =
-    (name, (prints.image, prints.asked))
+-- what isn't made is none, or one
+failed_once : {T : Type 0} (making : Making T) (read name : List ℕ) (old new : Seen)
+    (fault : RunError) → FailsMaking making read name old new fault
+    → (new.writes ≡ old.writes) ⊎ AsksForOneWrite old.writes new.writes
+failed_once making read name old new fault (unmade fails same) = inl same
+failed_once making read name old new fault (taken is one none same) = inl same
+failed_once making read name old new fault (unprinted is result lines image made same) = inl same
+failed_once making read name old new fault (unwritten is result asks) =
+    inr (asked_one making name old new result asks)
 
--- every replay ends so
-ends_replayed : (log_file first_file out_file : Option (List ℕ)) (name : List ℕ) (upto : Upto)
-    (writes_old writes_new : Option (List Write)) (old new : Option (List ℕ))
-    (done : Result ℕ RunError) → Replays log_file first_file out_file name upto writes_old writes_new old new
-    done
-    → EndsCommand writes_old writes_new (status_of (exit_by done))
-ends_replayed log_file first_file out_file name upto writes_old writes_new old new (Ok count)
-    prints =
-    image_asks writes_old writes_new (Ok count)
-    (inr (printed_asks log_file first_file name upto writes_old writes_new old new count
-    prints))
-ends_replayed log_file first_file out_file name upto writes_old writes_new old new (Err stop)
-    (inl (fails, kept, same)) =
-    image_asks writes_old writes_new (Err stop) (inl same)
-ends_replayed log_file first_file out_file name upto writes_old writes_new old new (Err stop)
-    (inr (inl (is, one, kept, same))) =
-    image_asks writes_old writes_new (Err stop) (inl same)
-ends_replayed log_file first_file out_file name upto writes_old writes_new old new (Err stop)
-    (inr (inr (inl (file, same, count, image, replayed)))) =
-    image_asks writes_old writes_new (Err stop) (inl same)
-ends_replayed log_file first_file out_file name upto writes_old writes_new old new (Err stop)
-    (inr (inr (inr (file, count, prints)))) =
-    image_asks writes_old writes_new (Err stop)
-    (inr (printed_asks log_file first_file name upto writes_old writes_new old new count
-    prints))
+-- so ends every command that makes an image
+ends_making : {T : Type 0} (making : (List ℕ → Option (List ℕ)) → Making T) (read name : List ℕ)
+    (exits : Result T RunError → Exit) → ((result : T) → IsLogged (exits (Ok result)))
+    → ((fault : RunError) → exits (Err fault) ≡ exit_of fault)
+    → (old new : Seen) (done : Result T RunError) (exit : Exit)
+    → Makes making read name old new done → exit ≡ exits done → EndsCommand old new exit
+ends_making making read name exits logged by_fault old new (Ok result) exit makes is =
+    let made : IsMade (making old.files) name old new result = makes.came in
+    let asked = asked_one (making old.files) name old new result made.asks in
+    let ended : IsLogged exit = subst IsLogged (sym is) (logged result) in
+    record {
+      known = at_most exit;
+      once = inr asked;
+      unwritten = λ usage. absurd (not_usage exit ended usage);
+      kept = λ refused. absurd (not_refused exit ended refused);
+      unmade = λ ended. inr asked;
+    }
+ends_making making read name exits logged by_fault old new (Err fault) exit makes is =
+    let once = failed_once (making old.files) read name old new fault makes.came.0 in
+    let by : exit ≡ exit_of fault = is ∙ by_fault fault in
+    record {
+      known = at_most exit;
+      once = once;
+      unwritten = λ usage. absurd (fault_usage fault (sym by ∙ usage));
+      kept = λ refused. makes.came.1;
+      unmade = λ ended. inl makes.came.1;
+    }
 
--- a copy that was printed has asked for its image
-copied_asks : (log_file : Option (List ℕ)) (name : List ℕ) (sectors : ℕ)
-    (writes_old writes_new : Option (List Write)) (old new : Option (List ℕ))
-    (count : ℕ) → PrintsCopy log_file name sectors writes_old writes_new old new count
-    → AsksForOneWrite writes_old writes_new
-copied_asks log_file name sectors writes_old writes_new old new count prints =
-    (name, (prints.image, prints.asked))
-
--- every copy ends so
-ends_copied : (log_file : Option (List ℕ)) (name : List ℕ) (sectors : ℕ)
-    (writes_old writes_new : Option (List Write)) (old new : Option (List ℕ))
-    (done : Result ℕ RunError) → Copies log_file name sectors writes_old writes_new old new done
-    → EndsCommand writes_old writes_new (status_of (exit_by done))
-ends_copied log_file name sectors writes_old writes_new old new (Ok count) prints =
-    image_asks writes_old writes_new (Ok count)
-    (inr (copied_asks log_file name sectors writes_old writes_new old new count prints))
-ends_copied log_file name sectors writes_old writes_new old new (Err stop)
-    (inl (fails, kept, same)) =
-    image_asks writes_old writes_new (Err stop) (inl same)
-ends_copied log_file name sectors writes_old writes_new old new (Err stop)
-    (inr (inl (file, same))) =
-    image_asks writes_old writes_new (Err stop) (inl same)
-ends_copied log_file name sectors writes_old writes_new old new (Err stop)
-    (inr (inr (file, count, prints))) =
-    image_asks writes_old writes_new (Err stop)
-    (inr (copied_asks log_file name sectors writes_old writes_new old new count prints))
+-- a recording that came so far is done, or its logging ended
+after_logged : (status : Status) → IsLogged (exit_after (Ok status))
+after_logged status = at_end status.end
+  where
+    at_end : (end : Option End) → IsLogged (exit_at end)
+    at_end None = inl refl
+    at_end (Some cause) = inr refl
 
 -- every task ends so
-pub ends_task : (task : Task) (contents : List ℕ → Option (List ℕ))
-    (writes_old writes_new : Option (List Write)) (old new : Option (List ℕ))
-    (t : ErrStream) (ended : Ended) → EndsTask task contents writes_old writes_new old new t ended
-    → EndsCommand writes_old writes_new (status_of ended.exit)
-ends_task (tasks.Record script log) contents writes_old writes_new old new t ended ends =
-    subst (λ (e : Exit). EndsCommand writes_old writes_new (status_of e)) (sym ends.tells.exits)
-    (ends_recorded (contents script.now) log.now writes_old writes_new old new ends.done
-    ends.recorded)
-ends_task (tasks.Run script log) contents writes_old writes_new old new t ended ends =
-    subst (λ (e : Exit). EndsCommand writes_old writes_new (status_of e)) (sym ends.tells.exits)
-    (ends_run (contents script.now) log.now writes_old writes_new old new ends.done ends.ran)
-ends_task (tasks.List log) contents writes_old writes_new old new t ended ends =
-    ends_silently writes_old writes_new ended.exit ends.unwritten
-ends_task (tasks.Status log) contents writes_old writes_new old new t ended ends =
-    ends_silently writes_old writes_new ended.exit ends.unwritten
-ends_task (tasks.Replay files upto) contents writes_old writes_new old new t ended ends =
-    subst (λ (e : Exit). EndsCommand writes_old writes_new (status_of e)) (sym ends.tells.exits)
-    (ends_replayed (contents files.log.now)
-    (contents files.first.now) (contents files.out.now) files.out.now upto writes_old writes_new old
-    new ends.done
-    ends.replayed)
-ends_task (tasks.Copy files sectors) contents writes_old writes_new old new t ended ends =
-    subst (λ (e : Exit). EndsCommand writes_old writes_new (status_of e)) (sym ends.tells.exits)
-    (ends_copied (contents files.log.now) files.out.now sectors writes_old writes_new old new
-    ends.done ends.copied)
-ends_task (tasks.Judge script moment image) contents writes_old writes_new old new t ended ends =
-    ends_silently writes_old writes_new ended.exit ends.unwritten
-ends_task (tasks.Path script moment image) contents writes_old writes_new old new t ended ends =
-    ends_silently writes_old writes_new ended.exit ends.unwritten
-ends_task (tasks.Formats page) contents writes_old writes_new old new t ended ends =
-    ends_silently writes_old writes_new ended.exit ends.unwritten
-ends_task (tasks.Show error) contents writes_old writes_new old new t ended ends =
-    ends_silently writes_old writes_new ended.exit ends.unwritten
-ends_task (tasks.HasBadWord flaw word) contents writes_old writes_new old new t ended ends =
-    ends_silently writes_old writes_new ended.exit ends.unwritten
+pub ends_task : (task : Task) (explains : Bool) (old new : Seen) (ended : Ended)
+    → EndsTask task explains old new ended → EndsCommand old new ended.exit
+ends_task (tasks.Record script log) explains old new ended ends =
+    ends_making _ script.now log.now exit_after after_logged (λ fault. refl) old new ends.done
+    ended.exit ends.did ends.tells.exits
+ends_task (tasks.Run script log) explains old new ended ends =
+    ends_making _ script.now log.now exit_after after_logged (λ fault. refl) old new ends.done
+    ended.exit ends.did ends.tells.exits
+ends_task (tasks.Replay files upto) explains old new ended ends =
+    ends_making _ files.log.now files.out.now exit_by (λ count. inl refl) (λ fault. refl) old new
+    ends.done ended.exit ends.did ends.tells.exits
+ends_task (tasks.Copy files sectors) explains old new ended ends =
+    ends_making _ files.log.now files.out.now exit_by (λ count. inl refl) (λ fault. refl) old new
+    ends.done ended.exit ends.did ends.tells.exits
+ends_task (tasks.List log) explains old new ended ends =
+    ends_keeping old new ended.exit ends.did.unwritten ends.did.kept
+ends_task (tasks.Status log) explains old new ended ends =
+    ends_keeping old new ended.exit ends.did.unwritten ends.did.kept
+ends_task (tasks.Judge script moment image) explains old new ended ends =
+    ends_keeping old new ended.exit ends.did.unwritten ends.did.kept
+ends_task (tasks.Path script moment image) explains old new ended ends =
+    ends_keeping old new ended.exit ends.did.unwritten ends.did.kept
+ends_task (tasks.Formats page) explains old new ended ends =
+    ends_keeping old new ended.exit ends.did.unwritten ends.did.kept
+ends_task (tasks.Show error) explains old new ended ends =
+    ends_keeping old new ended.exit ends.unwritten ends.kept
+ends_task (tasks.HasBadWord flaw word) explains old new ended ends =
+    ends_keeping old new ended.exit ends.unwritten ends.kept
 
 -- a line with nothing behind it
 nothing_behind : (old new : Option (List ℕ)) (line more : List ℕ) → more ≡ []
@@ -303,29 +215,31 @@ told_recording t (Ok status) ended off tells =
     by_end (Some cause) same = inl same
 told_recording t (Err fault) ended off tells = told_fault t fault ended off tells
 
--- what a judging tells
-told_judging : (t : ErrStream) (done : Result Verdict RunError) (ended : Ended) → t.explains ≡ false
-    → ReportsLine t (exit_judged done) (reported_line done) ended
+-- what an answer tells that is done or ruled out
+told_answer : {A : Type 0} (meaning : Meaning A)
+    → ((answer : A) → (meaning.ends answer ≡ Done) ⊎ (meaning.ends answer ≡ RuledOut))
+    → (t : ErrStream) (done : Result A RunError) (ended : Ended) → t.explains ≡ false
+    → ReportsLine t (exit_answered meaning done) (reported_line done) ended
     → ReportsBy ended.exit ended t.before t.after
-told_judging t (Ok verdicts.Yes) ended off tells =
+told_answer meaning ends t (Ok answer) ended off tells =
     subst (λ (e : Exit). ReportsBy e ended t.before t.after) (sym tells.exits)
-    (tells.quiet off refl)
-told_judging t (Ok (verdicts.No sector by)) ended off tells =
-    subst (λ (e : Exit). ReportsBy e ended t.before t.after) (sym tells.exits)
-    (tells.quiet off refl)
-told_judging t (Err cause) ended off tells = told_fault t cause ended off tells
+    (by_end (ends answer) (tells.quiet off refl))
+  where
+    by_end : (meaning.ends answer ≡ Done) ⊎ (meaning.ends answer ≡ RuledOut)
+        → t.after ≡ t.before → ReportsBy (meaning.ends answer) ended t.before t.after
+    by_end (inl is) same = subst (λ (e : Exit). ReportsBy e ended t.before t.after) (sym is) same
+    by_end (inr is) same = subst (λ (e : Exit). ReportsBy e ended t.before t.after) (sym is) same
+told_answer meaning ends t (Err cause) ended off tells = told_fault t cause ended off tells
 
--- what the finding of a path tells
-told_finding : (t : ErrStream) (done : Result Finding RunError) (ended : Ended) → t.explains ≡ false
-    → ReportsLine t (exit_answered finding_meaning done) (reported_line done) ended
-    → ReportsBy ended.exit ended t.before t.after
-told_finding t (Ok (findings.Run run)) ended off tells =
-    subst (λ (e : Exit). ReportsBy e ended t.before t.after) (sym tells.exits)
-    (tells.quiet off refl)
-told_finding t (Ok (findings.RuledOut sector by)) ended off tells =
-    subst (λ (e : Exit). ReportsBy e ended t.before t.after) (sym tells.exits)
-    (tells.quiet off refl)
-told_finding t (Err cause) ended off tells = told_fault t cause ended off tells
+verdict_ends : (verdict : Verdict)
+    → (verdict_meaning.ends verdict ≡ Done) ⊎ (verdict_meaning.ends verdict ≡ RuledOut)
+verdict_ends verdicts.Yes = inl refl
+verdict_ends (verdicts.No sector by) = inr refl
+
+finding_ends : (finding : Finding)
+    → (finding_meaning.ends finding ≡ Done) ⊎ (finding_meaning.ends finding ≡ RuledOut)
+finding_ends (findings.Run run) = inl refl
+finding_ends (findings.RuledOut sector by) = inr refl
 
 -- what a text tells
 text_tells : (kind : ErrorKind) (t : ErrStream) (ended : Ended) → EndsUntasked kind ended.exit
@@ -339,33 +253,33 @@ text_tells _ t ended ends tells off =
     subst (λ (e : Exit). ReportsBy e ended t.before t.after) (sym ends) tt
 
 -- what every task tells that doesn't explain itself
-pub task_tells : (task : Task) (contents : List ℕ → Option (List ℕ))
-    (writes_old writes_new : Option (List Write)) (old new : Option (List ℕ))
-    (t : ErrStream) (ended : Ended) → EndsTask task contents writes_old writes_new old new t ended
-    → t.explains ≡ false
-    → ReportsBy ended.exit ended t.before t.after
-task_tells (tasks.Record script log) contents writes_old writes_new old new t ended ends off =
-    told_recording t ends.done ended off ends.tells
-task_tells (tasks.Run script log) contents writes_old writes_new old new t ended ends off =
-    told_recording t ends.done ended off ends.tells
-task_tells (tasks.List log) contents writes_old writes_new old new t ended ends off =
-    told_by t ends.done ended off ends.tells
-task_tells (tasks.Status log) contents writes_old writes_new old new t ended ends off =
-    told_by t ends.done ended off ends.tells
-task_tells (tasks.Replay files upto) contents writes_old writes_new old new t ended ends off =
-    told_by t ends.done ended off ends.tells
-task_tells (tasks.Copy files sectors) contents writes_old writes_new old new t ended ends off =
-    told_by t ends.done ended off ends.tells
-task_tells (tasks.Judge script moment image) contents writes_old writes_new old new t ended ends
-    off = told_judging t ends.done ended off ends.tells
-task_tells (tasks.Path script moment image) contents writes_old writes_new old new t ended ends
-    off = told_finding t ends.done ended off ends.tells
-task_tells (tasks.Formats page) contents writes_old writes_new old new t ended ends off =
-    told_by t ends.told.done ended off ends.told.tells
-task_tells (tasks.Show error) contents writes_old writes_new old new t ended ends off =
-    text_tells (kind_of error) t ended ends.ends ends.tells off
-task_tells (tasks.HasBadWord flaw word) contents writes_old writes_new old new t ended ends off =
-    subst (λ (e : Exit). ReportsBy e ended t.before t.after) (sym ends.usage) tt
+pub task_tells : (task : Task) (explains : Bool) (old new : Seen) (ended : Ended)
+    → EndsTask task explains old new ended → explains ≡ false
+    → ReportsBy ended.exit ended old.err new.err
+task_tells (tasks.Record script log) explains old new ended ends off =
+    told_recording (err_stream explains old.err new.err) ends.done ended off ends.tells
+task_tells (tasks.Run script log) explains old new ended ends off =
+    told_recording (err_stream explains old.err new.err) ends.done ended off ends.tells
+task_tells (tasks.List log) explains old new ended ends off =
+    told_by (err_stream explains old.err new.err) ends.done ended off ends.tells
+task_tells (tasks.Status log) explains old new ended ends off =
+    told_by (err_stream explains old.err new.err) ends.done ended off ends.tells
+task_tells (tasks.Replay files upto) explains old new ended ends off =
+    told_by (err_stream explains old.err new.err) ends.done ended off ends.tells
+task_tells (tasks.Copy files sectors) explains old new ended ends off =
+    told_by (err_stream explains old.err new.err) ends.done ended off ends.tells
+task_tells (tasks.Judge script moment image) explains old new ended ends off =
+    told_answer verdict_meaning verdict_ends (err_stream explains old.err new.err) ends.done ended
+    off ends.tells
+task_tells (tasks.Path script moment image) explains old new ended ends off =
+    told_answer finding_meaning finding_ends (err_stream explains old.err new.err) ends.done ended
+    off ends.tells
+task_tells (tasks.Formats page) explains old new ended ends off =
+    told_by (err_stream explains old.err new.err) ends.done ended off ends.tells
+task_tells (tasks.Show error) explains old new ended ends off =
+    text_tells (kind_of error) (err_stream explains old.err new.err) ended ends.ends ends.tells off
+task_tells (tasks.HasBadWord flaw word) explains old new ended ends off =
+    subst (λ (e : Exit). ReportsBy e ended old.err new.err) (sym ends.usage) tt
 
 -- where there was no memory to read words, that is what they are read as
 pub memory_read : (words : List Text) (error : Error) → kind_of error ≡ OutOfMemory
@@ -376,17 +290,3 @@ memory_read words error is = read_as (is_formats words) words error is
         → IsReadAs formats words (tasks.Show error)
     read_as true words error is = is
     read_as false words error is = memory is
-
--- a log that was asked for is one file
-pub asks_for_one : (log : List ℕ) (kept : Type 0) (old new : Option (List Write))
-    → kept ⊎ AsksFor log old new → kept ⊎ AsksForOneWrite old new
-asks_for_one log kept old new (inl keeps) = inl keeps
-asks_for_one log kept old new (inr asked) = inr (log, asked)
-
--- what a recording or a run leaves, by its ends
-pub leaves_by : (holds : Exit → Option (List ℕ) → Type 0) (log : List ℕ)
-    (contents later : List ℕ → Option (List ℕ)) (exit : Exit)
-    → (exit ≡ Done → holds Done (later log))
-    → (exit ≡ LoggingEnded → KeepsFiles contents later ⊎ holds LoggingEnded (later log))
-    → LeavesBy holds log contents later exit
-leaves_by holds log contents later exit done ended = record { done = done; ended = ended }

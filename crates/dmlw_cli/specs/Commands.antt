@@ -11,23 +11,24 @@ use Rattle.clap.specs.declared.error.kind.ErrorKind.TheVariants.{DisplayHelp, Di
 use Rattle.clap.specs.declared.error.kind.ErrorKind.TheVariants.{OutOfMemory}
 use Rattle.clap.specs.Words.{kind_of}
 use Rattle.dmlw_cli.specs.declared.task.BadWord.{BadWord}
-use Rattle.dmlw_cli.specs.declared.task.BadWord.TheVariants as flaws
+use Rattle.dmlw_cli.specs.declared.task.BadWord.TheVariants as bad_words
 use Rattle.dmlw_cli.specs.declared.task.Task.{Task}
 use Rattle.dmlw_cli.specs.declared.task.Task.TheVariants as tasks
 use Rattle.dmlw_commands.specs.declared.exit.Exit.{Exit}
 use Rattle.dmlw_commands.specs.declared.exit.Exit.TheVariants.{Done, LoggingEnded, Refused}
 use Rattle.dmlw_commands.specs.declared.exit.Exit.TheVariants.{RuledOut, Usage}
 use Rattle.dmlw_commands.specs.declared.ending.Ended.{Ended}
-use Rattle.dmlw_commands.specs.Ends.{EndsRecording, EndsShowing, ErrStream, Tells, err_stream}
-use Rattle.dmlw_commands.specs.Exits.{exit_of, fault_line}
+use Rattle.dmlw_commands.specs.Ends.{Ends, ErrStream, Tells, err_stream}
+use Rattle.dmlw_commands.specs.Exits.{IsRefusal, exit_after, exit_by, exit_of, fault_line, status_of}
 use Rattle.dmlw_files.specs.Files.{AsksFor, KeepsFiles, Write}
-use Rattle.dmlw_commands.specs.Lists.{ListsImage, ShowsStatus}
-use Rattle.dmlw_commands.specs.Records.{HoldsLog}
-use Rattle.dmlw_commands.specs.Judgements.{EndsJudging}
-use Rattle.dmlw_commands.specs.Paths.{EndsFinding}
-use Rattle.dmlw_commands.specs.LogCopies.{EndsCopying, HoldsCopied}
-use Rattle.dmlw_commands.specs.LogRuns.{EndsRunning, HoldsRun}
-use Rattle.dmlw_commands.specs.Replays.{EndsReplaying, HoldsReplayed}
+use Rattle.dmlw_commands.specs.Judgements.{AnswersOf, exit_answered, verdict_meaning}
+use Rattle.dmlw_commands.specs.Lists.{ListsImage, ShowsLog, ShowsStatus}
+use Rattle.dmlw_commands.specs.LogCopies.{Copies}
+use Rattle.dmlw_commands.specs.LogRuns.{of_seats}
+use Rattle.dmlw_commands.specs.Paths.{finding_meaning}
+use Rattle.dmlw_commands.specs.Records.{Records, of_recorder}
+use Rattle.dmlw_commands.specs.Replays.{Replays}
+use Rattle.dmlw_commands.specs.Seen.{OnlyReads, Printing, Seen}
 use Rattle.dmlw_commands.specs.Whats.{IsWhat}
 use Rattle.replay.specs.declared.upto.Upto.{Upto}
 use Rattle.dmlw_cli.specs.CommandLine.{has_explain, without_explain}
@@ -64,11 +65,16 @@ unread_exit _ = Refused
 abbrev pub AsksForOneWrite : Option (List Write) → Option (List Write) → Type 0
 AsksForOneWrite old new = (name : List ℕ) × AsksFor name old new
 
--- The exit status is at most 3, and at most one file write was asked for. With status 2, none was.
-pub record EndsCommand (old new : Option (List Write)) (status : ℕ) : Type 0 where
-  pub known : status ≤ 3
-  pub once : (new ≡ old) ⊎ AsksForOneWrite old new
-  pub unwritten : status ≡ 2 → new ≡ old
+-- How every command line ends: with a status from 0 to 3, and it has asked for one file at most to
+-- be written, and for none if it is a usage fault. If it is refused, each file holds what it held.
+-- That is also so if logging ended and no log was asked to be written.
+pub record EndsCommand (old new : Seen) (exit : Exit) : Type 0 where
+  pub known : status_of exit ≤ 3
+  pub once : (new.writes ≡ old.writes) ⊎ AsksForOneWrite old.writes new.writes
+  pub unwritten : exit ≡ Usage → new.writes ≡ old.writes
+  pub kept : IsRefusal exit → KeepsFiles old.files new.files
+  pub unmade : exit ≡ LoggingEnded
+      → KeepsFiles old.files new.files ⊎ AsksForOneWrite old.writes new.writes
 
 -- What the error stream gets from a command that only shows clap's text. If memory ran out, it gets
 -- the line of this fault. If help or the version can't be printed, it gets the line of that fault.
@@ -79,53 +85,45 @@ ReportsUntasked DisplayHelp t ended = ReportsPrinting t ended
 ReportsUntasked DisplayVersion t ended = ReportsPrinting t ended
 ReportsUntasked _ t ended = Unit {0}
 
--- How a command ends that only shows clap's text. It asks for no file write, and exits as
--- `EndsUntasked` says. Nothing goes to the output unless the user asked for help or the version.
-pub record EndsText (kind : ErrorKind) (writes_old writes_new : Option (List Write))
-    (old new : Option (List ℕ)) (t : ErrStream) (ended : Ended) : Type 0 where
-  pub unwritten : writes_new ≡ writes_old
+-- How a text ends that is shown, as one of this kind: no file was asked to be written, each holds
+-- what it held, it ends as its kind has it, and nothing was printed on the output unless it was
+-- asked for.
+pub record EndsText (kind : ErrorKind) (explains : Bool) (old new : Seen)
+    (ended : Ended) : Type 0 where
+  pub unwritten : new.writes ≡ old.writes
+  pub kept : KeepsFiles old.files new.files
   pub ends : EndsUntasked kind ended.exit
-  pub silent : is_asked_for kind ≡ false → Keeps old new
-  pub tells : ReportsUntasked kind t ended
+  pub silent : is_asked_for kind ≡ false → Keeps old.out new.out
+  pub tells : ReportsUntasked kind (err_stream explains old.err new.err) ended
+
+-- a page was printed, or the output can't be written
+abbrev pub PrintsPage : List ℕ → Printing (Unit {0})
+PrintsPage page old new done = MatchResult done (λ _. Appends old new page) IsFileError
 
 -- How printing the page `page` ends. If it succeeds, the page is on the output. If it fails, the
 -- output can't be written or memory ran out, and the error stream gets the line of this fault.
 pub record ReportsPage (page : List ℕ) (old new : Option (List ℕ)) (t : ErrStream)
     (ended : Ended) : Type 0 where
   pub done : Result (Unit {0}) RunError
-  pub printed : MatchResult done (λ _. Appends old new page) IsFileError
+  pub printed : PrintsPage page old new done
   pub tells : Tells t done ended
 
--- How a command ends that prints the page `page`. It asks for no file write, and ends as
--- `ReportsPage` says.
-pub record EndsPage (page : List ℕ) (writes_old writes_new : Option (List Write))
-    (old new : Option (List ℕ)) (t : ErrStream) (ended : Ended) : Type 0 where
-  pub unwritten : writes_new ≡ writes_old
-  pub told : ReportsPage page old new t ended
-
--- How the command `replay` ends if the word `what` names the end of the replay.
-abbrev pub EndsReplayingUpTo : List ℕ → Option (List ℕ) → Option (List ℕ) → Option (List ℕ) → List ℕ
-    → Option (List Write) → Option (List Write) → Option (List ℕ)
-    → Option (List ℕ) → ErrStream → Ended → Type 0
-EndsReplayingUpTo what log_file first_file out_file name writes_old writes_new old new t ended =
+-- what a replay does in files of these names, up to what a word names
+abbrev pub EndsReplayingUpTo : List ℕ → List ℕ → List ℕ → List ℕ → Bool → Seen → Seen → Ended → Type 0
+EndsReplayingUpTo what log first out explains old new ended =
     (upto : Upto) × IsWhat what upto
-    × EndsReplaying log_file first_file out_file name upto writes_old writes_new old new t ended
-
--- What `replay` leaves in its output file if the word `what` names the end of the replay.
-abbrev pub LeavesReplayed : List ℕ → Option (List ℕ) → Option (List ℕ) → Option (List ℕ) → Type 0
-LeavesReplayed what log_file first_file written =
-    (upto : Upto) × IsWhat what upto × HoldsReplayed log_file first_file upto written
+    × Ends (Replays log first out upto) exit_by explains old new ended
 
 -- What follows a word of a wrong form in its message: the argument's name, the forms that the
 -- argument may have, and the command that prints help.
 abbrev pub allowed_forms : BadWord → List ℕ
-allowed_forms flaws.What =
+allowed_forms bad_words.What =
     codes
     "'<WHAT>'\n  [possible values: entries:<n>, mark:<text>, flush]\n\nFor more information, try 'dmlw help replay'."
-allowed_forms flaws.Sectors =
+allowed_forms bad_words.Sectors =
     codes
     "'<SECTORS>'\n  [possible values: a number from 8 to 1048576]\n\nFor more information, try 'dmlw help copy'."
-allowed_forms flaws.Moment =
+allowed_forms bad_words.Moment =
     codes
     "'<M>'\n  [possible values: a number of 1 to 20 digits, below 2^64]\n\nFor more information, try 'dmlw help judge'."
 
@@ -134,100 +132,39 @@ abbrev pub bad_word_text : BadWord → List ℕ → List ℕ
 bad_word_text flaw word =
     codes "error: invalid value '" ++ (word ++ (codes "' for " ++ (allowed_forms flaw ++ codes "\n")))
 
--- How a command line with a word of a wrong form ends. It exits with `Usage`, and asks for no file
--- write. If the error stream can be written, it gets the message. The output gets nothing.
-pub record EndsBadWord (flaw : BadWord) (word : List ℕ) (writes_old writes_new : Option (List Write))
-    (old new : Option (List ℕ)) (t : ErrStream) (ended : Ended) : Type 0 where
-  pub unwritten : writes_new ≡ writes_old
+-- How a command line ends that has such a word: as a usage fault, whose text was printed. Nothing
+-- was printed on the output, no file was asked to be written, and each holds what it held.
+pub record EndsBadWord (flaw : BadWord) (word : List ℕ) (explains : Bool) (old new : Seen)
+    (ended : Ended) : Type 0 where
+  pub unwritten : new.writes ≡ old.writes
+  pub kept : KeepsFiles old.files new.files
   pub usage : ended.exit ≡ Usage
-  pub silent : new ≡ old
-  pub told : ended.err_taken ≡ true → Appends t.before t.after (bad_word_text flaw word)
+  pub silent : new.out ≡ old.out
+  pub told : ended.err_taken ≡ true → Appends old.err new.err (bad_word_text flaw word)
 
--- How a task ends if the files hold `contents` before it.
-abbrev pub EndsTask : Task → (List ℕ → Option (List ℕ)) → Option (List Write) → Option (List Write)
-    → Option (List ℕ) → Option (List ℕ) → ErrStream → Ended → Type 0
-EndsTask (tasks.Record script log) contents writes_old writes_new old new t ended =
-    EndsRecording (contents script.now) log.now writes_old writes_new old new t ended
-EndsTask (tasks.Run script log) contents writes_old writes_new old new t ended =
-    EndsRunning (contents script.now) log.now writes_old writes_new old new t ended
-EndsTask (tasks.List log) contents writes_old writes_new old new t ended =
-    EndsShowing ListsImage (contents log.now) writes_old writes_new old new t ended
-EndsTask (tasks.Status log) contents writes_old writes_new old new t ended =
-    EndsShowing ShowsStatus (contents log.now) writes_old writes_new old new t ended
-EndsTask (tasks.Replay files upto) contents writes_old writes_new old new t ended =
-    EndsReplaying (contents files.log.now)
-    (contents files.first.now) (contents files.out.now) files.out.now upto writes_old writes_new old new t ended
-EndsTask (tasks.Copy files sectors) contents writes_old writes_new old new t ended =
-    EndsCopying (contents files.log.now) files.out.now sectors writes_old writes_new old new t ended
-EndsTask (tasks.Judge script moment image) contents writes_old writes_new old new t ended =
-    EndsJudging (record {
-      script = contents script.now;
-      image = contents image.now;
-      moment = moment;
-    }) writes_old writes_new old new t ended
-EndsTask (tasks.Path script moment image) contents writes_old writes_new old new t ended =
-    EndsFinding (record {
-      script = contents script.now;
-      image = contents image.now;
-      moment = moment;
-    }) writes_old writes_new old new t ended
-EndsTask (tasks.Formats page) contents writes_old writes_new old new t ended =
-    EndsPage page.now writes_old writes_new old new t ended
-EndsTask (tasks.Show error) contents writes_old writes_new old new t ended =
-    EndsText (kind_of error) writes_old writes_new old new t ended
-EndsTask (tasks.HasBadWord flaw word) contents writes_old writes_new old new t ended =
-    EndsBadWord flaw word.now writes_old writes_new old new t ended
+-- how a task ends, over what it saw
+abbrev pub EndsTask : Task → Bool → Seen → Seen → Ended → Type 0
+EndsTask (tasks.Record script log) = Ends (Records of_recorder script.now log.now) exit_after
+EndsTask (tasks.Run script log) = Ends (Records of_seats script.now log.now) exit_after
+EndsTask (tasks.List log) = Ends (ShowsLog ListsImage log.now) exit_by
+EndsTask (tasks.Status log) = Ends (ShowsLog ShowsStatus log.now) exit_by
+EndsTask (tasks.Replay files upto) =
+    Ends (Replays files.log.now files.first.now files.out.now upto) exit_by
+EndsTask (tasks.Copy files sectors) = Ends (Copies files.log.now files.out.now sectors) exit_by
+EndsTask (tasks.Judge script moment image) =
+    Ends (AnswersOf verdict_meaning script.now moment image.now) (exit_answered verdict_meaning)
+EndsTask (tasks.Path script moment image) =
+    Ends (AnswersOf finding_meaning script.now moment image.now) (exit_answered finding_meaning)
+EndsTask (tasks.Formats page) = Ends (OnlyReads (λ files. PrintsPage page.now)) exit_by
+EndsTask (tasks.Show error) = EndsText (kind_of error)
+EndsTask (tasks.HasBadWord flaw word) = EndsBadWord flaw word.now
 
--- What `record` or `run` leaves in the file `log`. If the command is done, `holds` is true for the
--- file's new content. If logging ended early, either no file changed, or `holds` is true for that
--- content.
-pub record LeavesBy (holds : Exit → Option (List ℕ) → Type 0) (log : List ℕ)
-    (contents later : List ℕ → Option (List ℕ)) (exit : Exit) : Type 0 where
-  pub done : exit ≡ Done → holds Done (later log)
-  pub ended : exit ≡ LoggingEnded → KeepsFiles contents later ⊎ holds LoggingEnded (later log)
-
--- After `record`, the file `log` holds the log of the script in the file `script` (`HoldsLog`),
--- with the exceptions that `LeavesBy` has.
-abbrev pub LeavesLog : List ℕ → List ℕ → (List ℕ → Option (List ℕ)) → (List ℕ → Option (List ℕ))
-    → Option (List ℕ) → Option (List ℕ) → Exit → Type 0
-LeavesLog script log contents later old new exit =
-    LeavesBy (λ by written. HoldsLog (contents script) by old new written) log contents later exit
-
--- After `run`, the file `log` holds the log of the seats in the file `script` (`HoldsRun`), with
--- the exceptions that `LeavesBy` has.
-abbrev pub LeavesRun : List ℕ → List ℕ → (List ℕ → Option (List ℕ)) → (List ℕ → Option (List ℕ))
-    → Option (List ℕ) → Option (List ℕ) → Exit → Type 0
-LeavesRun script log contents later old new exit =
-    LeavesBy (λ by written. HoldsRun (contents script) by old new written) log contents later exit
-
--- What a task leaves in its output file. For `record` and `run`, that is the log, if the exit
--- allows it. For a `replay` that is done, it is the image, and for a `copy` that is done, the new
--- log. For other tasks and exits nothing is claimed.
-abbrev pub TaskLeaves : Task → (List ℕ → Option (List ℕ)) → (List ℕ → Option (List ℕ))
-    → Option (List ℕ) → Option (List ℕ) → Exit → Type 0
-TaskLeaves (tasks.Record script log) contents later old new exit =
-    LeavesLog script.now log.now contents later old new exit
-TaskLeaves (tasks.Run script log) contents later old new exit =
-    LeavesRun script.now log.now contents later old new exit
-TaskLeaves (tasks.Replay files upto) contents later old new exit =
-    exit ≡ Done → HoldsReplayed (contents files.log.now) (contents files.first.now) upto
-    (later files.out.now)
-TaskLeaves (tasks.Copy files sectors) contents later old new exit =
-    exit ≡ Done → HoldsCopied (contents files.log.now) sectors (later files.out.now)
-TaskLeaves task contents later old new exit = Unit {0}
-
--- What the command line `words` does, if the files hold `contents` before it and `later` after it.
--- The words without `--explain` ask for `task`. The task ends as `EndsTask` says, and leaves in its
--- output file what `TaskLeaves` says. If `words` have `--explain`, more text may follow the line of
--- a fault.
-pub record DoesWords (words : List (List ℕ)) (contents later : List ℕ → Option (List ℕ))
-    (writes_old writes_new : Option (List Write)) (old new : Option (List ℕ))
-    (errors_old errors_new : Option (List ℕ)) (ended : Ended) : Type 0 where
+-- The result of a command line. Its words but `--explain` are read as a task. That task ends, over
+-- what was seen before and after, and explains itself if that word is among them.
+pub record DoesWords (words : List (List ℕ)) (old new : Seen) (ended : Ended) : Type 0 where
   pub task : Task
   pub read : IsRead (without_explain words) task
-  pub ends : EndsTask task contents writes_old writes_new old new
-      (err_stream (has_explain words) errors_old errors_new) ended
-  pub leaves : TaskLeaves task contents later old new ended.exit
+  pub ends : EndsTask task (has_explain words) old new ended
 
 -- `line` is the line of a fault whose exit is `exit`.
 pub record IsFaultLine (exit : Exit) (line : List ℕ) : Type 0 where

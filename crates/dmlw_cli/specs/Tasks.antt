@@ -11,7 +11,7 @@ use Rattle.dmlw_cli.specs.Counts.{IsSectorCount}
 use Rattle.dmlw_cli.specs.Names.{HasWords, name_text}
 use Rattle.dmlw_cli.specs.declared.name.Name.{Name}
 use Rattle.dmlw_cli.specs.declared.name.Name.TheVariants as names
-use Rattle.dmlw_cli.specs.declared.task.BadWord.TheVariants as flaws
+use Rattle.dmlw_cli.specs.declared.task.BadWord.TheVariants as bad_words
 use Rattle.dmlw_cli.specs.declared.task.Task.{Task}
 use Rattle.dmlw_cli.specs.declared.task.Task.TheVariants as tasks
 use Rattle.dmlw_commands.specs.Whats.{IsNoWhat, IsWhat}
@@ -35,22 +35,22 @@ AsksBy names.Replay rows (tasks.Replay files upto) =
     IsWord rows (codes "LOG") files.log.now × IsWord rows (codes "FIRST") files.first.now
     × IsWord rows (codes "OUT") files.out.now × (what : Text) × IsWord rows (codes "WHAT") what
     × IsWhat what upto
-AsksBy names.Replay rows (tasks.HasBadWord flaws.What what) =
+AsksBy names.Replay rows (tasks.HasBadWord bad_words.What what) =
     IsWord rows (codes "WHAT") what.now × IsNoWhat what.now
 AsksBy names.Copy rows (tasks.Copy files sectors) =
     IsWord rows (codes "LOG") files.log.now × IsWord rows (codes "OUT") files.out.now
     × (word : Text) × IsWord rows (codes "SECTORS") word × IsSectorCount word sectors
-AsksBy names.Copy rows (tasks.HasBadWord flaws.Sectors word) =
+AsksBy names.Copy rows (tasks.HasBadWord bad_words.Sectors word) =
     IsWord rows (codes "SECTORS") word.now × ((sectors : ℕ) → IsSectorCount word.now sectors → ⊥)
 AsksBy names.Judge rows (tasks.Judge script moment image) =
     IsWord rows (codes "SCRIPT") script.now × IsWord rows (codes "IMAGE") image.now
     × (m : Text) × IsWord rows (codes "M") m × IsNumber m moment
-AsksBy names.Judge rows (tasks.HasBadWord flaws.Moment m) =
+AsksBy names.Judge rows (tasks.HasBadWord bad_words.Moment m) =
     IsWord rows (codes "M") m.now × (is_number m.now ≡ false)
 AsksBy names.Path rows (tasks.Path script moment image) =
     IsWord rows (codes "SCRIPT") script.now × IsWord rows (codes "IMAGE") image.now
     × (m : Text) × IsWord rows (codes "M") m × IsNumber m moment
-AsksBy names.Path rows (tasks.HasBadWord flaws.Moment m) =
+AsksBy names.Path rows (tasks.HasBadWord bad_words.Moment m) =
     IsWord rows (codes "M") m.now × (is_number m.now ≡ false)
 AsksBy name rows (tasks.Show error) = kind_of error ≡ OutOfMemory
 AsksBy name rows task = ⊥

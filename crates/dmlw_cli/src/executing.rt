@@ -1,17 +1,17 @@
-//! Runs a command line. The program calls only `execute` and, if its words can't be read, `refuse`.
-ghost use Rattle.std.specs.Prelude.{◌≡◌, ◌⊎◌, Bool, IfErr, MatchResult, OnOk, false, map, true};
+//! Executes a command line: the program calls only `execute`.
+ghost use Rattle.std.specs.Prelude.{◌≡◌, Bool, IfErr, OnOk, false, map, true};
 ghost use Rattle.std.specs.Io.KnownBytes.{Appends, Keeps};
 ghost use Rattle.std.specs.IoError.{error_kind};
 ghost use Rattle.clap.specs.Words.{kind_of};
 ghost use Rattle.dmlw_cli.specs.CommandLine.{has_explain};
-ghost use Rattle.dmlw_cli.specs.Commands.{AsksForOneWrite, DoesWords, EndsCommand, EndsTask};
-ghost use Rattle.dmlw_cli.specs.Commands.{EndsUntasked, TaskLeaves, ReportsBy, ReportsPage};
-ghost use Rattle.dmlw_cli.specs.Commands.{ReportsUntasked, bad_word_text, is_asked_for, unread_exit};
+ghost use Rattle.dmlw_cli.specs.Commands.{DoesWords, EndsCommand, EndsTask, EndsUntasked};
+ghost use Rattle.dmlw_cli.specs.Commands.{PrintsPage, ReportsBy, ReportsPage, ReportsUntasked};
+ghost use Rattle.dmlw_cli.specs.Commands.{bad_word_text, is_asked_for, unread_exit};
 ghost use Rattle.dmlw_commands.specs.Ends.{err_stream};
+ghost use Rattle.dmlw_commands.specs.Seen.{seen};
 ghost use Rattle.refusals.specs.Errors.{IsFileError};
-ghost use Rattle.dmlw_files.specs.Files.{KeepsFiles};
-ghost use Rattle.dmlw_commands.specs.declared.exit.Exit.TheVariants.{LoggingEnded, Usage};
-ghost use Rattle.dmlw_commands.specs.Exits.{IsRefusal, status_of};
+ghost use Rattle.dmlw_commands.specs.declared.exit.Exit.TheVariants.{Usage};
+ghost use Rattle.dmlw_commands.specs.Exits.{status_of};
 
 use crate::command_line::{has_explain, read_words, unread, without_explain};
 use crate::task::{BadWord, Task};
@@ -50,23 +50,18 @@ pub fn execute<'a, S: AsStr, F: Files, O: Write, E: Write, H: Threads + Wait + S
     words: &'a [S],
     session: &mut Session<F, O, E>,
 ) -> Ended
-    ensures does { DoesWords (map S.text words.entry.now) (F.contents session.old.files)
-        (F.contents session.new.files) (F.writes session.old.files) (F.writes session.new.files)
-        (O.contents session.old.out) (O.contents session.new.out) (E.contents session.old.err)
-        (E.contents session.new.err) result }
-    ensures command { EndsCommand (F.writes session.old.files) (F.writes session.new.files)
-        (status_of result.exit) }
-
-    // If the command is refused, no file changes. If logging ended early, either no file changes,
-    // or one file write was asked for.
-    ensures kept { IsRefusal result.exit
-        → KeepsFiles (F.contents session.old.files) (F.contents session.new.files) }
-    ensures unmade { result.exit ≡ LoggingEnded
-        → KeepsFiles (F.contents session.old.files) (F.contents session.new.files)
-        ⊎ AsksForOneWrite (F.writes session.old.files) (F.writes session.new.files) }
-
-    // Without `--explain`, `err` gets nothing if the command is done. If the command is refused and
-    // `err` can be written, `err` gets one line.
+    ensures does { DoesWords (map S.text words.entry.now)
+        (seen (F.contents session.old.files) (F.writes session.old.files)
+        (O.contents session.old.out) (E.contents session.old.err))
+        (seen (F.contents session.new.files) (F.writes session.new.files)
+        (O.contents session.new.out) (E.contents session.new.err)) result }
+    ensures command { EndsCommand
+        (seen (F.contents session.old.files) (F.writes session.old.files)
+        (O.contents session.old.out) (E.contents session.old.err))
+        (seen (F.contents session.new.files) (F.writes session.new.files)
+        (O.contents session.new.out) (E.contents session.new.err)) result.exit }
+    // Without `--explain` nothing goes to `err` if it is done,
+    // and for a refusal its one line, as far as `err` takes it.
     ensures told { has_explain (map S.text words.entry.now) ≡ false
         → ReportsBy result.exit result (E.contents session.old.err) (E.contents session.new.err) }
 {
@@ -85,25 +80,16 @@ pub fn execute<'a, S: AsStr, F: Files, O: Write, E: Write, H: Threads + Wait + S
 }
 
 // Does a task, and returns how it ended.
-#[tactic(auto, using(crate::proofs::Ends::leaves_by))]
 fn perform<F: Files, O: Write, E: Write, H: Threads + Wait + Sync>(
     rt: &H,
     task: Task<'_>,
     session: &mut Session<F, O, E>,
 ) -> Ended
-    ensures ends { EndsTask task.entry (F.contents session.old.files) (F.writes session.old.files)
-        (F.writes session.new.files)
-        (O.contents session.old.out) (O.contents session.new.out)
-        (err_stream session.old.explains (E.contents session.old.err)
-        (E.contents session.new.err)) result }
-    ensures leaves { TaskLeaves task.entry (F.contents session.old.files)
-        (F.contents session.new.files)
-        (O.contents session.old.out) (O.contents session.new.out) result.exit }
-    ensures kept { IsRefusal result.exit
-        → KeepsFiles (F.contents session.old.files) (F.contents session.new.files) }
-    ensures unmade { result.exit ≡ LoggingEnded
-        → KeepsFiles (F.contents session.old.files) (F.contents session.new.files)
-        ⊎ AsksForOneWrite (F.writes session.old.files) (F.writes session.new.files) }
+    ensures { EndsTask task.entry session.old.explains
+        (seen (F.contents session.old.files) (F.writes session.old.files)
+        (O.contents session.old.out) (E.contents session.old.err))
+        (seen (F.contents session.new.files) (F.writes session.new.files)
+        (O.contents session.new.out) (E.contents session.new.err)) result }
 {
     match task {
         Task::Record { script, log } => record(script, log, session),
@@ -155,8 +141,7 @@ fn print_page<O: Write, E: Write>(alloc: Global, page: &str, out: &mut O, err: &
 }
 
 fn write_page<O: Write>(page: &str, out: &mut O) -> Result<(), RunError>
-    ensures { MatchResult result
-        (λ _. Appends (O.contents out.old) (O.contents out.new) page.now) IsFileError }
+    ensures { PrintsPage page.now (O.contents out.old) (O.contents out.new) result }
 {
     out.write_all(page.as_bytes())?;
     out.flush()?;

@@ -1,21 +1,21 @@
-//! Laws of command lines. Each law is a function that does nothing; its contract states the law.
-ghost use Rattle.std.specs.Prelude.{◌≡◌, ◌∷◌, [], List, Option, Some, false, true, ℕ};
+//! Laws of command lines: each is a function that does nothing, and its contract is the law.
+ghost use Rattle.std.specs.Prelude.{◌≡◌, ◌∷◌, [], List, Some, false, true, ℕ};
 ghost use Rattle.dmlw_cli.specs.CommandLine.{command_words, is_positional};
-ghost use Rattle.dmlw_cli.specs.Commands.{DoesWords, LeavesLog, LeavesReplayed, LeavesRun};
-ghost use Rattle.dmlw_cli.specs.Commands.{EndsReplayingUpTo};
+ghost use Rattle.dmlw_cli.specs.Commands.{DoesWords, EndsReplayingUpTo};
 ghost use Rattle.dmlw_cli.specs.Names.{name_of, name_text};
 ghost use Rattle.dmlw_cli.specs.declared.name.Name.{Name};
 ghost use Rattle.dmlw_cli.specs.declared.name.Name.TheVariants as names;
 ghost use Rattle.dmlw_commands.specs.declared.ending.Ended.{Ended};
-ghost use Rattle.dmlw_commands.specs.declared.exit.Exit.TheVariants.{Done};
-ghost use Rattle.dmlw_commands.specs.Ends.{EndsRecording, EndsShowing, err_stream};
-ghost use Rattle.dmlw_files.specs.Files.{Write};
-ghost use Rattle.dmlw_commands.specs.Lists.{ListsImage, ShowsStatus};
-ghost use Rattle.dmlw_commands.specs.LogCopies.{EndsCopying, HoldsCopied};
+ghost use Rattle.dmlw_commands.specs.Ends.{Ends};
+ghost use Rattle.dmlw_commands.specs.Exits.{exit_after, exit_by};
+ghost use Rattle.dmlw_commands.specs.Judgements.{AnswersOf, exit_answered, verdict_meaning};
+ghost use Rattle.dmlw_commands.specs.Lists.{ListsImage, ShowsLog, ShowsStatus};
+ghost use Rattle.dmlw_commands.specs.LogCopies.{Copies};
+ghost use Rattle.dmlw_commands.specs.LogRuns.{of_seats};
+ghost use Rattle.dmlw_commands.specs.Paths.{finding_meaning};
+ghost use Rattle.dmlw_commands.specs.Records.{Records, of_recorder};
+ghost use Rattle.dmlw_commands.specs.Seen.{Seen};
 ghost use Rattle.dmlw_cli.specs.Counts.{IsSectorCount};
-ghost use Rattle.dmlw_commands.specs.LogRuns.{EndsRunning};
-ghost use Rattle.dmlw_commands.specs.Judgements.{EndsJudging};
-ghost use Rattle.dmlw_commands.specs.Paths.{EndsFinding};
 ghost use Rattle.dmlw_commands.specs.Whats.{IsWhat};
 ghost use Rattle.replay.specs.declared.upto.Upto.{Upto};
 ghost use Rattle.refusals.specs.Words.{IsNumber};
@@ -28,149 +28,82 @@ pub fn names_are_distinct()
     ensures again { (name : Name) → name_of (name_text name) ≡ Some name }
 {}
 
-/// If SCRIPT and LOG don't begin with a hyphen, they are file names. `record SCRIPT LOG` records
-/// the script in the file SCRIPT, and asks for the log to be written to the file LOG.
+/// Words that don't begin with a hyphen are names of files. `record SCRIPT LOG` records the script
+/// in that file in that log: if it is done, the file LOG holds it.
 pub fn plain_words_record()
-    ensures ends { (contents later : List ℕ → Option (List ℕ)) (before after : Option (List Write))
-        (old new errors_old errors_new : Option (List ℕ)) (ended : Ended)
-        (program script log : List ℕ) → is_positional script ≡ true → is_positional log ≡ true →
-        DoesWords (command_words program names.Record
-        (script ∷ log ∷ [])) contents later before after old new errors_old errors_new ended →
-        EndsRecording (contents script) log before after old new
-        (err_stream false errors_old errors_new) ended }
-    // What the file LOG then holds: the log, if the command is done.
-    ensures leaves { (contents later : List ℕ → Option (List ℕ))
-        (before after : Option (List Write)) (old new errors_old errors_new : Option (List ℕ))
-        (ended : Ended)
-        (program script log : List ℕ) → is_positional script ≡ true → is_positional log ≡ true →
-        DoesWords (command_words program names.Record
-        (script ∷ log ∷ [])) contents later before after old new errors_old errors_new ended →
-        LeavesLog script log contents later old new ended.exit }
+    ensures { (old new : Seen) (ended : Ended) (program script log : List ℕ)
+        → is_positional script ≡ true
+        → is_positional log ≡ true
+        → DoesWords (command_words program names.Record (script ∷ log ∷ [])) old new ended
+        → Ends (Records of_recorder script log) exit_after false old new ended }
 {}
 
-/// If SCRIPT and LOG don't begin with a hyphen, they are file names. `run SCRIPT LOG` runs the
-/// seats of the script in the file SCRIPT, and asks for the log to be written to the file LOG.
+/// `run SCRIPT LOG` runs the seats of the script in that file, and records them in that log.
 pub fn plain_words_run()
-    ensures ends { (contents later : List ℕ → Option (List ℕ)) (before after : Option (List Write))
-        (old new errors_old errors_new : Option (List ℕ)) (ended : Ended)
-        (program script log : List ℕ) → is_positional script ≡ true → is_positional log ≡ true →
-        DoesWords (command_words program names.Run
-        (script ∷ log ∷ [])) contents later before after old new errors_old errors_new ended →
-        EndsRunning (contents script) log before after old new
-        (err_stream false errors_old errors_new) ended }
-    // What the file LOG then holds: the log, if the command is done.
-    ensures leaves { (contents later : List ℕ → Option (List ℕ))
-        (before after : Option (List Write)) (old new errors_old errors_new : Option (List ℕ))
-        (ended : Ended)
-        (program script log : List ℕ) → is_positional script ≡ true → is_positional log ≡ true →
-        DoesWords (command_words program names.Run
-        (script ∷ log ∷ [])) contents later before after old new errors_old errors_new ended →
-        LeavesRun script log contents later old new ended.exit }
+    ensures { (old new : Seen) (ended : Ended) (program script log : List ℕ)
+        → is_positional script ≡ true
+        → is_positional log ≡ true
+        → DoesWords (command_words program names.Run (script ∷ log ∷ [])) old new ended
+        → Ends (Records of_seats script log) exit_after false old new ended }
 {}
 
-/// If LOG doesn't begin with a hyphen, `list LOG` prints the entries of the log in the file LOG.
+/// `list LOG` prints the list of the log in that file.
 pub fn plain_words_list()
-    ensures { (contents later : List ℕ → Option (List ℕ)) (before after : Option (List Write))
-        (old new errors_old errors_new : Option (List ℕ)) (ended : Ended)
-        (program log : List ℕ) → is_positional log ≡ true →
-        DoesWords (command_words program names.List
-        (log ∷ [])) contents later before after old new errors_old errors_new ended →
-        EndsShowing ListsImage (contents log) before after old new
-        (err_stream false errors_old errors_new) ended }
+    ensures { (old new : Seen) (ended : Ended) (program log : List ℕ)
+        → is_positional log ≡ true
+        → DoesWords (command_words program names.List (log ∷ [])) old new ended
+        → Ends (ShowsLog ListsImage log) exit_by false old new ended }
 {}
 
-/// If LOG doesn't begin with a hyphen, `status LOG` prints the status of the log in the file LOG.
+/// `status LOG` prints the status of the log in that file.
 pub fn plain_words_status()
-    ensures { (contents later : List ℕ → Option (List ℕ)) (before after : Option (List Write))
-        (old new errors_old errors_new : Option (List ℕ)) (ended : Ended)
-        (program log : List ℕ) → is_positional log ≡ true →
-        DoesWords (command_words program names.Status
-        (log ∷ [])) contents later before after old new errors_old errors_new ended →
-        EndsShowing ShowsStatus (contents log) before after old new
-        (err_stream false errors_old errors_new) ended }
+    ensures { (old new : Seen) (ended : Ended) (program log : List ℕ)
+        → is_positional log ≡ true
+        → DoesWords (command_words program names.Status (log ∷ [])) old new ended
+        → Ends (ShowsLog ShowsStatus log) exit_by false old new ended }
 {}
 
-/// LOG, FIRST and OUT are any file names that don't begin with a hyphen, and WHAT names the end of
-/// a replay. Then `replay LOG FIRST OUT WHAT` replays the log in the file LOG up to this end, onto
-/// the image in the file FIRST. It asks for the resulting image to be written to the file OUT.
+/// `replay LOG FIRST OUT WHAT` replays the log in that file, up to what WHAT names, on the image in
+/// the file FIRST. If it is done, the file OUT holds the resulting image.
 pub fn plain_words_replay()
-    ensures ends { (contents later : List ℕ → Option (List ℕ)) (before after : Option (List Write))
-        (old new errors_old errors_new : Option (List ℕ)) (ended : Ended)
-        (program log first out what : List ℕ) (upto : Upto) → is_positional log ≡ true
-        → is_positional first ≡ true → is_positional out ≡ true →
-        IsWhat what upto →
-        DoesWords (command_words program names.Replay (log ∷ first ∷ out ∷ what ∷ [])) contents
-        later before after old new errors_old errors_new ended →
-        EndsReplayingUpTo what (contents log) (contents first) (contents out) out before after old new
-        (err_stream false errors_old errors_new) ended }
-    // If the command is done, the file OUT holds the resulting image.
-    ensures leaves { (contents later : List ℕ → Option (List ℕ))
-        (before after : Option (List Write)) (old new errors_old errors_new : Option (List ℕ))
-        (ended : Ended)
-        (program log first out what : List ℕ) (upto : Upto) → is_positional log ≡ true
-        → is_positional first ≡ true → is_positional out ≡ true →
-        IsWhat what upto →
-        DoesWords (command_words program names.Replay (log ∷ first ∷ out ∷ what ∷ [])) contents
-        later before after old new errors_old errors_new ended →
-        ended.exit ≡ Done → LeavesReplayed what (contents log) (contents first) (later out) }
+    ensures { (old new : Seen) (ended : Ended) (program log first out what : List ℕ) (upto : Upto)
+        → is_positional log ≡ true
+        → is_positional first ≡ true
+        → is_positional out ≡ true
+        → IsWhat what upto
+        → DoesWords (command_words program names.Replay (log ∷ first ∷ out ∷ what ∷ [])) old new ended
+        → EndsReplayingUpTo what log first out false old new ended }
 {}
 
-/// LOG and OUT are any file names that don't begin with a hyphen, and SECTORS is a number from 8 to
-/// 1,048,576. Then `copy LOG OUT SECTORS` copies the log in the file LOG to a new log with sectors
-/// of 4,096 bytes. The new log's disk has SECTORS sectors. The command asks for the new log to be
-/// written to the file OUT.
+/// `copy LOG OUT SECTORS` copies the log in that file to a new one with sectors of 4,096 bytes, on
+/// a disk of SECTORS sectors. If it is done, the file OUT holds the new log.
 pub fn plain_words_copy()
-    ensures ends { (contents later : List ℕ → Option (List ℕ)) (before after : Option (List Write))
-        (old new errors_old errors_new : Option (List ℕ)) (ended : Ended)
-        (program log out word : List ℕ) (sectors : ℕ) → is_positional log ≡ true
-        → is_positional out ≡ true → IsSectorCount word sectors →
-        DoesWords (command_words program names.Copy
-        (log ∷ out ∷ word ∷ [])) contents later before after old new errors_old errors_new ended →
-        EndsCopying (contents log) out sectors before after old new
-        (err_stream false errors_old errors_new) ended }
-    // If the command is done, the file OUT holds the new log.
-    ensures leaves { (contents later : List ℕ → Option (List ℕ))
-        (before after : Option (List Write)) (old new errors_old errors_new : Option (List ℕ))
-        (ended : Ended)
-        (program log out word : List ℕ) (sectors : ℕ) → is_positional log ≡ true
-        → is_positional out ≡ true → IsSectorCount word sectors →
-        DoesWords (command_words program names.Copy
-        (log ∷ out ∷ word ∷ [])) contents later before after old new errors_old errors_new ended →
-        ended.exit ≡ Done → HoldsCopied (contents log) sectors (later out) }
+    ensures { (old new : Seen) (ended : Ended) (program log out word : List ℕ) (sectors : ℕ)
+        → is_positional log ≡ true
+        → is_positional out ≡ true
+        → IsSectorCount word sectors
+        → DoesWords (command_words program names.Copy (log ∷ out ∷ word ∷ [])) old new ended
+        → Ends (Copies log out sectors) exit_by false old new ended }
 {}
 
-/// SCRIPT and IMAGE are any file names that don't begin with a hyphen, and M is any number. Then
-/// `judge SCRIPT M IMAGE` judges the image in the file IMAGE after the first M events of the script
-/// in the file SCRIPT.
+/// `judge SCRIPT M IMAGE` judges the image in that file by the script in that file, after its first
+/// M events.
 pub fn plain_words_judge()
-    ensures { (contents later : List ℕ → Option (List ℕ)) (before after : Option (List Write))
-        (old new errors_old errors_new : Option (List ℕ)) (ended : Ended)
-        (program script m image : List ℕ) (moment : ℕ) → is_positional script ≡ true
-        → IsNumber m moment → is_positional image ≡ true →
-        DoesWords (command_words program names.Judge
-        (script ∷ m ∷ image ∷ [])) contents later before after old new errors_old errors_new ended →
-        EndsJudging (record {
-          script = contents script;
-          image = contents image;
-          moment = moment;
-        }) before after old new
-        (err_stream false errors_old errors_new) ended }
+    ensures { (old new : Seen) (ended : Ended) (program script m image : List ℕ) (moment : ℕ)
+        → is_positional script ≡ true → IsNumber m moment
+        → is_positional image ≡ true
+        → DoesWords (command_words program names.Judge (script ∷ m ∷ image ∷ [])) old new ended
+        → Ends (AnswersOf verdict_meaning script moment image)
+        (exit_answered verdict_meaning) false old new ended }
 {}
 
-/// SCRIPT and IMAGE are any file names that don't begin with a hyphen, and M is any number. Then
-/// `path SCRIPT M IMAGE` prints a run of the script's disk that leaves the image in the file IMAGE.
-/// The run ends after the first M events of the script in the file SCRIPT.
+/// `path SCRIPT M IMAGE` prints how the image in that file could have come to the device of the
+/// script in that file, after its first M events.
 pub fn plain_words_path()
-    ensures { (contents later : List ℕ → Option (List ℕ)) (before after : Option (List Write))
-        (old new errors_old errors_new : Option (List ℕ)) (ended : Ended)
-        (program script m image : List ℕ) (moment : ℕ) → is_positional script ≡ true
-        → IsNumber m moment → is_positional image ≡ true →
-        DoesWords (command_words program names.Path
-        (script ∷ m ∷ image ∷ [])) contents later before after old new errors_old errors_new ended →
-        EndsFinding (record {
-          script = contents script;
-          image = contents image;
-          moment = moment;
-        }) before after old new
-        (err_stream false errors_old errors_new) ended }
+    ensures { (old new : Seen) (ended : Ended) (program script m image : List ℕ) (moment : ℕ)
+        → is_positional script ≡ true → IsNumber m moment
+        → is_positional image ≡ true
+        → DoesWords (command_words program names.Path (script ∷ m ∷ image ∷ [])) old new ended
+        → Ends (AnswersOf finding_meaning script moment image)
+        (exit_answered finding_meaning) false old new ended }
 {}

@@ -1,241 +1,178 @@
--- How the commands end: a recording leaves its log or each file as it was.
--- Serves the proofs of `record_script`, `record`, `list` and `status`.
-use Rattle.std.proofs.Common.{◌≡◌, ◌∙◌, ◌⊎◌, ℕ, List, Option, None, Some, Result, Ok, Err, IfErr}
-use Rattle.std.proofs.Common.{IfOk, OnErr, inl, inr, refl, subst, sym}
-use Rattle.std.specs.Io.KnownBytes.{Keeps}
+-- How every command ends: what it did stays so while its end is reported.
+use Rattle.std.proofs.Common.{◌≡◌, ◌∙◌, ◌⊎◌, ℕ, Bool, List, Option, Result, Ok, Err, ap, inl, inr}
+use Rattle.std.proofs.Common.{subst, sym}
+use Rattle.std.specs.Io.KnownBytes.{Appends, Keeps}
+use Rattle.std.specs.Result.{IsErrAnd}
+use Rattle.script_runner.specs.CallLaws.{appends_kept, keeps_twice}
+use Rattle.refusals.specs.declared.run_error.RunError.{RunError}
+use Rattle.refusals.specs.Errors.{IsFileError}
 use Rattle.dmlw_commands.specs.declared.ending.Ended.{Ended}
 use Rattle.dmlw_commands.specs.declared.exit.Exit.{Exit}
-use Rattle.dmlw_commands.specs.declared.exit.Exit.TheVariants as exits
-use Rattle.refusals.specs.declared.run_error.RunError.{RunError}
-use Rattle.refusals.specs.declared.run_error.RunError.TheVariants as faults
-use Rattle.script_runner.specs.DiskRun.{stack_answering, DiskRun, FailsOnDisks, file as no_file}
-use Rattle.script_runner.specs.DiskRun.{run as no_run, unmade}
-use Rattle.script_runner.specs.Runs.{EndsRun, close, file as by_file, message}
-use Rattle.refusals.specs.declared.end.End.{End}
-use Rattle.bio.specs.declared.outcome.Status.{Status}
-use Rattle.dmlw_commands.specs.Ends.{EndsRecording, EndsShowing, ErrStream, Tells, ReportsLine}
-use Rattle.dmlw_commands.specs.Exits.{IsRefusal, exit_after, exit_at, reported_line}
-use Rattle.dmlw_files.specs.Files.{AsksFor, KeepsFiles, MatchesContents, Write}
-use Rattle.dmlw_commands.specs.Lists.{Shows, ShowsFile}
-use Rattle.dmlw_commands.specs.Records.{FailsRecording, HoldsLog, IsPrintedLog, Records, PrintsLog}
-use Rattle.dmlw_commands.specs.Records.{WritesLog, file, run as ran, text as unread}
-use Rattle.dmlw_script.specs.Plans.{ScriptValue}
-use Rattle.dmlw_commands.proofs.ListLines.{IsKept, shows_kept}
-use Rattle.script_runner.specs.CallLaws.{appends_kept, keeps_twice}
+use Rattle.dmlw_commands.specs.declared.exit.Exit.TheVariants.{Done, Refused}
+use Rattle.dmlw_commands.specs.Ends.{Ends, ErrStream, ReportsLine, err_stream}
+use Rattle.dmlw_commands.specs.Exits.{exit_by, exit_of, fault_line, reported_line}
+use Rattle.dmlw_commands.specs.Makings.{Asks, FailsMaking, IsMade, Makes, Making}
+use Rattle.dmlw_commands.specs.Makings.{taken, unmade, unprinted, unwritten}
+use Rattle.dmlw_commands.specs.Seen.{OnlyReads, Printing, Seen}
+use Rattle.dmlw_files.specs.Files.{KeepsFiles, MatchesContents, Write, one_more}
 
--- why a run ended is kept
-run_kept : (text : List ℕ) (script : ScriptValue) (old middle new : Option (List ℕ))
-    (start : DiskRun) (fault : RunError)
-    → EndsRun stack_answering text script old middle start fault
-    → Keeps middle new → EndsRun stack_answering text script old new start fault
-run_kept text script old middle new start fault (by_file f is) kept = by_file f is
-run_kept text script old middle new start fault (close place refusal printed is output) kept =
-    close place refusal printed is (appends_kept old middle new printed output kept)
-run_kept text script old middle new start fault (message place error printed is output) kept =
-    message place error printed is (appends_kept old middle new printed output kept)
+-- what a command has printed stays so while the output keeps what it holds
+abbrev pub IsKept : {T : Type 0} → Printing T → Type 0
+IsKept {T = T} prints =
+    (old mid new : Option (List ℕ)) (done : Result T RunError) → prints old mid done
+    → Keeps mid new → prints old new done
 
--- why recording on disks failed is kept
-disks_kept : (text : List ℕ) (script : ScriptValue) (old middle new : Option (List ℕ))
-    (fault : RunError) → FailsOnDisks text script old middle fault
-    → Keeps middle new → FailsOnDisks text script old new fault
-disks_kept text script old middle new fault (no_file f is) kept = no_file f is
-disks_kept text script old middle new fault (unmade f is none) kept =
-    unmade f is (keeps_twice old middle new none kept)
-disks_kept text script old middle new fault (no_run start f starts ends) kept =
-    no_run start f starts (run_kept text script old middle new start f ends kept)
-
--- why a recording failed is kept
-failure_kept : (contents old middle new : Option (List ℕ)) (fault : RunError)
-    → FailsRecording contents old middle fault → Keeps middle new
-    → FailsRecording contents old new fault
-failure_kept contents old middle new fault (file f is) kept = file f is
-failure_kept contents old middle new fault (unread bytes line refusal read none first before) kept =
-    unread bytes line refusal read none first (keeps_twice old middle new before kept)
-failure_kept contents old middle new fault (ran bytes script f read spells ends) kept =
-    ran bytes script f read spells (disks_kept bytes script old middle new f ends kept)
-
--- what was printed before a log was asked for is kept
-prints_kept : (contents : Option (List ℕ)) (log : List ℕ)
-    (writes_old writes_new : Option (List Write)) (old middle new : Option (List ℕ))
-    (status : Status)
-    → PrintsLog contents log writes_old writes_new old middle status → Keeps middle new
-    → PrintsLog contents log writes_old writes_new old new status
-prints_kept contents log writes_old writes_new old middle new status
-    (bytes, output, writes) kept = (
-      bytes,
-      record {
-        text = output.text;
-        script = output.script;
-        lines = output.lines;
-        lies = output.lies;
-        read = output.read;
-        spelled = output.spelled;
-        recorded = output.recorded;
-        output = appends_kept old middle new _ output.output kept;
-      },
-      writes,
-    )
-
--- what recording has printed is kept
-records_kept : (contents : Option (List ℕ)) (log : List ℕ)
-    (writes_old writes_new : Option (List Write)) (old middle new : Option (List ℕ))
-    (done : Result Status RunError) → Records contents log writes_old writes_new old middle done
-    → Keeps middle new
-    → Records contents log writes_old writes_new old new done
-records_kept contents log writes_old writes_new old middle new (Ok status) prints kept =
-    prints_kept contents log writes_old writes_new old middle new status prints kept
-records_kept contents log writes_old writes_new old middle new (Err fault) (inl same, fails) kept =
-    (inl same, failure_kept contents old middle new fault fails kept)
-records_kept contents log writes_old writes_new old middle new (Err fault)
-    (inr (is, status, prints), fails) kept = (
-      inr (
-        is,
-        status,
-        prints_kept contents log writes_old writes_new old middle new status prints
-            kept,
-      ),
-      failure_kept contents old middle new fault fails kept,
-    )
-
--- what recording comes to, by the clauses of the call
-pub records_all : (contents : Option (List ℕ)) (log : List ℕ)
-    (writes_old writes_new : Option (List Write)) (old new : Option (List ℕ))
-    (done : Result Status RunError) → WritesLog contents log writes_old writes_new old new done
-    → IfErr done (FailsRecording contents old new)
-    → Records contents log writes_old writes_new old new done
-records_all contents log writes_old writes_new old new (Ok status) writes fails = writes
-records_all contents log writes_old writes_new old new (Err fault) writes fails = (writes, fails)
-
--- how a recording ends
-pub recording_ends : (contents : Option (List ℕ)) (log : List ℕ)
-    (writes_old writes_middle writes_new : Option (List Write)) (old middle new : Option (List ℕ))
-    (t : ErrStream) (done : Result Status RunError) (ended : Ended)
-    → Records contents log writes_old writes_middle old middle done → Keeps middle new
-    → writes_new ≡ writes_middle
-    → ReportsLine t (exit_after done) (reported_line done) ended
-    → EndsRecording contents log writes_old writes_new old new t ended
-recording_ends contents log writes_old writes_middle writes_new old middle new t done ended records
-    kept same tells = record {
+-- how a command ends that only reads
+pub reads_end : {T : Type 0} (prints : (List ℕ → Option (List ℕ)) → Printing T)
+    (exits : Result T RunError → Exit) (explains : Bool) (old new : Seen) (mid : Option (List ℕ))
+    (done : Result T RunError) (ended : Ended)
+    → ((files : List ℕ → Option (List ℕ)) → IsKept (prints files))
+    → prints old.files old.out mid done → Keeps mid new.out → new.writes ≡ old.writes
+    → KeepsFiles old.files new.files
+    → ReportsLine (err_stream explains old.err new.err) (exits done) (reported_line done) ended
+    → Ends (OnlyReads prints) exits explains old new ended
+reads_end prints exits explains old new mid done ended stable printed later same kept tells =
+    record {
       done = done;
-      recorded = records_kept contents log writes_old writes_new old middle new done
-          (subst (λ (writes : Option
-          (List Write)). Records contents log writes_old writes old middle done)
-          (sym same) records) kept;
+      did = record {
+        printed = stable old.files old.out mid new.out done printed later;
+        unwritten = same;
+        kept = kept;
+      };
       tells = tells;
     }
 
--- how a command on the image in a file ends
-pub showing_ends : (shows : Shows) (stable : IsKept shows) (contents : Option (List ℕ))
-    (writes_old writes_new : Option (List Write))
-    (old middle new : Option (List ℕ)) (t : ErrStream) (done : Result (Unit {0}) RunError)
-    (ended : Ended)
-    → ShowsFile shows contents old middle done → Keeps middle new → writes_new ≡ writes_old
-    → Tells t done ended → EndsShowing shows contents writes_old writes_new old new t ended
-showing_ends shows stable contents writes_old writes_new old middle new t done ended shown kept
-    unwritten tells = record {
-      unwritten = unwritten;
-      done = done;
-      shown = shows_kept shows stable contents old middle new done shown kept;
-      tells = tells;
-    }
+-- from one time to the other no file was touched, and the output keeps what it held
+pub record Stays (mid new : Seen) : Type 0 where
+  pub files : KeepsFiles mid.files new.files
+  pub writes : new.writes ≡ mid.writes
+  pub out : Keeps mid.out new.out
 
--- a recording has asked for its log, or each file holds what it held, also after a call that asks
--- for none and leaves them
-pub keeps_or_asks : (contents : Option (List ℕ)) (log : List ℕ)
-    (writes_old writes_mid writes_new : Option (List Write)) (before after : Option (List ℕ))
-    (old mid new : List ℕ → Option (List ℕ)) (done : Result Status RunError)
-    → WritesLog contents log writes_old writes_mid before after done
-    → OnErr done (KeepsFiles old mid) → KeepsFiles mid new → writes_new ≡ writes_mid
-    → KeepsFiles old new ⊎ AsksFor log writes_old writes_new
-keeps_or_asks contents log writes_old writes_mid writes_new before after old mid new (Ok status)
-    asked kept same unwritten = inr (asked.0, unwritten ∙ asked.2)
-keeps_or_asks contents log writes_old writes_mid writes_new before after old mid new (Err fault)
-    asked kept same unwritten = inl (λ name. same name ∙ kept name)
+-- why nothing is made stays so while the output keeps what it holds
+abbrev pub IsSteady : (Option (List ℕ) → Option (List ℕ) → RunError → Type 0) → Type 0
+IsSteady fails =
+    (old mid new : Option (List ℕ)) (fault : RunError) → fails old mid fault → Keeps mid new
+    → fails old new fault
 
--- a log that was written is held where its file is
-pub holds_log : (contents : Option (List ℕ)) (status : Status) (bytes wrote : List ℕ)
-    (before after written : Option (List ℕ)) → IsPrintedLog contents status bytes before after
-    → wrote ≡ bytes → MatchesContents written wrote
-    → HoldsLog contents (exit_at status.end) before after written
-holds_log contents status bytes wrote before after written printed same held = record {
-  status = status;
-  ends = refl;
-  bytes = bytes;
+-- so it is if nothing is printed then
+pub keeping_steady : (P : RunError → Type 0) → IsSteady (λ old new fault. P fault × Keeps old new)
+keeping_steady P old mid new fault (fails, none) kept = (fails, keeps_twice old mid new none kept)
+
+-- what was made and asked for
+abbrev pub asks_for : {T : Type 0} (making : Making T) (name : List ℕ) (old new : Seen)
+    (writes : Option (List Write)) (result : T) (lines image : List ℕ)
+    → making.makes result lines image → Appends old.out new.out lines → writes ≡ old.writes
+    → new.writes ≡ one_more writes name image → Asks making name old new result
+asks_for making name old new writes result lines image made printed same asked = record {
+  lines = lines;
+  image = image;
+  made = made;
   printed = printed;
-  held = subst (λ (bs : List ℕ). MatchesContents written bs) same held;
+  asked = asked ∙ ap (λ (w : Option (List Write)). one_more w name image) same;
 }
 
--- it is held still, where each file was kept since and nothing more was printed
-log_kept : (contents : Option (List ℕ)) (exit exit_new : Exit)
-    (before middle after : Option (List ℕ)) (mid new : List ℕ → Option (List ℕ)) (name : List ℕ)
-    → HoldsLog contents exit before middle (mid name) → Keeps middle after → KeepsFiles mid new
-    → exit_new ≡ exit → HoldsLog contents exit_new before after (new name)
-log_kept contents exit exit_new before middle after mid new name log quiet kept same = record {
-  status = log.status;
-  ends = same ∙ log.ends;
-  bytes = log.bytes;
-  printed = record {
-    text = log.printed.text;
-    script = log.printed.script;
-    lines = log.printed.lines;
-    lies = log.printed.lies;
-    read = log.printed.read;
-    spelled = log.printed.spelled;
-    recorded = log.printed.recorded;
-    output = appends_kept before middle after _ log.printed.output quiet;
-  };
-  held =
-      subst (λ (file_new : Option (List ℕ)). MatchesContents file_new log.bytes)
-      (sym (kept name)) log.held;
+-- nothing was made, or its image couldn't be written
+pub makes_none : {T : Type 0} (making : (List ℕ → Option (List ℕ)) → Making T)
+    (read name : List ℕ) (old new : Seen) {Q : RunError → Type 0} (r : Result T RunError)
+    → IsErrAnd r Q
+    → ((fault : RunError) → Q fault → FailsMaking (making old.files) read name old new fault)
+    → KeepsFiles old.files new.files → (read ≡ name → new.writes ≡ old.writes)
+    → Makes making read name old new r
+makes_none making read name old new (Ok result) fails why kept apart = absurd fails
+makes_none making read name old new (Err fault) fails why kept apart =
+    record { came = (why fault fails, kept); apart = apart }
+
+-- what was asked for stays so
+abbrev asks_kept : {T : Type 0} (making : Making T) (name : List ℕ) (old mid new : Seen) (result : T)
+    → Asks making name old mid result → Stays mid new → Asks making name old new result
+asks_kept making name old mid new result asks stays = record {
+  lines = asks.lines;
+  image = asks.image;
+  made = asks.made;
+  printed = appends_kept old.out mid.out new.out asks.lines asks.printed stays.out;
+  asked = stays.writes ∙ asks.asked;
 }
 
--- a recording that is done leaves its log in the file
-pub done_holds : (contents : Option (List ℕ)) (before middle after : Option (List ℕ))
-    (mid new : List ℕ → Option (List ℕ)) (name : List ℕ)
-    (done : Result Status RunError) (exit : Exit)
-    → IfOk done (λ status. HoldsLog contents (exit_at status.end) before middle (mid name))
-    → Keeps middle after → KeepsFiles mid new
-    → exit ≡ exit_after done → exit ≡ exits.Done
-    → HoldsLog contents exits.Done before after (new name)
-done_holds contents before middle after mid new name (Ok status) exit log quiet kept same is =
-    log_kept contents (exit_at status.end) exits.Done before middle after mid new name log quiet
-    kept (sym is ∙ same)
-done_holds contents before middle after mid new name (Err (faults.Refused fault)) exit log quiet
-    kept same is = absurd (cc (same, is))
-done_holds contents before middle after mid new name (Err (faults.LoggingEnded end)) exit log quiet
-    kept same is = absurd (cc (same, is))
-done_holds contents before middle after mid new name
-    (Err (faults.StoppedAfter applied refusal)) exit log quiet kept same is =
-    absurd (cc (same, is))
+-- and why it failed
+fails_kept : {T : Type 0} (making : Making T) → IsSteady making.fails → (read name : List ℕ)
+    (old mid new : Seen) (fault : RunError) → FailsMaking making read name old mid fault
+    → Stays mid new → FailsMaking making read name old new fault
+fails_kept making steady read name old mid new fault (unmade fails same) stays =
+    unmade (steady old.out mid.out new.out fault fails stays.out) (stays.writes ∙ same)
+fails_kept making steady read name old mid new fault (taken is one none same) stays =
+    taken is one (keeps_twice old.out mid.out new.out none stays.out) (stays.writes ∙ same)
+fails_kept making steady read name old mid new fault
+    (unprinted is result lines image made same) stays =
+    unprinted is result lines image made (stays.writes ∙ same)
+fails_kept making steady read name old mid new fault (unwritten is result asks) stays =
+    unwritten is result (asks_kept making name old mid new result asks stays)
 
--- one in which logging ended leaves it there too, or each file as it was
-pub ended_holds : (contents : Option (List ℕ)) (before middle after : Option (List ℕ))
-    (old mid new : List ℕ → Option (List ℕ)) (name : List ℕ)
-    (done : Result Status RunError) (exit : Exit)
-    → IfOk done (λ status. HoldsLog contents (exit_at status.end) before middle (mid name))
-    → OnErr done (KeepsFiles old mid) → Keeps middle after → KeepsFiles mid new
-    → exit ≡ exit_after done → exit ≡ exits.LoggingEnded
-    → KeepsFiles old new ⊎ HoldsLog contents exits.LoggingEnded before after (new name)
-ended_holds contents before middle after old mid new name
-    (Ok status) exit log none quiet kept same is =
-    inr (log_kept contents (exit_at status.end) exits.LoggingEnded before middle after mid new name
-    log quiet kept (sym is ∙ same))
-ended_holds contents before middle after old mid new name (Err fault) exit log none quiet kept same
-    is = inl (λ file. kept file ∙ none file)
+-- and all that a command made
+makes_kept : {T : Type 0} (making : (List ℕ → Option (List ℕ)) → Making T)
+    → ((files : List ℕ → Option (List ℕ)) → IsSteady (making files).fails) → (read name : List ℕ)
+    (old mid new : Seen) (done : Result T RunError) → Makes making read name old mid done
+    → Stays mid new → Makes making read name old new done
+makes_kept making steady read name old mid new (Ok result) makes stays =
+    let made : IsMade (making old.files) name old mid result = makes.came in
+    record {
+      came = record {
+        asks = asks_kept (making old.files) name old mid new result made.asks stays;
+        held = subst (λ (file : Option (List ℕ)). MatchesContents file made.asks.image)
+            (sym (stays.files name)) made.held;
+      };
+      apart = λ is. stays.writes ∙ makes.apart is;
+    }
+makes_kept making steady read name old mid new (Err fault) makes stays = record {
+  came = (
+    fails_kept (making old.files) (steady old.files) read name old mid new fault makes.came.0 stays,
+    λ file. stays.files file ∙ makes.came.1 file,
+  );
+  apart = λ is. stays.writes ∙ makes.apart is;
+}
 
--- a recording that came so far isn't refused
-not_refused : (end : Option End) → IsRefusal (exit_at end) → ⊥
-not_refused None (inl is) = let no : exits.Done ≡ exits.Refused = is in cc
-not_refused None (inr (inl is)) = let no : exits.Done ≡ exits.Usage = is in cc
-not_refused None (inr (inr is)) = let no : exits.Done ≡ exits.RuledOut = is in cc
-not_refused (Some cause) (inl is) = let no : exits.LoggingEnded ≡ exits.Refused = is in cc
-not_refused (Some cause) (inr (inl is)) = let no : exits.LoggingEnded ≡ exits.Usage = is in cc
-not_refused (Some cause) (inr (inr is)) = let no : exits.LoggingEnded ≡ exits.RuledOut = is in cc
+-- how a command ends that makes an image
+pub makes_end : {T : Type 0} (making : (List ℕ → Option (List ℕ)) → Making T)
+    (exits : Result T RunError → Exit) (explains : Bool) (read name : List ℕ) (old mid new : Seen)
+    (done : Result T RunError) (ended : Ended)
+    → ((files : List ℕ → Option (List ℕ)) → IsSteady (making files).fails)
+    → Makes making read name old mid done → Stays mid new
+    → ReportsLine (err_stream explains old.err new.err) (exits done) (reported_line done) ended
+    → Ends (Makes making read name) exits explains old new ended
+makes_end making exits explains read name old mid new done ended steady makes stays tells = record {
+  done = done;
+  did = makes_kept making steady read name old mid new done makes stays;
+  tells = tells;
+}
 
--- a recording that is refused leaves each file as it was
-pub refused_keeps : (done : Result Status RunError) (exit : Exit)
-    (old mid new : List ℕ → Option (List ℕ)) → OnErr done (KeepsFiles old mid) → KeepsFiles mid new
-    → exit ≡ exit_after done → IsRefusal exit → KeepsFiles old new
-refused_keeps (Ok status) exit old mid new none kept same refused =
-    absurd (not_refused status.end (subst (λ (e : Exit). IsRefusal e) same refused))
-refused_keeps (Err fault) exit old mid new none kept same refused = λ file. kept file ∙ none file
+-- what is reported if the result is this fault
+pub fault_told : {T : Type 0} (t : ErrStream) (exits : Result T RunError → Exit)
+    (done : Result T RunError) (fault : RunError) (ended : Ended) → done ≡ Err fault
+    → ReportsLine t (exits done) (reported_line done) ended
+    → ReportsLine t (exits (Err fault)) (fault_line fault) ended
+fault_told {T = T} t exits done fault ended is told =
+    subst (λ (d : Result T RunError). ReportsLine t (exits d) (reported_line d) ended) is told
+
+-- a file's error is a refusal
+pub file_refused : (fault : RunError) → IsFileError fault → exit_of fault ≡ Refused
+file_refused fault (inl is) = ap exit_of is
+file_refused fault (inr is) = ap exit_of is
+
+-- a command that makes an image is done or refused, if that holds where it makes none
+pub done_or_refused : {T : Type 0} (making : (List ℕ → Option (List ℕ)) → Making T)
+    (read name : List ℕ) (old new : Seen) (done : Result T RunError) (exit : Exit)
+    → ((fault : RunError) → (making old.files).fails old.out new.out fault
+    → exit_of fault ≡ Refused)
+    → Makes making read name old new done → exit ≡ exit_by done
+    → (exit ≡ Done) ⊎ (exit ≡ Refused)
+done_or_refused making read name old new (Ok result) exit refused makes is = inl is
+done_or_refused making read name old new (Err fault) exit refused makes is =
+    inr (is ∙ by_fault fault refused makes.came.0)
+  where
+    by_fault : (fault : RunError)
+        → ((fault : RunError) → (making old.files).fails old.out new.out fault
+        → exit_of fault ≡ Refused)
+        → FailsMaking (making old.files) read name old new fault → exit_of fault ≡ Refused
+    by_fault fault refused (unmade fails same) = refused fault fails
+    by_fault fault refused (taken is one none same) = ap exit_of is
+    by_fault fault refused (unprinted is result lines image made same) = file_refused fault is
+    by_fault fault refused (unwritten is result asks) = file_refused fault is

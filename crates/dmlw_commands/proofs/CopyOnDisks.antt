@@ -1,5 +1,5 @@
 -- What copying the log of an image comes to on disks in memory.
-use Rattle.std.proofs.Common.{◌≡◌, ◌∙◌, ℕ, ◌+◌, ◌*◌, ◌/◌, ◌<◌, ◌≤◌, true, false, List, [], ◌++◌}
+use Rattle.std.proofs.Common.{◌⊎◌, ◌≡◌, ◌∙◌, ℕ, ◌+◌, ◌*◌, ◌/◌, ◌<◌, ◌≤◌, true, false, List, [], ◌++◌}
 use Rattle.std.proofs.Common.{map, take, Option, None, Some, Result, Ok, Err, IfErr, IfOk, ap}
 use Rattle.std.proofs.Common.{arith, inl, inr, length, refl, subst, sym}
 use Rattle.std.specs.Prelude.{slice_get}
@@ -13,27 +13,21 @@ use Rattle.bio.specs.SectorLaws.{length-gather, sector_of-gather}
 use Rattle.sector_disk.specs.declared.disk.SectorDisk.{SectorDisk}
 use Rattle.sector_disk.specs.DiskView.{shown_of}
 use Rattle.sector_disk.specs.DiskViewLaws.{disk_lawful}
-use Rattle.sector_disk.specs.Sizes.{Begins}
 use Rattle.log_format.specs.declared.decode.Super.{Super}
 use Rattle.log_format.specs.declared.entry.Entry.{Entry}
-use Rattle.log_format.specs.Decode.{super_of}
 use Rattle.log_format.specs.Entries.{sectors_of}
 use Rattle.log_format.specs.EntryLaws.{sector_size_bounds}
 use Rattle.log_format.specs.EntryWalk.{entries_at}
 use Rattle.log_format.specs.LogOf.{IsLogOf, log_sectors, next_sector}
 use Rattle.log_reader.specs.declared.fault.LogFault.{LogFault}
-use Rattle.log_reader.specs.declared.fault.OpenDeviceError.{OpenDeviceError}
-use Rattle.log_reader.specs.declared.fault.OpenDeviceError.TheVariants as device_opens
-use Rattle.log_reader.specs.declared.fault.OpenError.TheVariants as opens
 use Rattle.log_reader.specs.declared.fault.ReadDeviceError.TheVariants as reads
 use Rattle.log_reader.specs.SameDiskLaws.{reads_alike}
 use Rattle.log_reader.specs.AnyDisk.{any_reading}
 use Rattle.log_reader.specs.Devices.{HasFaulted}
 use Rattle.log_reader.specs.DiskLogLaws.{size_of_head}
-use Rattle.log_reader.specs.Reader.{OpenRefuses, Reader}
+use Rattle.log_reader.specs.Reader.{Reader}
 use Rattle.log_reader.specs.ImageLog.{IsReading}
 use Rattle.log_reader.specs.DiskLog.{Reads}
-use Rattle.log_reader.specs.Refusals.{open_device_refusal}
 use Rattle.log_store.specs.Calls.{HasFailed, StoreFrame}
 use Rattle.log_store.specs.Store.{Store, StoreInvariant, entries_of}
 use Rattle.replay.specs.declared.copy_fault.CopyError.{CopyError}
@@ -43,19 +37,20 @@ use Rattle.replay.specs.Copies.{HasNoRoom, IsCopied as IsPlaced, IsLog, IsUnalig
 use Rattle.replay.specs.Copies.{entries_from}
 use Rattle.replay.specs.Resize.{is_aligned_to, resized}
 use Rattle.refusals.specs.declared.run_error.RunError.{RunError}
-use Rattle.refusals.specs.Errors.{refused_by}
 use Rattle.dmlw_files.specs.Files.{MatchesContents}
 use Rattle.dmlw_files.specs.Images.{IsImage, image_of}
 use Rattle.dmlw_commands.specs.declared.copy_log.images.Copied.{Copied}
 use Rattle.dmlw_commands.specs.LogCopies.{FailsCopy, FailsOnImage, HasStopCause, IsCopied}
 use Rattle.dmlw_commands.specs.LogCopies.{IsCopiedFrom, LacksRoom, StopsCopy, memory, of_image}
-use Rattle.dmlw_commands.specs.LogCopies.{unopened}
-use Rattle.dmlw_commands.specs.DiskCopy.{IsBegun, IsCopiedOn, IsOpened, RefusesOpen}
-
--- a device that counts no faults hasn't failed
-pub never_failed : (v w : View) → v.faults ≡ 0 → w.faults ≡ 0 → HasFaulted v w → ⊥
-never_failed v w first second (inl grew) = absurd (omega arith)
-never_failed v w first second (inr full) = absurd (omega arith)
+use Rattle.dmlw_commands.specs.LogCopies.{file, stopped, unopened}
+use Rattle.dmlw_commands.specs.declared.exit.Exit.TheVariants.{Refused}
+use Rattle.dmlw_commands.specs.Exits.{exit_of}
+use Rattle.dmlw_commands.proofs.CommandEnds.{file_refused}
+use Rattle.dmlw_commands.proofs.ImageLog.{some_sector}
+use Rattle.dmlw_commands.specs.DiskCopy.{IsBegun, IsCopiedOn}
+use Rattle.dmlw_commands.specs.ImageLog.{Opens}
+use Rattle.dmlw_commands.specs.Lists.{RefusesImage}
+use Rattle.refusals.specs.Errors.{memory_error}
 
 -- the content of a device has whole sectors
 pub content_whole : (v : View) → IsLawful v → HasWholeSectors v.size v.content
@@ -65,7 +60,7 @@ content_whole v lawful =
 
 -- why a log isn't opened is why it isn't copied
 pub fails_to_open : (log : List ℕ) (sectors : ℕ) (fault : RunError) (stop : RunError)
-    → RefusesOpen log fault → stop ≡ fault
+    → (fault ≡ memory_error) ⊎ RefusesImage log fault → stop ≡ fault
     → FailsOnImage log sectors stop
 fails_to_open log sectors fault stop (inl is) same =
     subst (FailsOnImage log sectors) (sym (same ∙ is)) memory
@@ -90,38 +85,8 @@ pub failed_from : (log_file : Option (List ℕ)) (log : List ℕ) (sectors : ℕ
 failed_from log_file log sectors (Ok done) read image fails = fails
 failed_from log_file log sectors (Err stop) read image fails = of_image log stop read image fails
 
--- an image has a first sector
-some_sector : (log : List ℕ) → IsImage log → 0 < length log / 512
-some_sector log image = let least = image.least in omega arith
-
--- a disk that isn't opened as a log, and never fails
-pub unopened_on : (log : List ℕ) (v w : View) (error : OpenDeviceError) (fault : RunError)
-    → IsImage log → Begins (length log / 512) (sector_of log) v
-    → (HasFaulted v w → ⊥) → OpenRefuses v w error → fault ≡ refused_by (open_device_refusal error)
-    → RefusesOpen log fault
-unopened_on log v w (device_opens.Log (opens.BadSuper cause)) fault image begins never refuses is =
-    let first : v.content 0 ≡ sector_of log 0 = begins.content 0 (some_sector log image) in
-    inr (opens.BadSuper cause, ap super_of (sym first) ∙ refuses, is)
-unopened_on log v w (device_opens.Log opens.CutShort) fault image begins never refuses is =
-    let first : v.content 0 ≡ sector_of log 0 = begins.content 0 (some_sector log image) in
-    let size = begins.size in
-    inr (
-      opens.CutShort,
-      record {
-        head = refuses.head;
-        super_block = ap super_of (sym first) ∙ refuses.super_block;
-        some = refuses.some;
-        too_many =
-            subst (λ (n : ℕ). log_sectors refuses.head.sectorsize n ≤ refuses.head.count) size
-            refuses.too_many;
-      },
-      is,
-    )
-unopened_on log v w device_opens.Device fault image begins never refuses is = absurd (never refuses)
-unopened_on log v w device_opens.Memory fault image begins never refuses is = inl is
-
 -- the sectors of a log that was opened are no larger than those of the new log
-pub log_fits : (log : List ℕ) (sectors : ℕ) (r : Reader) (v : Store) → IsOpened log r
+pub log_fits : (log : List ℕ) (sectors : ℕ) (r : Reader) (v : Store) → Opens log r
     → IsBegun sectors v → r.head.sectorsize ≤ v.sector_bytes
 log_fits log sectors r v opened begun =
     let bounds =
@@ -133,12 +98,12 @@ log_fits log sectors r v opened begun =
 
 -- what is read of a reader's disk is a reading of the image
 reading_on : (log : List ℕ) (r : Reader) (es : List Entry) (fault : Option LogFault) → IsImage log
-    → IsOpened log r → IsLog r es fault
+    → Opens log r → IsLog r es fault
     → IsReading log r.head es fault
 reading_on log r es fault image opened reading =
     let R : ℕ → Type 0 = λ n. Reads n r.device.content r.head es fault in
     reads_alike (length log / 512) r.device.content (sector_of log) r.head es fault
-    (some_sector log image) opened.content (subst R opened.size reading)
+    (some_sector log image) opened.device.content (subst R opened.device.size reading)
 
 -- a disk's log has so many entries as it counts, where these are read: so it has no fault
 no_fault : (disk : ℕ) (c : Content) (head : Super) (es : List Entry) (fault : Option LogFault)
@@ -177,7 +142,7 @@ placed_aligned sectors from place count es v w begun first placed =
 
 -- a copy that was done
 pub copied_on : (log : List ℕ) (sectors count : ℕ) (r : Reader) (v w : Store) → IsImage log
-    → IsOpened log r → IsBegun sectors v
+    → Opens log r → IsBegun sectors v
     → HasWholeSectors r.device.size r.device.content → w.device.lies ≡ 0
     → w.device.crash w.device.content → StoreFrame v w
     → ((es : List Entry) (fault : Option LogFault) → IsLog r es fault
@@ -190,7 +155,7 @@ copied_on log sectors count r v w image opened begun whole_sectors honest curren
     let read = any_reading r.device.size r.device.content r.head whole_sectors opened.super_block in
     let es = read.entries in
     let placed = placing es read.fault read.reads in
-    let first = opened.place in
+    let first = opened.next in
     let all : count ≡ r.head.count = omega arith in
     let within : 0 < count → count ≤ length es = λ some. let few = placed.some some in
     omega arith in
@@ -336,7 +301,7 @@ copied_within from place count es v w first placed = elim (eq-zero-or-pos count)
 
 -- a copy that stopped
 pub stopped_on : (log : List ℕ) (sectors : ℕ) (stop : CopyFault) (r last : Reader) (v w : Store)
-    → IsImage log → IsOpened log r → IsBegun sectors v
+    → IsImage log → Opens log r → IsBegun sectors v
     → HasWholeSectors r.device.size r.device.content → (HasFaulted r.device last.device → ⊥)
     → (HasFailed v w → ⊥) → StoreInvariant w → w.device.lies ≡ 0
     → StoreFrame v w → ((es : List Entry) (fault : Option LogFault) → IsLog r es fault
@@ -349,7 +314,7 @@ stopped_on log sectors stop r last v w image opened begun whole_sectors reader s
     let read = any_reading r.device.size r.device.content r.head whole_sectors opened.super_block in
     let es = read.entries in
     let placed = placing es read.fault read.reads in
-    let first = opened.place in
+    let first = opened.next in
     let within = copied_within r.head.sectorsize r.next stop.applied es v w first placed in
     record {
       head = r.head;
@@ -360,7 +325,16 @@ stopped_on log sectors stop r last v w image opened begun whole_sectors reader s
       aligned =
           placed_aligned sectors r.head.sectorsize r.next stop.applied es v w begun first placed;
       cause =
-          cause_on sectors stop.applied es read.fault r last v w stop.cause begun first opened.fresh
+          cause_on sectors stop.applied es read.fault r last v w stop.cause begun first opened.going
           within reader store kept honest goes placed
           (stopping es read.fault read.reads);
     }
+
+-- a copy that fails is a refusal
+pub file_stop_refused : (log_file : Option (List ℕ)) (sectors : ℕ) (stop : RunError)
+    → FailsCopy log_file sectors stop → exit_of stop ≡ Refused
+file_stop_refused log_file sectors stop (file fault is) = file_refused fault is
+file_stop_refused log_file sectors stop (of_image log same read is memory) = refl
+file_stop_refused log_file sectors stop (of_image log same read is (unopened fault refuses)) =
+    ap exit_of refuses.2
+file_stop_refused log_file sectors stop (of_image log same read is (stopped fault stops)) = refl

@@ -4,14 +4,10 @@ pub mod ListLines
 pub mod RecordEnds
 pub mod CommandEnds
 mod ReplayOnDisk
-mod ReplayEnds
-mod CopyEnds
 mod CopyOnDisks
 mod CopyReplay
 mod LastMoment
 mod QuestionEnds
 mod Agreement
 mod PrefixIsPossible
-mod RunOutcome
-mod RunEnds
 mod SeatLines

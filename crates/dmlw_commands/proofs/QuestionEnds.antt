@@ -18,19 +18,18 @@ use Rattle.refusals.specs.declared.run_error.RunError.TheVariants.{Refused}
 use Rattle.script_runner.specs.CallLaws.{keeps_same, keeps_twice, appends_kept}
 use Rattle.refusals.specs.Errors.{IsFileError, memory_error, refused_by}
 use Rattle.script_runner.specs.Rehearsals.{FailsRehearsal, IsRehearsed}
-use Rattle.dmlw_commands.specs.declared.ending.Ended.{Ended}
 use Rattle.dmlw_files.specs.declared.files.FileError.{FileError}
 use Rattle.dmlw_files.specs.declared.files.FileError.TheVariants as errors
-use Rattle.dmlw_commands.specs.Ends.{ErrStream, ReportsLine}
-use Rattle.dmlw_commands.specs.Exits.{reported_line}
 use Rattle.dmlw_files.specs.FileErrors.{file_refusal}
-use Rattle.dmlw_files.specs.Files.{IsWithin, MatchesContents, Write}
+use Rattle.dmlw_files.specs.Files.{IsWithin, MatchesContents}
 use Rattle.dmlw_files.specs.Images.{IsImage, image_read}
-use Rattle.dmlw_commands.specs.Judgements.{Answers, CanJudge, CannotJudge, EndsAnswering, HasAnswer}
-use Rattle.dmlw_commands.specs.Judgements.{HasNoVerdict, Meaning, Question, blank, exit_answered}
+use Rattle.dmlw_commands.specs.Judgements.{Answers, CanJudge, CannotJudge, HasAnswer}
+use Rattle.dmlw_commands.specs.Judgements.{HasNoVerdict, Meaning, Question, blank}
 use Rattle.dmlw_commands.specs.Judgements.{file}
 use Rattle.dmlw_commands.specs.Judgements.{moment as no_moment, question, run as no_run}
 use Rattle.dmlw_commands.specs.Judgements.{text as unread}
+use Rattle.dmlw_commands.proofs.CommandEnds.{IsKept}
+use Rattle.dmlw_commands.proofs.RecordEnds.{file_told}
 
 -- an answer after these events is one of the script's run
 pub judged_by : {A : Type 0} (meaning : Meaning A) (text image : List ℕ) (asked sectors : ℕ)
@@ -112,11 +111,6 @@ failed_text text image asked error fault whole wrong only output =
         (record { script_holds = refl; image_holds = refl; whole = whole })
         (λ plan spells. let memory = only plan spells in
         absurd (cc (ap (λ (e : Fault). e.line) memory, here))) first
-
--- a file's error is printed as such
-file_told : (error : FileError) → IsFileError (refused_by (file_refusal error))
-file_told errors.Unusable = inl refl
-file_told errors.Memory = inr refl
 
 -- what a script's file can't be read for is why there is no verdict
 pub failed_file : (asked : Question) (error : FileError) (fault : RunError)
@@ -225,29 +219,11 @@ answered_none meaning asked known (Ok answer) fails why = absurd fails
 answered_none meaning asked known (Err fault) fails why =
     inl (why fault fails, keeps_same known)
 
--- what is kept after an answer
-answers_kept : {A : Type 0} (meaning : Meaning A) (asked : Question) (old mid new : Option (List ℕ))
-    (done : Result A RunError) → Answers meaning asked old mid done
-    → Keeps mid new → Answers meaning asked old new done
+-- what was answered is kept
+pub answers_kept : {A : Type 0} (meaning : Meaning A) (asked : Question)
+    → IsKept (Answers meaning asked)
 answers_kept meaning asked old mid new (Ok answer) (has, printed) kept =
     (has, appends_kept old mid new _ printed kept)
 answers_kept meaning asked old mid new (Err fault) (inl (none, same)) kept =
     inl (none, keeps_twice old mid new same kept)
 answers_kept meaning asked old mid new (Err fault) (inr unprinted) kept = inr unprinted
-
--- how the command ends
-pub answering_ends : {A : Type 0} (meaning : Meaning A) (asked : Question)
-    (writes_old writes_mid writes_new : Option (List Write)) (old mid new : Option (List ℕ))
-    (t : ErrStream)
-    (done : Result A RunError) (ended : Ended)
-    → Answers meaning asked old mid done → Keeps mid new → writes_mid ≡ writes_old
-    → writes_new ≡ writes_mid
-    → ReportsLine t (exit_answered meaning done) (reported_line done) ended
-    → EndsAnswering meaning asked writes_old writes_new old new t ended
-answering_ends meaning asked writes_old writes_mid writes_new old mid new t done ended judged kept
-    first second tells = record {
-      unwritten = second ∙ first;
-      done = done;
-      judged = answers_kept meaning asked old mid new done judged kept;
-      tells = tells;
-    }

@@ -13,16 +13,10 @@ use Rattle.sector_disk.specs.DiskViewLaws.{content_whole}
 use Rattle.sector_disk.specs.Sizes.{Begins}
 use Rattle.log_format.specs.declared.decode.Super.{Super}
 use Rattle.log_format.specs.declared.entry.Entry.{Entry}
-use Rattle.log_format.specs.Decode.{super_of}
-use Rattle.log_format.specs.LogOf.{log_sectors}
 use Rattle.log_reader.specs.declared.fault.LogFault.{LogFault}
-use Rattle.log_reader.specs.declared.fault.OpenDeviceError.{OpenDeviceError}
-use Rattle.log_reader.specs.declared.fault.OpenDeviceError.TheVariants as device_opens
-use Rattle.log_reader.specs.declared.fault.OpenError.TheVariants as opens
 use Rattle.log_reader.specs.declared.fault.ReadDeviceError.TheVariants as reads
 use Rattle.log_reader.specs.SameDiskLaws.{reads_alike}
 use Rattle.log_reader.specs.Devices.{HasFaulted}
-use Rattle.log_reader.specs.Reader.{OpenRefuses}
 use Rattle.log_reader.specs.ImageLog.{IsReading}
 use Rattle.log_reader.specs.DiskLog.{Reads}
 use Rattle.log_reader.specs.Refusals.{open_device_refusal}
@@ -44,12 +38,11 @@ use Rattle.dmlw_commands.specs.declared.replay_log.images.Replayed.{Replayed}
 use Rattle.dmlw_commands.specs.DiskReplay.{IsReplayedOn, stop_by}
 use Rattle.dmlw_commands.specs.Replays.{AreImages, FailsOnImages, FailsReplay, HasStopCause}
 use Rattle.dmlw_commands.specs.Replays.{IsReplayed, IsReplayedFrom, StopsReplay, images, memory}
-use Rattle.dmlw_commands.specs.Replays.{stopped, unopened}
-
--- a device that counts no faults hasn't failed
-pub never_failed : (v w : View) → v.faults ≡ 0 → w.faults ≡ 0 → HasFaulted v w → ⊥
-never_failed v w first second (inl grew) = absurd (omega arith)
-never_failed v w first second (inr full) = absurd (omega arith)
+use Rattle.dmlw_commands.specs.Replays.{file, stopped, unopened}
+use Rattle.dmlw_commands.specs.declared.exit.Exit.TheVariants.{Refused}
+use Rattle.dmlw_commands.specs.Exits.{exit_of}
+use Rattle.dmlw_commands.proofs.CommandEnds.{file_refused}
+use Rattle.dmlw_commands.proofs.ImageLog.{some_sector, unopened_on}
 
 -- a device that counts no lies told none
 pub honest : (v w : View) → v.lies ≡ 0 → w.lies ≡ 0 → NoLie v w
@@ -93,36 +86,6 @@ both_images log_file first_file now log first log_read log_image first_read firs
       first_read = subst (λ (known : Option (List ℕ)). MatchesContents known first) same first_read;
       first_image = first_image;
     }
-
--- an image has a first sector
-some_sector : (log : List ℕ) → IsImage log → 0 < length log / 512
-some_sector log image = let least = image.least in omega arith
-
--- a disk that isn't opened as a log, and never fails
-pub unopened_on : (log : List ℕ) (v w : View) (error : OpenDeviceError) (fault : RunError)
-    → IsImage log → Begins (length log / 512) (sector_of log) v
-    → (HasFaulted v w → ⊥) → OpenRefuses v w error → fault ≡ refused_by (open_device_refusal error)
-    → (fault ≡ memory_error) ⊎ RefusesImage log fault
-unopened_on log v w (device_opens.Log (opens.BadSuper cause)) fault image begins never refuses is =
-    let first : v.content 0 ≡ sector_of log 0 = begins.content 0 (some_sector log image) in
-    inr (opens.BadSuper cause, ap super_of (sym first) ∙ refuses, is)
-unopened_on log v w (device_opens.Log opens.CutShort) fault image begins never refuses is =
-    let first : v.content 0 ≡ sector_of log 0 = begins.content 0 (some_sector log image) in
-    let size = begins.size in
-    inr (
-      opens.CutShort,
-      record {
-        head = refuses.head;
-        super_block = ap super_of (sym first) ∙ refuses.super_block;
-        some = refuses.some;
-        too_many =
-            subst (λ (n : ℕ). log_sectors refuses.head.sectorsize n ≤ refuses.head.count) size
-            refuses.too_many;
-      },
-      is,
-    )
-unopened_on log v w device_opens.Device fault image begins never refuses is = absurd (never refuses)
-unopened_on log v w device_opens.Memory fault image begins never refuses is = inl is
 
 -- what is read of a disk that is an image is a reading of the image
 reading_on : (log : List ℕ) (v : View) (head : Super) (es : List Entry) (fault : Option LogFault)
@@ -265,3 +228,12 @@ image_left log first upto count disk is done =
           λ sector below. sector_of-gather w.size w.content (content_whole disk) sector
           (omega arith) ∙ done.content sector below;
     }
+
+-- a replay that fails is a refusal
+pub files_refused : (log_file first_file : Option (List ℕ)) (upto : Upto) (stop : RunError)
+    → FailsReplay log_file first_file upto stop → exit_of stop ≡ Refused
+files_refused log_file first_file upto stop (file fault is readable) = file_refused fault is
+files_refused log_file first_file upto stop (images log first same are memory) = refl
+files_refused log_file first_file upto stop (images log first same are (unopened fault refuses)) =
+    ap exit_of refuses.2
+files_refused log_file first_file upto stop (images log first same are (stopped fault stops)) = refl

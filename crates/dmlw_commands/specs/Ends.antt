@@ -1,14 +1,11 @@
--- How a command on files ends.
+-- How a command ends, over what it saw.
 use Rattle.std.specs.Prelude.{◌≡◌, ℕ, Bool, true, false, List, [], ◌++◌, Option, Result}
 use Rattle.std.specs.Io.KnownBytes.{Appends}
 use Rattle.refusals.specs.declared.run_error.RunError.{RunError}
 use Rattle.dmlw_commands.specs.declared.ending.Ended.{Ended}
-use Rattle.bio.specs.declared.outcome.Status.{Status}
 use Rattle.dmlw_commands.specs.declared.exit.Exit.{Exit}
-use Rattle.dmlw_commands.specs.Exits.{exit_after, exit_by, reported_line}
-use Rattle.dmlw_files.specs.Files.{Write}
-use Rattle.dmlw_commands.specs.Lists.{Shows, ShowsFile}
-use Rattle.dmlw_commands.specs.Records.{Records}
+use Rattle.dmlw_commands.specs.Exits.{exit_by, reported_line}
+use Rattle.dmlw_commands.specs.Seen.{Does, Seen}
 
 -- whether a command explains itself, and what the error stream held before it and after it
 pub record ErrStream : Type 0 where
@@ -32,20 +29,11 @@ pub record ReportsLine (t : ErrStream) (exit : Exit) (line : List ℕ) (ended : 
 abbrev pub Tells : {T : Type 0} → ErrStream → Result T RunError → Ended → Type 0
 Tells t done ended = ReportsLine t (exit_by done) (reported_line done) ended
 
--- How the recording of a script in a log of this name ends: as what it did has it.
-pub record EndsRecording (contents : Option (List ℕ)) (log : List ℕ)
-    (writes_old writes_new : Option (List Write)) (old new : Option (List ℕ))
-    (t : ErrStream) (ended : Ended) : Type 0 where
-  pub done : Result Status RunError
-  pub recorded : Records contents log writes_old writes_new old new done
-  pub tells : ReportsLine t (exit_after done) (reported_line done) ended
-
--- How a command on the image in a file ends: no file was
--- asked to be written, and it ends as what it did has it.
-pub record EndsShowing (shows : Shows) (contents : Option (List ℕ))
-    (writes_old writes_new : Option (List Write)) (old new : Option (List ℕ))
-    (t : ErrStream) (ended : Ended) : Type 0 where
-  pub unwritten : writes_new ≡ writes_old
-  pub done : Result (Unit {0}) RunError
-  pub shown : ShowsFile shows contents old new done
-  pub tells : Tells t done ended
+-- How a command ends that does this, if a result ends it so: it did it with some result, ended by
+-- that result, and reported no more than its fault.
+pub record Ends {T : Type 0} (does : Does T) (exits : Result T RunError → Exit) (explains : Bool)
+    (old new : Seen) (ended : Ended) : Type 0 where
+  pub done : Result T RunError
+  pub did : does old new done
+  pub tells : ReportsLine (err_stream explains old.err new.err) (exits done) (reported_line done)
+      ended

@@ -21,14 +21,13 @@ use Rattle.refusals.specs.declared.run_error.RunError.{RunError}
 use Rattle.refusals.specs.declared.run_error.RunError.TheVariants.{Refused}
 use Rattle.refusals.specs.Errors.{IsFileError, memory_error, refused_by}
 use Rattle.script_runner.specs.Rehearsals.{FailsRehearsal, IsRehearsed}
-use Rattle.dmlw_commands.specs.declared.ending.Ended.{Ended}
 use Rattle.dmlw_commands.specs.declared.exit.Exit.{Exit}
 use Rattle.dmlw_commands.specs.declared.exit.Exit.TheVariants as exits
-use Rattle.dmlw_commands.specs.Ends.{ErrStream, ReportsLine}
-use Rattle.dmlw_commands.specs.Exits.{exit_of, reported_line}
-use Rattle.dmlw_files.specs.Files.{IsWithin, MatchesContents, Write}
+use Rattle.dmlw_commands.specs.Exits.{exit_of}
+use Rattle.dmlw_commands.specs.Seen.{Does, OnlyReads}
+use Rattle.dmlw_files.specs.Files.{IsWithin, MatchesContents}
 use Rattle.dmlw_files.specs.Images.{HoldsImage, IsImage}
-use Rattle.dmlw_commands.specs.Records.{IsNoScript}
+use Rattle.dmlw_commands.specs.Records.{IsNoScript, of_recorder}
 
 -- an image of `size` zero bytes
 abbrev pub blank : ℕ → Content
@@ -104,7 +103,7 @@ pub data HasNoVerdict (asked : Question) : RunError → Type 0 where
   file : (fault : RunError) → IsFileError fault → (AreUsable asked → fault ≡ memory_error)
       → HasNoVerdict asked fault
   text : (bytes image : List ℕ) (line : ℕ) (refusal : Refusal) → AreRead asked bytes image
-      → IsNoScript bytes
+      → IsNoScript of_recorder bytes
       → IsFirstFault (lines_of bytes) line refusal
       → HasNoVerdict asked (Refused (record { line = Some line; refusal = refusal }))
   run : (bytes image : List ℕ) (plan : ScriptValue) (fault : RunError) → AreRead asked bytes image
@@ -130,14 +129,15 @@ abbrev pub exit_answered : {A : Type 0} → Meaning A → Result A RunError → 
 exit_answered meaning (Ok answer) = meaning.ends answer
 exit_answered meaning (Err fault) = exit_of fault
 
--- How the command ends: no file was asked to be written, and it ends as what it did has it.
-pub record EndsAnswering {A : Type 0} (meaning : Meaning A) (asked : Question)
-    (writes_old writes_new : Option (List Write)) (old new : Option (List ℕ))
-    (t : ErrStream) (ended : Ended) : Type 0 where
-  pub unwritten : writes_new ≡ writes_old
-  pub done : Result A RunError
-  pub judged : Answers meaning asked old new done
-  pub tells : ReportsLine t (exit_answered meaning done) (reported_line done) ended
+-- the question about files of these names
+abbrev pub question_of : (List ℕ → Option (List ℕ)) → List ℕ → ℕ → List ℕ → Question
+question_of files script count image =
+    record { script = files script; image = files image; moment = count }
+
+-- what a command does that answers the question about files of these names: it only reads
+abbrev pub AnswersOf : {A : Type 0} → Meaning A → List ℕ → ℕ → List ℕ → Does A
+AnswersOf meaning script count image =
+    OnlyReads (λ files. Answers meaning (question_of files script count image))
 
 -- the line of a verdict
 abbrev pub verdict_line : Verdict → List ℕ
@@ -159,17 +159,3 @@ IsJudged plan count image verdict = IsAnswered verdict_meaning plan count image 
 -- there is a verdict: the script's file spells a script, and this is the verdict on the image by it
 abbrev pub HasVerdict : Question → Verdict → Type 0
 HasVerdict asked verdict = HasAnswer verdict_meaning asked verdict
-
--- the result of judging: the verdict, which was printed, or why there is none
-abbrev pub Judges : Question → Option (List ℕ) → Option (List ℕ) → Result Verdict RunError → Type 0
-Judges asked before after done = Answers verdict_meaning asked before after done
-
--- how a judging ends: done by a yes, ruled out by a no, and else by its fault
-abbrev pub exit_judged : Result Verdict RunError → Exit
-exit_judged done = exit_answered verdict_meaning done
-
--- how `judge` ends: as what it did has it
-abbrev pub EndsJudging : Question → Option (List Write) → Option (List Write) → Option (List ℕ)
-    → Option (List ℕ) → ErrStream → Ended → Type 0
-EndsJudging asked writes_old writes_new old new t ended =
-    EndsAnswering verdict_meaning asked writes_old writes_new old new t ended

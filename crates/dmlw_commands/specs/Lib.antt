@@ -6,6 +6,8 @@ pub use Rattle.replay.specs.Resize
 pub use Rattle.refusals.specs.Words
 pub use Rattle.script_runner.specs.SeatRuns
 pub mod Exits
+pub mod Seen
+pub mod Makings
 pub mod Lists
 pub mod ImageLog
 pub mod Records

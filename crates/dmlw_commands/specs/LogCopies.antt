@@ -1,9 +1,9 @@
 -- The result of copying the log in a file to a new log with
 -- sectors of 4,096 bytes. A disk has sectors of 512 bytes.
-use Rattle.std.specs.Prelude.{◌≡◌, ◌⊎◌, ℕ, ◌+◌, ◌*◌, ◌≤◌, IsTrue, List, ◌++◌, Option, None}
-use Rattle.std.specs.Prelude.{Some, Result, Ok, Err, codes, length, map, slice_get, take}
+use Rattle.std.specs.Prelude.{◌≡◌, ℕ, ◌+◌, ◌*◌, ◌≤◌, IsTrue, List, ◌++◌, Option, None, Some, codes}
+use Rattle.std.specs.Prelude.{length, map, slice_get, take}
 use Rattle.std.specs.Fmt.{decimal}
-use Rattle.std.specs.Io.KnownBytes.{Appends, Keeps}
+use Rattle.std.specs.Io.KnownBytes.{Keeps}
 use Rattle.std.specs.List.{list_all}
 use Rattle.bio.specs.Content.{sector_of}
 use Rattle.refusals.specs.declared.end.End.TheVariants as ends
@@ -23,10 +23,10 @@ use Rattle.replay.specs.Resize.{is_aligned_to, resized}
 use Rattle.refusals.specs.declared.run_error.RunError.{RunError}
 use Rattle.refusals.specs.declared.run_error.RunError.TheVariants.{StoppedAfter}
 use Rattle.refusals.specs.Errors.{IsFileError, memory_error}
-use Rattle.dmlw_commands.specs.declared.ending.Ended.{Ended}
-use Rattle.dmlw_commands.specs.Ends.{ErrStream, Tells}
 use Rattle.dmlw_commands.specs.Lists.{RefusesImage}
-use Rattle.dmlw_files.specs.Files.{MatchesContents, Write, one_more}
+use Rattle.dmlw_commands.specs.Makings.{Makes, Making}
+use Rattle.dmlw_commands.specs.Seen.{Does}
+use Rattle.dmlw_files.specs.Files.{MatchesContents}
 use Rattle.dmlw_files.specs.Images.{IsImage}
 
 -- the line that says how many entries were copied
@@ -104,42 +104,16 @@ pub record IsCopiedFrom (log_file : Option (List ℕ)) (count sectors : ℕ)
   pub log_image : IsImage log
   pub copied : IsCopied log count sectors image
 
--- the log in a file was copied, and what came of it is what another file holds, if that is known
-pub record HoldsCopied (log_file : Option (List ℕ)) (sectors : ℕ)
-    (written : Option (List ℕ)) : Type 0 where
-  pub count : ℕ
-  pub image : List ℕ
-  pub copied : IsCopiedFrom log_file count sectors image
-  pub held : MatchesContents written image
+-- what copying the log in a file makes: the image, and the line of the number of entries; if it
+-- fails, nothing is printed
+abbrev pub copying : Option (List ℕ) → ℕ → Making ℕ
+copying log_file sectors = record {
+  makes = λ count lines image.
+      IsCopiedFrom log_file count sectors image × (lines ≡ copied_line count);
+  fails = λ before after stop. FailsCopy log_file sectors stop × Keeps before after;
+}
 
--- The log in a file was copied, and the number of entries was printed. One more write was asked
--- for, of the file of this name with the resulting image.
-pub record PrintsCopy (log_file : Option (List ℕ)) (name : List ℕ) (sectors : ℕ)
-    (writes_old writes_new : Option (List Write)) (old new : Option (List ℕ))
-    (count : ℕ) : Type 0 where
-  pub image : List ℕ
-  pub copied : IsCopiedFrom log_file count sectors image
-  pub printed : Appends old new (copied_line count)
-  pub asked : writes_new ≡ one_more writes_old name image
-
--- The result of copying. Either it was done. Or it fails, nothing was printed, and no file was
--- asked to be written. Or the output can't be written, and no file was asked to be. Or the image
--- can't be written, after the printing.
-abbrev pub Copies : Option (List ℕ) → List ℕ → ℕ → Option (List Write) → Option (List Write)
-    → Option (List ℕ) → Option (List ℕ) → Result ℕ RunError → Type 0
-Copies log_file name sectors writes_old writes_new old new (Ok count) =
-    PrintsCopy log_file name sectors writes_old writes_new old new count
-Copies log_file name sectors writes_old writes_new old new (Err stop) =
-    (FailsCopy log_file sectors stop × Keeps old new × (writes_new ≡ writes_old))
-    ⊎ (IsFileError stop × (writes_new ≡ writes_old))
-    ⊎ (IsFileError stop × (count : ℕ)
-    × PrintsCopy log_file name sectors writes_old writes_new old new count)
-
--- How the copy of the log in a file to a disk of `sectors` sectors ends, whose image goes into the
--- file of this name: by its result.
-pub record EndsCopying (log_file : Option (List ℕ)) (name : List ℕ) (sectors : ℕ)
-    (writes_old writes_new : Option (List Write)) (old new : Option (List ℕ))
-    (t : ErrStream) (ended : Ended) : Type 0 where
-  pub done : Result ℕ RunError
-  pub copied : Copies log_file name sectors writes_old writes_new old new done
-  pub tells : Tells t done ended
+-- the result of copying the log in a file of this name to a disk of `sectors` sectors, for the file
+-- of that name
+abbrev pub Copies : List ℕ → List ℕ → ℕ → Does ℕ
+Copies log name sectors = Makes (λ files. copying (files log) sectors) log name

@@ -1,22 +1,18 @@
 -- What `path` answers: a run of the cache machine that
 -- leaves an image, or what rules the image out.
-use Rattle.std.specs.Prelude.{ℕ, List, ◌++◌, Option, codes}
+use Rattle.std.specs.Prelude.{ℕ, List, ◌++◌, codes}
 use Rattle.std.specs.List.{flat_map}
 use Rattle.judge.specs.declared.verdict.Verdict.{Verdict}
 use Rattle.judge.specs.declared.verdict.Verdict.TheVariants as verdicts
 use Rattle.world.specs.declared.step.Step.{Step}
 use Rattle.world.specs.Texts.{step_text}
 use Rattle.dmlw_script.specs.Plans.{ScriptValue}
-use Rattle.dmlw_commands.specs.declared.ending.Ended.{Ended}
 use Rattle.dmlw_commands.specs.declared.exit.Exit.{Exit}
 use Rattle.dmlw_commands.specs.declared.exit.Exit.TheVariants as exits
-use Rattle.dmlw_commands.specs.Ends.{ErrStream}
-use Rattle.dmlw_files.specs.Files.{Write}
 use Rattle.world.specs.Findings.{IsFinding}
 use Rattle.world.specs.declared.finding.Finding.{Finding}
 use Rattle.world.specs.declared.finding.Finding.TheVariants.{Run, RuledOut}
-use Rattle.dmlw_commands.specs.Judgements.{EndsAnswering, IsAnswered, Meaning, Question}
-use Rattle.dmlw_commands.specs.Judgements.{verdict_line}
+use Rattle.dmlw_commands.specs.Judgements.{IsAnswered, Meaning, verdict_line}
 
 -- the verdict of a finding: yes if there is a run, and else its no
 abbrev pub verdict_of : Finding → Verdict
@@ -44,9 +40,3 @@ finding_meaning = record { says = IsFinding; printed = finding_text; ends = exit
 -- the finding about an image, after this many events of a script's run, over zeroes
 abbrev pub IsFound : ScriptValue → ℕ → List ℕ → Finding → Type 0
 IsFound plan moment image finding = IsAnswered finding_meaning plan moment image finding
-
--- how `path` ends: as what it did has it
-abbrev pub EndsFinding : Question → Option (List Write) → Option (List Write) → Option (List ℕ)
-    → Option (List ℕ) → ErrStream → Ended → Type 0
-EndsFinding asked writes_old writes_new old new t ended =
-    EndsAnswering finding_meaning asked writes_old writes_new old new t ended

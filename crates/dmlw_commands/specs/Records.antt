@@ -1,6 +1,6 @@
--- The result of recording the script in a file.
-use Rattle.std.specs.Prelude.{◌≡◌, ◌⊎◌, ℕ, Bool, ◌&&◌, List, [], ◌++◌, decimal, nat_eq}
-use Rattle.std.specs.Prelude.{if◌then◌else◌, Option, Result, Some, MatchResult, Ok, Err, codes}
+-- The result of recording a script: what `record` and `run` do, whose scripts are of two kinds.
+use Rattle.std.specs.Prelude.{◌≡◌, ℕ, Bool, ◌&&◌, List, [], ◌++◌, decimal, nat_eq}
+use Rattle.std.specs.Prelude.{if◌then◌else◌, Option, Some, codes}
 use Rattle.std.specs.Io.KnownBytes.{Appends, Keeps}
 use Rattle.bio.specs.Texts.{status_text}
 use Rattle.bio.specs.declared.outcome.Status.{Status}
@@ -14,9 +14,9 @@ use Rattle.script_runner.specs.declared.recording.Lies.{Lies}
 use Rattle.refusals.specs.declared.run_error.RunError.TheVariants.{Refused}
 use Rattle.refusals.specs.Errors.{IsFileError}
 use Rattle.script_runner.specs.DiskRun.{FailsOnDisks, IsRecorded}
-use Rattle.dmlw_commands.specs.declared.exit.Exit.{Exit}
-use Rattle.dmlw_commands.specs.Exits.{exit_at}
-use Rattle.dmlw_files.specs.Files.{MatchesContents, Write, one_more}
+use Rattle.dmlw_files.specs.Files.{MatchesContents}
+use Rattle.dmlw_commands.specs.Makings.{Makes, Making}
+use Rattle.dmlw_commands.specs.Seen.{Does}
 
 -- the line that says how far a log has come
 abbrev pub status_line : Status → List ℕ
@@ -36,74 +36,73 @@ lies_line lies =
 abbrev pub end_lines : Status → Lies → List ℕ
 end_lines status lies = status_line status ++ lies_line lies
 
--- The script that a file's bytes spell was recorded, its log has come so far, and these are the
--- bytes of the log's disk. Known bytes grew by what its lines print and by the lines at the end.
-pub record IsPrintedLog (contents : Option (List ℕ)) (status : Status) (bytes : List ℕ)
-    (before after : Option (List ℕ)) : Type 0 where
+-- A kind of script: which text spells one, which line of a text is its first fault, what its run
+-- comes to, with its printed lines, its log's status and the bytes of the log's disk; and why its
+-- run fails, from what the output held to what it holds.
+pub record Kind (S : Type 0) : Type 1 where
+  pub spells : List ℕ → S → Type 0
+  pub is_first_fault : List (List ℕ) → ℕ → Refusal → Type 0
+  pub runs : S → List ℕ → Status → List ℕ → Type 0
+  pub fails : List ℕ → S → Option (List ℕ) → Option (List ℕ) → RunError → Type 0
+
+-- The script that a file's bytes spell was run: its log has come so far, it prints these lines, and
+-- these are the bytes of the log's disk.
+pub record IsLogged {S : Type 0} (kind : Kind S) (contents : Option (List ℕ)) (status : Status)
+    (lines image : List ℕ) : Type 0 where
   pub text : List ℕ
-  pub script : ScriptValue
-  pub lines : List ℕ
-  pub lies : Lies
+  pub script : S
   pub read : MatchesContents contents text
-  pub spelled : IsTextOf text script
-  pub recorded : IsRecorded script lines status lies bytes
-  pub output : Appends before after (lines ++ end_lines status lies)
+  pub spelled : kind.spells text script
+  pub ran : kind.runs script lines status image
 
--- One more write was asked for: of the file of this name, with the log of that script. What
--- happened was printed.
-abbrev pub PrintsLog : Option (List ℕ) → List ℕ → Option (List Write) → Option (List Write)
-    → Option (List ℕ) → Option (List ℕ) → Status → Type 0
-PrintsLog contents name old new before after status =
-    (bytes : List ℕ) × IsPrintedLog contents status bytes before after
-    × (new ≡ one_more old name bytes)
-
--- The script that a file's bytes spell was recorded, which ends so, and what that prints was
--- printed; its log is what another file holds, if that is known.
-pub record HoldsLog (contents : Option (List ℕ)) (exit : Exit)
-    (before after written : Option (List ℕ)) : Type 0 where
-  pub status : Status
-  pub ends : exit ≡ exit_at status.end
-  pub bytes : List ℕ
-  pub printed : IsPrintedLog contents status bytes before after
-  pub held : MatchesContents written bytes
-
--- If recording a script succeeds, it has printed what happened, and asked only for its log to be
--- written. If it fails, it has asked for no file, or, after everything was printed, for the log,
--- which couldn't be written.
-abbrev pub WritesLog : Option (List ℕ) → List ℕ → Option (List Write) → Option (List Write)
-    → Option (List ℕ) → Option (List ℕ)
-    → Result Status RunError → Type 0
-WritesLog contents name old new before after r =
-    MatchResult r (PrintsLog contents name old new before after)
-    (λ fault. (new ≡ old) ⊎ (IsFileError fault × (status : Status)
-    × PrintsLog contents name old new before after status))
+-- the script that a file's bytes spell was run so, and its lines were printed
+abbrev pub PrintsLog : {S : Type 0} → Kind S → Option (List ℕ) → Status → List ℕ → Option (List ℕ)
+    → Option (List ℕ) → Type 0
+PrintsLog kind contents status image before after =
+    (lines : List ℕ) × IsLogged kind contents status lines image × Appends before after lines
 
 -- the text is no script's
-abbrev pub IsNoScript : List ℕ → Type 0
-IsNoScript text = (script : ScriptValue) → IsTextOf text script → ⊥
+abbrev pub IsNoScript : {S : Type 0} → Kind S → List ℕ → Type 0
+IsNoScript {S = S} kind text = (script : S) → kind.spells text script → ⊥
 
 -- A fault that ends the recording of the script in a file: A file can't be read or written, or
 -- there is no memory. Or the file's bytes spell no script, its first line at fault is named, and
--- nothing is printed. Or recording their script failed.
-pub data FailsRecording (contents : Option (List ℕ)) (before after : Option (List ℕ)) : RunError
-    → Type 0 where
-  file : (fault : RunError) → IsFileError fault → FailsRecording contents before after fault
+-- nothing is printed. Or running their script failed.
+pub data FailsRecording {S : Type 0} (kind : Kind S) (contents before after : Option (List ℕ))
+    : RunError → Type 0 where
+  file : (fault : RunError) → IsFileError fault → FailsRecording kind contents before after fault
   text : (bytes : List ℕ) (line : ℕ) (refusal : Refusal) → MatchesContents contents bytes
-      → IsNoScript bytes
-      → IsFirstFault (lines_of bytes) line refusal → Keeps before after
-      → FailsRecording contents before after
+      → IsNoScript kind bytes → kind.is_first_fault (lines_of bytes) line refusal
+      → Keeps before after
+      → FailsRecording kind contents before after
       (Refused (record { line = Some line; refusal = refusal }))
-  run : (bytes : List ℕ) (script : ScriptValue) (fault : RunError) → MatchesContents contents bytes
-      → IsTextOf bytes script
-      → FailsOnDisks bytes script before after fault → FailsRecording contents before after fault
+  run : (bytes : List ℕ) (script : S) (fault : RunError) → MatchesContents contents bytes
+      → kind.spells bytes script → kind.fails bytes script before after fault
+      → FailsRecording kind contents before after fault
 
--- The result of recording a script in a log of this name, from what a writer held to what it holds.
--- If it succeeds, it has printed the lines' output and the log's status. If it fails: why, and what
--- was printed before that.
-abbrev pub Records : Option (List ℕ) → List ℕ → Option (List Write) → Option (List Write)
-    → Option (List ℕ) → Option (List ℕ) → Result Status RunError → Type 0
-Records contents name writes_old writes_new old new (Ok status) =
-    PrintsLog contents name writes_old writes_new old new status
-Records contents name writes_old writes_new old new (Err fault) =
-    WritesLog contents name writes_old writes_new old new (Err fault)
-    × FailsRecording contents old new fault
+-- what recording the script in a file makes: the log
+abbrev pub recording : {S : Type 0} → Kind S → Option (List ℕ) → Making Status
+recording kind contents =
+    record { makes = IsLogged kind contents; fails = FailsRecording kind contents }
+
+-- the result of recording the script in a file of this name, for the log of that name
+abbrev pub Records : {S : Type 0} → Kind S → List ℕ → List ℕ → Does Status
+Records kind script log = Makes (λ files. recording kind (files script)) script log
+
+-- A script of one recorder was recorded: its lines' output was printed, and then the lines at the
+-- end.
+pub record IsRecordedBy (script : ScriptValue) (lines : List ℕ) (status : Status)
+    (image : List ℕ) : Type 0 where
+  pub ran : List ℕ
+  pub lies : Lies
+  pub recorded : IsRecorded script ran status lies image
+  pub output : lines ≡ ran ++ end_lines status lies
+
+-- the scripts of `record`
+abbrev pub of_recorder : Kind ScriptValue
+of_recorder = record {
+  spells = IsTextOf;
+  is_first_fault = IsFirstFault;
+  runs = IsRecordedBy;
+  fails = FailsOnDisks;
+}

@@ -1,8 +1,7 @@
 -- The result of replaying the log in a file on the image in another one.
-use Rattle.std.specs.Prelude.{◌≡◌, ◌⊎◌, ℕ, ◌/◌, ◌<◌, ◌≤◌, List, ◌++◌, Option, None, Some}
-use Rattle.std.specs.Prelude.{Result, Ok, Err, codes, length}
+use Rattle.std.specs.Prelude.{◌≡◌, ℕ, ◌/◌, ◌<◌, ◌≤◌, List, ◌++◌, Option, None, Some, codes, length}
 use Rattle.std.specs.Fmt.{decimal}
-use Rattle.std.specs.Io.KnownBytes.{Appends, Keeps}
+use Rattle.std.specs.Io.KnownBytes.{Keeps}
 use Rattle.bio.specs.Content.{AgreeBelow, sector_of}
 use Rattle.bio.specs.declared.outcome.DevError.TheVariants as devices
 use Rattle.log_format.specs.declared.entry.Entry.{Entry}
@@ -20,13 +19,12 @@ use Rattle.replay.specs.Replays.{AsksTooMany, EndsShort, IsUpto, LacksFlush, Lac
 use Rattle.replay.specs.Replays.{entries_from}
 use Rattle.refusals.specs.declared.run_error.RunError.{RunError}
 use Rattle.refusals.specs.declared.run_error.RunError.TheVariants.{StoppedAfter}
-use Rattle.refusals.specs.declared.refusal.Refusal.TheVariants as refusals
-use Rattle.refusals.specs.Errors.{IsFileError, memory_error, refused_by}
-use Rattle.dmlw_commands.specs.declared.ending.Ended.{Ended}
-use Rattle.dmlw_commands.specs.Ends.{ErrStream, Tells}
-use Rattle.dmlw_files.specs.Files.{MatchesContents, Write, one_more}
+use Rattle.refusals.specs.Errors.{IsFileError, memory_error}
+use Rattle.dmlw_files.specs.Files.{MatchesContents}
 use Rattle.dmlw_files.specs.Images.{HoldsImage, IsImage}
 use Rattle.dmlw_commands.specs.Lists.{RefusesImage}
+use Rattle.dmlw_commands.specs.Makings.{Makes, Making}
+use Rattle.dmlw_commands.specs.Seen.{Does}
 
 -- the line that says how many entries were replayed
 abbrev pub replayed_line : ℕ → List ℕ
@@ -111,48 +109,17 @@ pub record IsReplayedFrom (log_file first_file : Option (List ℕ)) (upto : Upto
   pub files : AreImages log_file first_file log first
   pub replayed : IsReplayed log first upto count image
 
--- the log in a file was replayed, and what came of it is
--- what another file holds, if that is known
-pub record HoldsReplayed (log_file first_file : Option (List ℕ)) (upto : Upto)
-    (written : Option (List ℕ)) : Type 0 where
-  pub count : ℕ
-  pub image : List ℕ
-  pub replayed : IsReplayedFrom log_file first_file upto count image
-  pub held : MatchesContents written image
+-- what replaying the log in a file makes: the image, and the line of the number of entries; if it
+-- fails, nothing is printed
+abbrev pub replaying : Option (List ℕ) → Option (List ℕ) → Upto → Making ℕ
+replaying log_file first_file upto = record {
+  makes = λ count lines image.
+      IsReplayedFrom log_file first_file upto count image × (lines ≡ replayed_line count);
+  fails = λ before after stop. FailsReplay log_file first_file upto stop × Keeps before after;
+}
 
--- The log in a file was replayed, and the number of entries was printed. One more write was asked
--- for, of the file of this name with the resulting image.
-pub record PrintsReplay (log_file first_file : Option (List ℕ)) (name : List ℕ) (upto : Upto)
-    (writes_old writes_new : Option (List Write))
-    (old new : Option (List ℕ)) (count : ℕ) : Type 0 where
-  pub image : List ℕ
-  pub replayed : IsReplayedFrom log_file first_file upto count image
-  pub printed : Appends old new (replayed_line count)
-  pub asked : writes_new ≡ one_more writes_old name image
-
--- The result of replaying, into a file of this name that holds this. Either it was done. Or it
--- fails, nothing was printed, and no file was asked to be written. Or the same, refused as a file,
--- because that file is the log's. Or the log was replayed, the output can't be written, and no file
--- was asked to be. Or the image can't be written, after the printing.
-abbrev pub Replays : Option (List ℕ) → Option (List ℕ) → Option (List ℕ) → List ℕ → Upto
-    → Option (List Write) → Option (List Write) → Option (List ℕ) → Option (List ℕ)
-    → Result ℕ RunError → Type 0
-Replays log_file first_file out_file name upto writes_old writes_new old new (Ok count) =
-    PrintsReplay log_file first_file name upto writes_old writes_new old new count
-Replays log_file first_file out_file name upto writes_old writes_new old new (Err stop) =
-    (FailsReplay log_file first_file upto stop × Keeps old new × (writes_new ≡ writes_old))
-    ⊎ (((stop ≡ refused_by refusals.File) × (log_file ≡ out_file) × Keeps old new
-    × (writes_new ≡ writes_old))
-    ⊎ ((IsFileError stop × (writes_new ≡ writes_old) × (count : ℕ) × (image : List ℕ)
-    × IsReplayedFrom log_file first_file upto count image)
-    ⊎ (IsFileError stop × (count : ℕ)
-    × PrintsReplay log_file first_file name upto writes_old writes_new old new count)))
-
--- How the replay of the log in a file ends, of which the image
--- goes into the file of this name, which holds this: as what it did has it.
-pub record EndsReplaying (log_file first_file out_file : Option (List ℕ)) (name : List ℕ)
-    (upto : Upto) (writes_old writes_new : Option (List Write))
-    (old new : Option (List ℕ)) (t : ErrStream) (ended : Ended) : Type 0 where
-  pub done : Result ℕ RunError
-  pub replayed : Replays log_file first_file out_file name upto writes_old writes_new old new done
-  pub tells : Tells t done ended
+-- the result of replaying the log in a file of this name on the image in the second one, for the
+-- third one
+abbrev pub Replays : List ℕ → List ℕ → List ℕ → Upto → Does ℕ
+Replays log first name upto =
+    Makes (λ files. replaying (files log) (files first) upto) log name

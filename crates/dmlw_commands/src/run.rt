@@ -1,25 +1,24 @@
 //! `run SCRIPT LOG`: runs the seats of a script, each in a thread of its own.
-ghost use Rattle.std.specs.Prelude.{◌≡◌, ◌⊎◌, Err, IfErr, IfOk, OnErr, OnOk, Some};
+ghost use Rattle.std.specs.Prelude.{◌≡◌, Err, IfErr, IfOk, List, OnOk, Option, ℕ};
 ghost use Rattle.std.specs.Io.KnownBytes.{Appends};
 ghost use Rattle.refusals.specs.declared.refusal.Refusal.TheVariants as refusals;
 ghost use Rattle.refusals.specs.Errors.{IsFileError, refused_by};
-ghost use Rattle.dmlw_script.specs.RunGrammar.{IsRunText};
-ghost use Rattle.dmlw_commands.specs.Ends.{ReportsLine, err_stream};
+ghost use Rattle.dmlw_commands.specs.Ends.{Ends, ReportsLine, err_stream};
+ghost use Rattle.dmlw_commands.specs.Seen.{seen};
 ghost use Rattle.dmlw_commands.specs.declared.exit.Exit.{Exit};
-ghost use Rattle.dmlw_commands.specs.Exits.{IsRefusal, exit_after, exit_at, exit_of, fault_line};
-ghost use Rattle.std.specs.Result.{IsErrAnd};
-ghost use Rattle.dmlw_files.specs.Files.{AsksFor, IsTooLong, KeepsFiles};
+ghost use Rattle.dmlw_commands.specs.Exits.{exit_after, fault_line};
+ghost use Rattle.dmlw_files.specs.Files.{IsTooLong, MatchesContents};
 ghost use Rattle.dmlw_files.specs.Images.{image_of};
-ghost use Rattle.dmlw_commands.specs.LogRuns.{EndsRunning, FailsRunning, HoldsRun, IsPrintedRun};
-ghost use Rattle.dmlw_commands.specs.LogRuns.{WritesRun, seat_line, seat_lines};
+ghost use Rattle.dmlw_commands.specs.LogRuns.{of_seats, seat_line, seat_lines};
+ghost use Rattle.dmlw_commands.specs.Records.{FailsRecording, PrintsLog, Records};
 
 use crate::explain::explain_running;
-use crate::record::print_end;
+use crate::record::{print_end, script_text};
 use crate::{Ended, end_recording};
 use bio::Status;
-use dmlw_files::{Files, Session, read_text};
-use dmlw_script::{RunScript, read_run_script};
-use refusals::{Refusal, RunError};
+use dmlw_files::{Files, Session};
+use dmlw_script::read_run_script;
+use refusals::RunError;
 use script_runner::{Ran, Tally, run_seats};
 use std::alloc::Global;
 use std::io::Write;
@@ -27,39 +26,19 @@ use std::sync::Wait;
 use std::thread::Threads;
 
 /// Executes `run SCRIPT LOG`: runs the seats of a script over a new log, each in a thread of its
-/// own, and returns how it ended. `script` and `log` are names of files. The output goes to `out`
-/// before the log is written, also if logging ended early. A fault is reported to `err`, with what
-/// helps if the session `explains`.
+/// own, and returns how it ended. It ends as `record` does, by scripts of another kind.
 pub fn run<F: Files, O: Write, E: Write, H: Threads + Wait + Sync>(
     rt: &H,
     script: &str,
     log: &str,
     session: &mut Session<F, O, E>,
 ) -> Ended
-    ensures ends { EndsRunning (F.contents session.old.files script.now) log.now
-        (F.writes session.old.files)
-        (F.writes session.new.files)
-        (O.contents session.old.out) (O.contents session.new.out)
-        (err_stream session.old.explains (E.contents session.old.err)
-        (E.contents session.new.err)) result }
-    // If it is refused, each file holds what it held, and a script isn't overwritten. That is also
-    // so if logging ended and the log wasn't asked to be written.
-    ensures kept { IsRefusal result.exit
-        → KeepsFiles (F.contents session.old.files) (F.contents session.new.files) }
-    ensures unmade { result.exit ≡ Exit.LoggingEnded →
-        KeepsFiles (F.contents session.old.files) (F.contents session.new.files)
-        ⊎ AsksFor log.now (F.writes session.old.files) (F.writes session.new.files) }
-    // If it is done, LOG holds the log. That is also so if logging
-    // ended, unless each file holds what it held.
-    ensures written { result.exit ≡ Exit.Done →
-        HoldsRun (F.contents session.old.files script.now) Exit.Done (O.contents session.old.out)
-        (O.contents session.new.out) (F.contents session.new.files log.now) }
-    ensures left { result.exit ≡ Exit.LoggingEnded
-        → KeepsFiles (F.contents session.old.files) (F.contents session.new.files)
-        ⊎ HoldsRun (F.contents session.old.files script.now) Exit.LoggingEnded
-        (O.contents session.old.out)
-        (O.contents session.new.out) (F.contents session.new.files log.now) }
-    ensures apart { script.now ≡ log.now → F.writes session.new.files ≡ F.writes session.old.files }
+    ensures ends { Ends (Records of_seats script.now log.now) exit_after session.old.explains
+        (seen (F.contents session.old.files) (F.writes session.old.files)
+        (O.contents session.old.out) (E.contents session.old.err))
+        (seen (F.contents session.new.files) (F.writes session.new.files)
+        (O.contents session.new.out) (E.contents session.new.err)) result }
+    // If both names are one, it is refused as a file.
     ensures same { script.now ≡ log.now →
         ReportsLine (err_stream session.old.explains (E.contents session.old.err)
         (E.contents session.new.err)) Exit.Refused
@@ -96,49 +75,17 @@ fn run_named<F: Files, O: Write, H: Threads + Wait + Sync>(
     files: &mut F,
     out: &mut O,
 ) -> Result<Status, RunError>
-    ensures log { WritesRun (F.contents files.old script.now) log.now (F.writes files.old)
-        (F.writes files.new)
-        (O.contents out.old) (O.contents out.new) result }
-    ensures held { IfOk result
-        (λ status. HoldsRun (F.contents files.old script.now) (exit_at status.end)
-        (O.contents out.old) (O.contents out.new)
-        (F.contents files.new log.now)) }
-    ensures faults { IfErr result
-        (FailsRunning (F.contents files.old script.now) (O.contents out.old) (O.contents out.new)) }
-    ensures kept { OnErr result (KeepsFiles (F.contents files.old) (F.contents files.new)) }
-    ensures apart { script.now ≡ log.now → F.writes files.new ≡ F.writes files.old }
+    ensures did { (err : Option (List ℕ)) → Records of_seats script.now log.now
+        (seen (F.contents files.old) (F.writes files.old) (O.contents out.old) err)
+        (seen (F.contents files.new) (F.writes files.new) (O.contents out.new) err) result }
     ensures same { script.now ≡ log.now → result ≡ Err (refused_by refusals.File) }
     ensures within { IsTooLong 4194304 (F.contents files.old script.now)
         → exit_after result ≡ Exit.Refused }
 {
-    if files.is_same(script, log) {
-        return Err(RunError::from(Refusal::File));
-    }
-    let Ran { disk, status, .. } = run_file(rt, alloc, script, files, out)?;
+    let text = script_text(alloc, script, log, files)?;
+    let Ran { disk, status, .. } = run_text(rt, alloc, &text, out)?;
     files.write(alloc, log, disk)?;
     Ok(status)
-}
-
-// Runs the script in a file, and prints a line for each seat and the log's status.
-fn run_file<F: Files, O: Write, H: Threads + Wait + Sync>(
-    rt: &H,
-    alloc: Global,
-    script: &str,
-    files: &mut F,
-    out: &mut O,
-) -> Result<Ran, RunError>
-    ensures printed { IfOk result
-        (λ ran. IsPrintedRun (F.contents files.old script.now) ran.status (image_of ran.disk)
-        (O.contents out.old) (O.contents out.new)) }
-    ensures faults { IfErr result
-        (FailsRunning (F.contents files.old script.now) (O.contents out.old) (O.contents out.new)) }
-    ensures kept { KeepsFiles (F.contents files.old) (F.contents files.new) }
-    ensures unwritten { F.writes files.new ≡ F.writes files.old }
-    ensures within { IsTooLong 4194304 (F.contents files.old script.now)
-        → IsErrAnd result (λ fault. exit_of fault ≡ Exit.Refused) }
-{
-    let text = read_text(alloc, script, files)?;
-    run_text(rt, alloc, &text, out)
 }
 
 // Runs the script that a text spells, and prints a line for
@@ -149,33 +96,15 @@ fn run_text<O: Write, H: Threads + Wait + Sync>(
     text: &[u8],
     out: &mut O,
 ) -> Result<Ran, RunError>
-    ensures printed { IfOk result
-        (λ ran. IsPrintedRun (Some text.now) ran.status (image_of ran.disk)
+    ensures printed { (contents : Option (List ℕ)) → MatchesContents contents text.now →
+        IfOk result (λ ran. PrintsLog of_seats contents ran.status (image_of ran.disk)
         (O.contents out.old) (O.contents out.new)) }
-    ensures faults { IfErr result
-        (FailsRunning (Some text.now) (O.contents out.old) (O.contents out.new)) }
+    ensures faults { (contents : Option (List ℕ)) → MatchesContents contents text.now →
+        IfErr result
+        (FailsRecording of_seats contents (O.contents out.old) (O.contents out.new)) }
 {
     let script = read_run_script(alloc, text)?;
-    run_script(rt, alloc, text, &script, out)
-}
-
-// Runs a script, which was read from `text`, and prints a
-// line for each seat and the log's status.
-fn run_script<O: Write, H: Threads + Wait + Sync>(
-    rt: &H,
-    alloc: Global,
-    text: &[u8],
-    script: &RunScript,
-    out: &mut O,
-) -> Result<Ran, RunError>
-    requires { IsRunText text.now script.now }
-    ensures printed { IfOk result
-        (λ ran. IsPrintedRun (Some text.now) ran.status (image_of ran.disk)
-        (O.contents out.old) (O.contents out.new)) }
-    ensures faults { IfErr result
-        (FailsRunning (Some text.now) (O.contents out.old) (O.contents out.new)) }
-{
-    let ran = run_seats(rt, alloc, script)?;
+    let ran = run_seats(rt, alloc, &script)?;
     print_seats(ran.tallies.as_slice(), out)?;
     print_end(ran.status, ran.lies, out)?;
     Ok(ran)

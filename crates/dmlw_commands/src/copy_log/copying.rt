@@ -1,22 +1,21 @@
 // `copy LOG OUT SECTORS`: copies the log in a file, and writes the image of the new one.
-ghost use Rattle.std.specs.Prelude.{◌≡◌, Err, ◌≤◌, ◌⊎◌, IfErr, IfOk, OnErr, OnOk};
+ghost use Rattle.std.specs.Prelude.{◌≡◌, ◌≤◌, ◌⊎◌, Err, IfErr, IfOk, List, OnOk, Option, ℕ};
 ghost use Rattle.std.specs.Io.KnownBytes.{Appends};
 ghost use Rattle.refusals.specs.Errors.{IsFileError, refused_by};
 ghost use Rattle.dmlw_commands.specs.declared.exit.Exit.{Exit};
 ghost use Rattle.refusals.specs.declared.refusal.Refusal.TheVariants as refusals;
-ghost use Rattle.dmlw_commands.specs.Ends.{ReportsLine, err_stream};
-ghost use Rattle.dmlw_commands.specs.Exits.{IsRefusal, fault_line};
-ghost use Rattle.dmlw_files.specs.Files.{KeepsFiles, MatchesContents, one_more};
+ghost use Rattle.dmlw_commands.specs.Ends.{Ends, ReportsLine, err_stream};
+ghost use Rattle.dmlw_commands.specs.Exits.{exit_by, fault_line};
+ghost use Rattle.dmlw_commands.specs.Seen.{seen};
+ghost use Rattle.dmlw_files.specs.Files.{KeepsFiles};
 ghost use Rattle.dmlw_files.specs.Images.{image_of};
-ghost use Rattle.dmlw_commands.specs.LogCopies.{Copies, EndsCopying, FailsCopy, HoldsCopied};
-ghost use Rattle.dmlw_commands.specs.LogCopies.{IsCopiedFrom, copied_line};
+ghost use Rattle.dmlw_commands.specs.LogCopies.{Copies, FailsCopy, IsCopiedFrom, copied_line};
 
 use crate::copy_log::images::{Copied, copy_image};
 use crate::explain::{CopyNames, explain_copying};
 use crate::{Ended, Exit, end};
 use dmlw_files::{Files, Session, read_image};
 use refusals::{Refusal, RunError};
-use sector_disk::SectorDisk;
 use std::alloc::Global;
 use std::io::Write;
 
@@ -28,7 +27,8 @@ use std::io::Write;
 ///
 /// Each entry keeps its flags, its body, and its place and length in bytes. The copy stops before
 /// an entry whose place or length in bytes is no multiple of 4,096, before one that doesn't fit,
-/// and at a fault of the log; then nothing is written.
+/// and at a fault of the log; then nothing is written. If it is done, OUT
+/// holds the image of the new log's disk. If it is refused, each file holds what it held.
 pub fn copy<F: Files, O: Write, E: Write>(
     names: CopyNames,
     sectors: u64,
@@ -36,23 +36,13 @@ pub fn copy<F: Files, O: Write, E: Write>(
 ) -> Ended
     requires least { 8 ≤ sectors }
     requires most { sectors ≤ 1048576 }
-    ensures ends { EndsCopying
-        (F.contents session.old.files names.entry.log.now) names.entry.out.now sectors
-        (F.writes session.old.files) (F.writes session.new.files) (O.contents session.old.out)
-        (O.contents session.new.out)
-        (err_stream session.old.explains (E.contents session.old.err)
-        (E.contents session.new.err)) result }
-    // If it is done, OUT holds the image of the new log's disk.
-    ensures written { result.exit ≡ Exit.Done
-        → HoldsCopied (F.contents session.old.files names.entry.log.now) sectors
-        (F.contents session.new.files names.entry.out.now) }
-    // It is done or refused. If it is refused, each file
-    // holds what it held, and a log isn't overwritten.
+    ensures ends { Ends (Copies names.entry.log.now names.entry.out.now sectors) exit_by session.old.explains
+        (seen (F.contents session.old.files) (F.writes session.old.files)
+        (O.contents session.old.out) (E.contents session.old.err))
+        (seen (F.contents session.new.files) (F.writes session.new.files)
+        (O.contents session.new.out) (E.contents session.new.err)) result }
     ensures exits { (result.exit ≡ Exit.Done) ⊎ (result.exit ≡ Exit.Refused) }
-    ensures kept { IsRefusal result.exit
-        → KeepsFiles (F.contents session.old.files) (F.contents session.new.files) }
-    ensures apart { names.entry.log.now ≡ names.entry.out.now
-        → F.writes session.new.files ≡ F.writes session.old.files }
+    // If both names are one, it is refused as a file.
     ensures same { names.entry.log.now ≡ names.entry.out.now →
         ReportsLine (err_stream session.old.explains (E.contents session.old.err)
         (E.contents session.new.err)) Exit.Refused
@@ -80,14 +70,9 @@ fn copy_file<F: Files, O: Write>(
 ) -> Result<u64, RunError>
     requires least { 8 ≤ sectors }
     requires most { sectors ≤ 1048576 }
-    ensures copies { Copies (F.contents files.old names.entry.log.now) names.entry.out.now sectors
-        (F.writes files.old) (F.writes files.new) (O.contents out.old) (O.contents out.new) result }
-    ensures held { OnOk result
-        (HoldsCopied (F.contents files.old names.entry.log.now) sectors
-        (F.contents files.new names.entry.out.now)) }
-    ensures kept { OnErr result (KeepsFiles (F.contents files.old) (F.contents files.new)) }
-    ensures apart { names.entry.log.now ≡ names.entry.out.now
-        → F.writes files.new ≡ F.writes files.old }
+    ensures did { (err : Option (List ℕ)) → Copies names.entry.log.now names.entry.out.now sectors
+        (seen (F.contents files.old) (F.writes files.old) (O.contents out.old) err)
+        (seen (F.contents files.new) (F.writes files.new) (O.contents out.new) err) result }
     ensures same { names.entry.log.now ≡ names.entry.out.now
         → result ≡ Err (refused_by refusals.File) }
 {
@@ -95,7 +80,8 @@ fn copy_file<F: Files, O: Write>(
         return Err(RunError::from(Refusal::File));
     }
     let Copied { count, disk } = copy_named(alloc, names.log, sectors, files)?;
-    hand_over(alloc, count, disk, names.out, files, out)?;
+    print_count(count, out)?;
+    files.write(alloc, names.out, disk)?;
     Ok(count)
 }
 
@@ -117,30 +103,6 @@ fn copy_named<F: Files>(
 {
     let log = read_image(alloc, log, files)?;
     copy_image(alloc, log, sectors)
-}
-
-// Prints the number of copied entries, and has the image of the new log's disk written.
-fn hand_over<F: Files, O: Write>(
-    alloc: Global,
-    count: u64,
-    disk: SectorDisk,
-    name: &str,
-    files: &mut F,
-    out: &mut O,
-) -> Result<(), RunError>
-    ensures done { OnOk result
-        (Appends (O.contents out.old) (O.contents out.new) (copied_line count)
-        × (F.writes files.new ≡ one_more (F.writes files.old) name.now (image_of disk))) }
-    ensures held { OnOk result (MatchesContents (F.contents files.new name.now) (image_of disk)) }
-    ensures fails { IfErr result IsFileError }
-    ensures asked { OnErr result ((F.writes files.new ≡ F.writes files.old)
-        ⊎ (Appends (O.contents out.old) (O.contents out.new) (copied_line count)
-        × (F.writes files.new ≡ one_more (F.writes files.old) name.now (image_of disk)))) }
-    ensures kept { OnErr result (KeepsFiles (F.contents files.old) (F.contents files.new)) }
-{
-    print_count(count, out)?;
-    files.write(alloc, name, disk)?;
-    Ok(())
 }
 
 // Prints the number of copied entries.

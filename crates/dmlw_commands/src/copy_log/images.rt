@@ -1,15 +1,14 @@
 // Copies the log in an image to a new log, on disks in memory.
 ghost use Rattle.std.specs.Prelude.{◌≡◌, ◌≤◌, IfErr, IfOk};
 ghost use Rattle.sector_disk.specs.DiskView.{shown_of};
-ghost use Rattle.log_reader.specs.ReaderView.{reader_of};
 ghost use Rattle.log_store.specs.Fields.{store_of};
 ghost use Rattle.refusals.specs.Errors.{memory_error};
 ghost use Rattle.dmlw_files.specs.Images.{IsImage, image_of};
 ghost use Rattle.dmlw_commands.specs.LogCopies.{FailsOnImage, IsCopied, copy_stopped};
-ghost use Rattle.dmlw_commands.specs.DiskCopy.{IsBegun, IsOpened, RefusesOpen};
+ghost use Rattle.dmlw_commands.specs.DiskCopy.{IsBegun};
 
+use crate::opened::open_image;
 use bio::{End, SectorSize};
-use log_reader::LogReader;
 use log_store::LogStore;
 use refusals::{Refusal, RunError};
 use replay::{CopyFault, copy_log};
@@ -36,7 +35,7 @@ pub(crate) fn copy_image(alloc: Global, log: Image, sectors: u64) -> Result<Copi
         (λ done. IsCopied log done.count sectors (image_of done.disk)) }
     ensures fails { IfErr result (FailsOnImage log sectors) }
 {
-    let mut reader = open_log(alloc, log)?;
+    let mut reader = open_image(alloc, log)?;
     let mut store = begin_log(alloc, sectors)?;
     match copy_log(&mut reader, &mut store) {
         Ok(count) => {
@@ -54,19 +53,6 @@ fn stopped(fault: CopyFault) -> RunError
     RunError::StoppedAfter {
         applied: fault.applied,
         refusal: Refusal::from(fault.cause),
-    }
-}
-
-// Opens the log in an image, which becomes a disk.
-fn open_log(alloc: Global, log: Image) -> Result<LogReader<SectorDisk>, RunError>
-    requires { IsImage log }
-    ensures opened { IfOk result (λ reader. IsOpened log (reader_of reader)) }
-    ensures refused { IfErr result (RefusesOpen log) }
-{
-    let disk = SectorDisk::from_image(alloc, log)?;
-    match LogReader::open(alloc, disk) {
-        Ok(reader) => Ok(reader),
-        Err((_disk, error)) => Err(RunError::from(Refusal::from(error))),
     }
 }
 

@@ -9,13 +9,14 @@ ghost use Rattle.bio.specs.Content.{sector_of};
 ghost use Rattle.refusals.specs.declared.refusal.Refusal.TheVariants.{BadMoment};
 ghost use Rattle.dmlw_script.specs.Grammar.{IsTextOf};
 ghost use Rattle.refusals.specs.Errors.{IsFileError, memory_error, refused_by};
-ghost use Rattle.dmlw_commands.specs.Ends.{err_stream};
+ghost use Rattle.dmlw_commands.specs.Ends.{Ends};
+ghost use Rattle.dmlw_commands.specs.Seen.{seen};
 ghost use Rattle.dmlw_commands.specs.Exits.{reported_line};
 ghost use Rattle.dmlw_files.specs.Files.{KeepsFiles, MatchesContents};
 ghost use Rattle.dmlw_files.specs.Images.{HoldsImage, IsImage};
-ghost use Rattle.dmlw_commands.specs.Judgements.{Answers, CanJudge, CannotJudge, EndsAnswering};
+ghost use Rattle.dmlw_commands.specs.Judgements.{Answers, AnswersOf, CanJudge, CannotJudge};
 ghost use Rattle.dmlw_commands.specs.Judgements.{HasAnswer, HasNoVerdict, blank, exit_answered};
-ghost use Rattle.dmlw_commands.specs.Judgements.{question};
+ghost use Rattle.dmlw_commands.specs.Judgements.{question, question_of};
 
 use crate::explain::explain_judging;
 use crate::judge_image::answer::Answer;
@@ -45,17 +46,12 @@ pub(crate) fn ask<A: Answer, F: Files, O: Write, E: Write>(
     asked: Asked<'_>,
     session: &mut Session<F, O, E>,
 ) -> Ended
-    ensures ends { EndsAnswering A.meaning
-        (record {
-          script = F.contents session.old.files asked.entry.script.now;
-          image = F.contents session.old.files asked.entry.image.now;
-          moment = asked.entry.moment;
-        })
-        (F.writes session.old.files) (F.writes session.new.files) (O.contents session.old.out)
-        (O.contents session.new.out)
-        (err_stream session.old.explains (E.contents session.old.err)
-        (E.contents session.new.err)) result }
-    ensures kept { KeepsFiles (F.contents session.old.files) (F.contents session.new.files) }
+    ensures ends { Ends (AnswersOf A.meaning asked.entry.script.now asked.entry.moment
+        asked.entry.image.now) (exit_answered A.meaning) session.old.explains
+        (seen (F.contents session.old.files) (F.writes session.old.files)
+        (O.contents session.old.out) (E.contents session.old.err))
+        (seen (F.contents session.new.files) (F.writes session.new.files)
+        (O.contents session.new.out) (E.contents session.new.err)) result }
 {
     let alloc = session.alloc;
     let answered: Result<A, RunError> = answer_files(
@@ -139,11 +135,8 @@ fn answer_files<A: Answer, F: Files, O: Write>(
     out: &mut O,
 ) -> Result<A, RunError>
     ensures judged { Answers A.meaning
-        (record {
-          script = F.contents files.old asked.entry.script.now;
-          image = F.contents files.old asked.entry.image.now;
-          moment = asked.entry.moment;
-        })
+        (question_of (F.contents files.old) asked.entry.script.now asked.entry.moment
+        asked.entry.image.now)
         (O.contents out.old) (O.contents out.new) result }
     ensures kept { KeepsFiles (F.contents files.old) (F.contents files.new) }
     ensures unwritten { F.writes files.new ≡ F.writes files.old }

@@ -1,7 +1,7 @@
 //! `judge SCRIPT M IMAGE`: whether an image could have been on a script's data disk.
-ghost use Rattle.dmlw_commands.specs.Ends.{err_stream};
-ghost use Rattle.dmlw_files.specs.Files.{KeepsFiles};
-ghost use Rattle.dmlw_commands.specs.Judgements.{EndsJudging, verdict_meaning};
+ghost use Rattle.dmlw_commands.specs.Ends.{Ends};
+ghost use Rattle.dmlw_commands.specs.Judgements.{AnswersOf, exit_answered, verdict_meaning};
+ghost use Rattle.dmlw_commands.specs.Seen.{seen};
 
 use crate::judge_image::answer::Answer;
 use crate::judge_image::answering::{Asked, ask};
@@ -34,17 +34,12 @@ pub fn judge<F: Files, O: Write, E: Write>(
     image: &str,
     session: &mut Session<F, O, E>,
 ) -> Ended
-    ensures ends { EndsJudging
-        (record {
-          script = F.contents session.old.files script.now;
-          image = F.contents session.old.files image.now;
-          moment = moment;
-        })
-        (F.writes session.old.files) (F.writes session.new.files) (O.contents session.old.out)
-        (O.contents session.new.out)
-        (err_stream session.old.explains (E.contents session.old.err)
-        (E.contents session.new.err)) result }
-    ensures kept { KeepsFiles (F.contents session.old.files) (F.contents session.new.files) }
+    ensures ends { Ends (AnswersOf verdict_meaning script.now moment image.now)
+        (exit_answered verdict_meaning) session.old.explains
+        (seen (F.contents session.old.files) (F.writes session.old.files)
+        (O.contents session.old.out) (E.contents session.old.err))
+        (seen (F.contents session.new.files) (F.writes session.new.files)
+        (O.contents session.new.out) (E.contents session.new.err)) result }
 {
     let asked = Asked {
         script,

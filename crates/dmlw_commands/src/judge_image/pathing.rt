@@ -1,7 +1,8 @@
 //! `path SCRIPT M IMAGE`: how an image could have come to a script's data disk.
-ghost use Rattle.dmlw_commands.specs.Ends.{err_stream};
-ghost use Rattle.dmlw_files.specs.Files.{KeepsFiles};
-ghost use Rattle.dmlw_commands.specs.Paths.{EndsFinding};
+ghost use Rattle.dmlw_commands.specs.Ends.{Ends};
+ghost use Rattle.dmlw_commands.specs.Judgements.{AnswersOf, exit_answered};
+ghost use Rattle.dmlw_commands.specs.Paths.{finding_meaning};
+ghost use Rattle.dmlw_commands.specs.Seen.{seen};
 
 use crate::Ended;
 use crate::judge_image::answering::{Asked, ask};
@@ -24,17 +25,12 @@ pub fn path<F: Files, O: Write, E: Write>(
     image: &str,
     session: &mut Session<F, O, E>,
 ) -> Ended
-    ensures ends { EndsFinding
-        (record {
-          script = F.contents session.old.files script.now;
-          image = F.contents session.old.files image.now;
-          moment = moment;
-        })
-        (F.writes session.old.files) (F.writes session.new.files) (O.contents session.old.out)
-        (O.contents session.new.out)
-        (err_stream session.old.explains (E.contents session.old.err)
-        (E.contents session.new.err)) result }
-    ensures kept { KeepsFiles (F.contents session.old.files) (F.contents session.new.files) }
+    ensures ends { Ends (AnswersOf finding_meaning script.now moment image.now)
+        (exit_answered finding_meaning) session.old.explains
+        (seen (F.contents session.old.files) (F.writes session.old.files)
+        (O.contents session.old.out) (E.contents session.old.err))
+        (seen (F.contents session.new.files) (F.writes session.new.files)
+        (O.contents session.new.out) (E.contents session.new.err)) result }
 {
     let asked = Asked {
         script,

@@ -1,15 +1,15 @@
 //! `replay LOG FIRST OUT WHAT`: applies a log, up to the named entry, to an image.
-ghost use Rattle.std.specs.Prelude.{◌≡◌, Err, ◌⊎◌, IfErr, IfOk, OnErr, OnOk};
+ghost use Rattle.std.specs.Prelude.{◌≡◌, ◌⊎◌, Err, IfErr, IfOk, List, OnOk, Option, ℕ};
 ghost use Rattle.std.specs.Io.KnownBytes.{Appends};
 ghost use Rattle.refusals.specs.Errors.{IsFileError, refused_by};
 ghost use Rattle.dmlw_commands.specs.declared.exit.Exit.{Exit};
 ghost use Rattle.refusals.specs.declared.refusal.Refusal.TheVariants as refusals;
-ghost use Rattle.dmlw_commands.specs.Ends.{ReportsLine, err_stream};
-ghost use Rattle.dmlw_commands.specs.Exits.{IsRefusal, fault_line};
-ghost use Rattle.dmlw_files.specs.Files.{KeepsFiles, MatchesContents, one_more};
+ghost use Rattle.dmlw_commands.specs.Ends.{Ends, ReportsLine, err_stream};
+ghost use Rattle.dmlw_commands.specs.Exits.{exit_by, fault_line};
+ghost use Rattle.dmlw_commands.specs.Seen.{seen};
+ghost use Rattle.dmlw_files.specs.Files.{KeepsFiles};
 ghost use Rattle.dmlw_files.specs.Images.{image_of};
-ghost use Rattle.dmlw_commands.specs.Replays.{EndsReplaying, FailsReplay, HoldsReplayed};
-ghost use Rattle.dmlw_commands.specs.Replays.{IsReplayedFrom, Replays, replayed_line};
+ghost use Rattle.dmlw_commands.specs.Replays.{FailsReplay, IsReplayedFrom, Replays, replayed_line};
 
 use crate::explain::{ReplayNames, explain_replaying};
 use crate::replay_log::images::{Replayed, replay_images};
@@ -17,7 +17,6 @@ use crate::{Ended, Exit, end};
 use dmlw_files::{Files, Session, read_image};
 use refusals::{Refusal, RunError};
 use replay::Upto;
-use sector_disk::SectorDisk;
 use std::alloc::Global;
 use std::io::Write;
 
@@ -27,31 +26,21 @@ use std::io::Write;
 /// file FIRST, and is refused as a file if it is LOG.
 ///
 /// An entry's sectors are the log's; a FUA entry is applied as any other. Both images are whole
-/// sectors of 512 bytes, 1 to 1,048,576.
+/// sectors of 512 bytes, 1 to 1,048,576. If it is done, OUT holds the image.
+/// If it is refused, each file holds what it held.
 pub fn replay<F: Files, O: Write, E: Write>(
     names: ReplayNames,
     upto: &Upto,
     session: &mut Session<F, O, E>,
 ) -> Ended
-    ensures ends { EndsReplaying (F.contents session.old.files names.entry.log.now)
-        (F.contents session.old.files names.entry.first.now)
-        (F.contents session.old.files names.entry.out.now) names.entry.out.now upto.now
-        (F.writes session.old.files) (F.writes session.new.files) (O.contents session.old.out)
-        (O.contents session.new.out)
-        (err_stream session.old.explains (E.contents session.old.err)
-        (E.contents session.new.err)) result }
-    // If it is done, OUT holds the resulting image.
-    ensures written { result.exit ≡ Exit.Done
-        → HoldsReplayed (F.contents session.old.files names.entry.log.now)
-        (F.contents session.old.files names.entry.first.now) upto.now
-        (F.contents session.new.files names.entry.out.now) }
-    // It is done or refused. If it is refused, each file
-    // holds what it held, and a log isn't overwritten.
+    ensures ends { Ends (Replays names.entry.log.now names.entry.first.now names.entry.out.now
+        upto.now) exit_by session.old.explains
+        (seen (F.contents session.old.files) (F.writes session.old.files)
+        (O.contents session.old.out) (E.contents session.old.err))
+        (seen (F.contents session.new.files) (F.writes session.new.files)
+        (O.contents session.new.out) (E.contents session.new.err)) result }
     ensures exits { (result.exit ≡ Exit.Done) ⊎ (result.exit ≡ Exit.Refused) }
-    ensures kept { IsRefusal result.exit
-        → KeepsFiles (F.contents session.old.files) (F.contents session.new.files) }
-    ensures apart { names.entry.log.now ≡ names.entry.out.now
-        → F.writes session.new.files ≡ F.writes session.old.files }
+    // If both names are one, it is refused as a file.
     ensures same { names.entry.log.now ≡ names.entry.out.now →
         ReportsLine (err_stream session.old.explains (E.contents session.old.err)
         (E.contents session.new.err)) Exit.Refused
@@ -77,17 +66,10 @@ fn replay_files<F: Files, O: Write>(
     files: &mut F,
     out: &mut O,
 ) -> Result<u64, RunError>
-    ensures replays { Replays (F.contents files.old names.entry.log.now)
-        (F.contents files.old names.entry.first.now) (F.contents files.old names.entry.out.now)
+    ensures did { (err : Option (List ℕ)) → Replays names.entry.log.now names.entry.first.now
         names.entry.out.now upto.now
-        (F.writes files.old) (F.writes files.new) (O.contents out.old) (O.contents out.new) result }
-    ensures held { OnOk result
-        (HoldsReplayed (F.contents files.old names.entry.log.now)
-        (F.contents files.old names.entry.first.now) upto.now
-        (F.contents files.new names.entry.out.now)) }
-    ensures kept { OnErr result (KeepsFiles (F.contents files.old) (F.contents files.new)) }
-    ensures apart { names.entry.log.now ≡ names.entry.out.now
-        → F.writes files.new ≡ F.writes files.old }
+        (seen (F.contents files.old) (F.writes files.old) (O.contents out.old) err)
+        (seen (F.contents files.new) (F.writes files.new) (O.contents out.new) err) result }
     ensures same { names.entry.log.now ≡ names.entry.out.now
         → result ≡ Err (refused_by refusals.File) }
 {
@@ -95,7 +77,8 @@ fn replay_files<F: Files, O: Write>(
         return Err(RunError::from(Refusal::File));
     }
     let Replayed { count, disk } = replay_named(alloc, names.log, names.first, upto, files)?;
-    hand_over(alloc, count, disk, names.out, files, out)?;
+    print_count(count, out)?;
+    files.write(alloc, names.out, disk)?;
     Ok(count)
 }
 
@@ -118,30 +101,6 @@ fn replay_named<F: Files>(
     let log = read_image(alloc, log, files)?;
     let first = read_image(alloc, first, files)?;
     replay_images(alloc, log, first, upto)
-}
-
-// Prints the number of replayed entries, and has the image of the resulting disk written.
-fn hand_over<F: Files, O: Write>(
-    alloc: Global,
-    count: u64,
-    disk: SectorDisk,
-    name: &str,
-    files: &mut F,
-    out: &mut O,
-) -> Result<(), RunError>
-    ensures done { OnOk result
-        (Appends (O.contents out.old) (O.contents out.new) (replayed_line count)
-        × (F.writes files.new ≡ one_more (F.writes files.old) name.now (image_of disk))) }
-    ensures held { OnOk result (MatchesContents (F.contents files.new name.now) (image_of disk)) }
-    ensures fails { IfErr result IsFileError }
-    ensures asked { OnErr result ((F.writes files.new ≡ F.writes files.old)
-        ⊎ (Appends (O.contents out.old) (O.contents out.new) (replayed_line count)
-        × (F.writes files.new ≡ one_more (F.writes files.old) name.now (image_of disk)))) }
-    ensures kept { OnErr result (KeepsFiles (F.contents files.old) (F.contents files.new)) }
-{
-    print_count(count, out)?;
-    files.write(alloc, name, disk)?;
-    Ok(())
 }
 
 // Prints the number of replayed entries.

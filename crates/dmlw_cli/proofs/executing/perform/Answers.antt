@@ -1,8 +1,11 @@
-use Rattle.dmlw_cli.proofs.Ends.{asks_for_one}
+use Rattle.std.proofs.Common.{refl}
 use Rattle.dmlw_cli.proofs.executing.perform.Goals as goal
 
-pub returns-in-Record-clause-unmade : goal.returns-in-Record-clause-unmade
-returns-in-Record-clause-unmade g c = λ ended. asks_for_one _ _ _ _ (c.record.ensures.unmade ended)
-
-pub returns-in-Run-clause-unmade : goal.returns-in-Run-clause-unmade
-returns-in-Run-clause-unmade g c = λ ended. asks_for_one _ _ _ _ (c.run.ensures.unmade ended)
+pub returns-in-Formats : goal.returns-in-Formats
+returns-in-Formats g c =
+    let page = c.print_page.ensures c.args.session.now.explains in
+    record {
+      done = page.done;
+      did = record { printed = page.printed; unwritten = refl; kept = λ name. refl };
+      tells = page.tells;
+    }

@@ -1,29 +1,58 @@
-use Rattle.std.proofs.Common.{inl, refl}
+use Rattle.std.proofs.Common.{◌∙◌, subst, sym}
+use Rattle.refusals.specs.Errors.{IsFileError}
+use Rattle.dmlw_files.specs.Files.{MatchesContents}
 use Rattle.dmlw_files.specs.Images.{image_of}
-use Rattle.script_runner.specs.CallLaws.{on_error}
-use Rattle.dmlw_commands.proofs.RunEnds.{holds_log}
-use Rattle.dmlw_commands.proofs.RunOutcome.{fails_for_file, unwritten_log}
-use Rattle.dmlw_commands.specs.LogRuns.{file}
+use Rattle.dmlw_commands.specs.Makings.{unmade, unwritten}
+use Rattle.dmlw_commands.specs.LogRuns.{of_seats}
+use Rattle.dmlw_commands.specs.Records.{FailsRecording, file}
+use Rattle.dmlw_commands.proofs.CommandEnds.{asks_for, makes_none}
+use Rattle.dmlw_commands.proofs.RecordEnds.{file_told}
 use Rattle.dmlw_commands.proofs.run.run_named.Goals as goal
 
-pub returns-in_err-write-clause-faults : goal.returns-in_err-write-clause-faults
-returns-in_err-write-clause-faults g c =
-    on_error c.from_residual-in_err-write.result c.from_residual-in_err-write.ensures.1
-    (λ fault is. fails_for_file _ _ _ _ fault is)
+pub returns-in_err-text-clause-did : goal.returns-in_err-text-clause-did
+returns-in_err-text-clause-did g c = λ err.
+    let text = c.in_err-text.ensures in
+    makes_none _ _ _ _ _ c.from_residual.result c.from_residual.ensures.1
+    (λ fault is. unmade (file fault (subst IsFileError (sym is) text.faults)) text.unwritten)
+    text.kept (λ named. text.unwritten)
 
-pub returns-then-is_same-clause-faults : goal.returns-then-is_same-clause-faults
-returns-then-is_same-clause-faults g c = file c.from.result (inl c.from.ensures)
+pub returns-in_err-disk-clause-did : goal.returns-in_err-disk-clause-did
+returns-in_err-disk-clause-did g c = λ err.
+    let text = c.in_ok-text.ensures in
+    let contents = g.F.Files.contents c.args.files.now c.args.script.now in
+    let is = subst (MatchesContents contents) (sym c.deref.ensures.value) text.contents in
+    makes_none _ _ _ _ _ c.from_residual-in_err-disk.result
+    c.from_residual-in_err-disk.ensures.1
+    (λ fault same. unmade (subst (FailsRecording of_seats contents _ _) (sym same)
+    (c.in_err-disk.ensures.faults contents is)) text.unwritten)
+    text.kept (λ named. text.unwritten)
 
-pub returns-in_err-write-clause-log : goal.returns-in_err-write-clause-log
-returns-in_err-write-clause-log g c =
-    unwritten_log _ _ _ _ _ _ _ c.in_ok-disk.field-0.status (image_of c.in_ok-disk.field-0.disk)
-    (image_of c.in_ok-disk.field-0.disk) _
-    c.from_residual-in_err-write.result
-    c.in_ok-disk.ensures.printed refl c.run_file.ensures.unwritten c.write.ensures.writes
+pub returns-in_err-write-clause-did : goal.returns-in_err-write-clause-did
+returns-in_err-write-clause-did g c = λ err.
+    let text = c.in_ok-text.ensures in
+    let contents = g.F.Files.contents c.args.files.now c.args.script.now in
+    let is = subst (MatchesContents contents) (sym c.deref.ensures.value) text.contents in
+    let made = c.in_ok-disk.ensures.printed contents is in
+    makes_none _ _ _ _ _ c.from_residual-in_err-write.result
     c.from_residual-in_err-write.ensures.1
+    (λ fault same. unwritten (subst IsFileError (sym same) (file_told c.in_err-write.field-0.0))
+    c.in_ok-disk.field-0.status
+    (asks_for _ _ _ _ _ _ made.0 (image_of c.in_ok-disk.field-0.disk) made.1 made.2
+    text.unwritten c.write.ensures.writes))
+    (λ name. c.in_err-write.ensures.kept name ∙ text.kept name)
+    (λ named. absurd (cc (text.same named)))
 
-pub returns-clause-held : goal.returns-clause-held
-returns-clause-held g c =
-    holds_log _ c.in_ok-disk.field-0.status (image_of c.in_ok-disk.field-0.disk)
-    (image_of c.in_ok-disk.field-0.disk) _ _ _ c.in_ok-disk.ensures.printed
-    refl c.in_ok-write.ensures.holds
+pub returns-clause-did : goal.returns-clause-did
+returns-clause-did g c = λ err.
+    let text = c.in_ok-text.ensures in
+    let contents = g.F.Files.contents c.args.files.now c.args.script.now in
+    let is = subst (MatchesContents contents) (sym c.deref.ensures.value) text.contents in
+    let made = c.in_ok-disk.ensures.printed contents is in
+    record {
+      came = record {
+        asks = asks_for _ _ _ _ _ _ made.0 (image_of c.in_ok-disk.field-0.disk) made.1 made.2
+            text.unwritten c.write.ensures.writes;
+        held = c.in_ok-write.ensures.holds;
+      };
+      apart = λ named. absurd (cc (text.same named));
+    }

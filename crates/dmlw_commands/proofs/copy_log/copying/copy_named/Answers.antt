@@ -1,12 +1,14 @@
+use Rattle.std.proofs.Common.{subst, sym}
+use Rattle.refusals.specs.Errors.{IsFileError}
 use Rattle.script_runner.specs.CallLaws.{on_error}
 use Rattle.dmlw_commands.proofs.CopyOnDisks.{copied_from, failed_from}
-use Rattle.dmlw_commands.proofs.CopyEnds.{fails_by_file}
+use Rattle.dmlw_commands.specs.LogCopies.{file}
 use Rattle.dmlw_commands.proofs.copy_log.copying.copy_named.Goals as goal
 
 pub returns-in_err-log-clause-fails : goal.returns-in_err-log-clause-fails
 returns-in_err-log-clause-fails g c =
     on_error c.from_residual.result c.from_residual.ensures.1
-    (λ stop is. fails_by_file _ _ c.in_err-log.field-0.0 stop c.in_err-log.ensures.fault is)
+    (λ stop is. file stop (subst IsFileError (sym is) c.in_err-log.ensures.fault))
 
 pub returns-clause-copied : goal.returns-clause-copied
 returns-clause-copied g c =

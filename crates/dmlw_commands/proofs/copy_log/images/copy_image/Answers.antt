@@ -8,7 +8,8 @@ use Rattle.log_store.specs.Fields.{store_of}
 use Rattle.dmlw_commands.specs.LogCopies.{FailsOnImage, stopped}
 use Rattle.dmlw_commands.specs.DiskCopy.{IsCopiedOn}
 use Rattle.dmlw_commands.proofs.CopyOnDisks.{content_whole, copied_on, fails_to_open, image_left}
-use Rattle.dmlw_commands.proofs.CopyOnDisks.{log_fits, never_failed, stopped_on}
+use Rattle.dmlw_commands.proofs.CopyOnDisks.{log_fits, stopped_on}
+use Rattle.dmlw_commands.proofs.ImageLog.{never_failed}
 use Rattle.dmlw_commands.proofs.copy_log.images.copy_image.Goals as goal
 
 pub returns-in_err-reader-clause-fails : goal.returns-in_err-reader-clause-fails

@@ -1,22 +1,22 @@
 use Rattle.std.proofs.Common.{subst, sym}
 use Rattle.script_runner.specs.CallLaws.{on_error}
 use Rattle.dmlw_files.specs.Images.{HoldsImage}
-use Rattle.dmlw_commands.proofs.ReplayEnds.{fails_by_file}
+use Rattle.dmlw_commands.specs.Replays.{FailsReplay, file}
 use Rattle.dmlw_commands.proofs.ReplayOnDisk.{both_images, failed_from, replayed_from}
 use Rattle.dmlw_commands.proofs.replay_log.replaying.replay_named.Goals as goal
 
 pub returns-in_err-log-clause-fails : goal.returns-in_err-log-clause-fails
 returns-in_err-log-clause-fails g c =
     on_error c.from_residual.result c.from_residual.ensures.1
-    (λ stop is. fails_by_file _ _ _ c.in_err-log.field-0.0 stop c.in_err-log.ensures.fault
-    (λ log first. c.in_err-log.ensures.readable log) is)
+    (λ stop is. subst (FailsReplay _ _ _) (sym is) (file _ c.in_err-log.ensures.fault
+    (λ log first. c.in_err-log.ensures.readable log)))
 
 pub returns-in_err-first-clause-fails : goal.returns-in_err-first-clause-fails
 returns-in_err-first-clause-fails g c =
     on_error c.from_residual-in_err-first.result c.from_residual-in_err-first.ensures.1
-    (λ stop is. fails_by_file _ _ _ c.in_err-first.field-0.0 stop c.in_err-first.ensures.fault
+    (λ stop is. subst (FailsReplay _ _ _) (sym is) (file _ c.in_err-first.ensures.fault
     (λ log first. c.in_err-first.ensures.readable
-    (subst HoldsImage (sym (c.in_ok-log.ensures.kept c.args.first.now)) first)) is)
+    (subst HoldsImage (sym (c.in_ok-log.ensures.kept c.args.first.now)) first))))
 
 pub returns-clause-replayed : goal.returns-clause-replayed
 returns-clause-replayed g c =

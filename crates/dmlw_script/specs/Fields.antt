@@ -150,7 +150,7 @@ run_fields (run_lines.Body said) =
 
 -- ---- the grammar
 
--- The bytes are a text of the word. A number may have leading zeroes if `number_of` allows them.
+-- The bytes are a text of the word. A number has 1 to 20 digits and may have leading zeroes.
 abbrev pub IsWord : List ℕ → Word → Type 0
 IsWord bytes (Given word) = bytes ≡ word
 IsWord bytes (Number n) = number_of bytes ≡ Some n

@@ -113,7 +113,7 @@ pub record IsLineAfter (before : List (List ℕ)) (line : List ℕ) (s : LineMea
   pub before_says : AllZip ParsesAs (unskipped before) said
   pub stands : MayFollowInScript (prefix_after data_due said) s
 
--- The request, given by its number, hasn't ended. None stands for an id that was never submitted.
+-- the request was submitted (`Some`, with its number), and hasn't ended
 abbrev pub is_open : Option ℕ → ScriptValue → Bool
 is_open None plan = false
 is_open (Some request) plan = not (is_ended request plan.commands)

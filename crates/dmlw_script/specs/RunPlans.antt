@@ -59,6 +59,7 @@ pub record IsRunPlan (plan : RunPlan) : Type 0 where
 abbrev pub data_layer : LayerSpec → RunLine
 data_layer spec = Head (head_lines.Layer disks.Data (Ok spec))
 
+-- the meaning of the line of a layer over the log disk
 abbrev pub log_layer : LayerSpec → RunLine
 log_layer spec = Head (head_lines.Layer disks.Log (Ok spec))
 

@@ -3,9 +3,9 @@ use Rattle.std.specs.Prelude.{ℕ, List}
 use Rattle.bio.specs.declared.sector_size.SectorSize.{SectorSize}
 use Rattle.dmlw_script.specs.Plans.{Disk}
 
--- How much of a script was read, without its body. `Empty`: nothing. `Data`: the line of the data
--- disk. `Whole`: the lines of both disks, and any layers. `Ended`: also a crash with these picks,
--- which ends the script.
+-- `Empty`: nothing was read. `Data`: the line of the data disk was read. `Whole`: the lines of both
+-- disks were read, and any layers. `Ended`: also a crash with these picks was read, which ends the
+-- script.
 pub data Stage : Type 0 where
   Empty : Stage
   Data : Disk → Stage

@@ -9,15 +9,15 @@ use Rattle.dmlw_script.specs.Plans.{lines_of_script, ScriptValue}
 abbrev pub line_text : LineMeaning → List ℕ
 line_text meaning = text_of (fields_of meaning)
 
--- as above, with a line feed
+-- the canonical line with the meaning `s`, and a line feed
 abbrev pub ended_line : LineMeaning → List ℕ
 ended_line s = line_text s ++ 10 ∷ []
 
--- the line of the crash that ends a script, if one does
+-- the canonical line of the crash that ends a script, with a line feed; empty if no crash ends it
 abbrev pub ending_text : Option (List ℕ) → List ℕ
 ending_text None = []
 ending_text (Some picks) = ended_line (parsed_lines.Crash picks)
 
--- the canonical text of a script
+-- the canonical text of a script: the canonical line of each of its lines, with a line feed
 abbrev pub canonical_text : ScriptValue → List ℕ
 canonical_text plan = flat_map ended_line (lines_of_script plan)

@@ -1,5 +1,5 @@
--- What the words of a script's lines are: each kind of line has a first word, and after it these
--- fields. The grammar and the canonical text of a line follow from them.
+-- The words of a script's lines: each kind of line has a first word and a list of fields. The
+-- grammar and the canonical text of a line follow from these fields.
 use Rattle.std.specs.Prelude.{◌≡◌, ℕ, Bool, true, false, List, [], ◌∷◌, ◌++◌, Option, Some}
 use Rattle.std.specs.Prelude.{None, Result, Ok, Err, codes, decimal, map, if◌then◌else◌}
 use Rattle.bio.specs.declared.sector_size.SectorSize.{SectorSize}
@@ -31,7 +31,8 @@ use Rattle.layer_table.specs.Texts as table_texts
 use Rattle.layer_table.specs.declared.layer_spec.LayerSpec.{LayerSpec}
 use Rattle.layer_table.specs.declared.table_error.TableError.{TableError}
 
--- one word: a given one, a number, an id, a byte, or the name of a seat, which is `s` and a number
+-- a word of a line: fixed bytes, a number, an id, a byte in hexadecimal, or a seat (`s` and a
+-- number)
 pub data Word : Type 0 where
   Given : List ℕ → Word
   Number : ℕ → Word
@@ -39,48 +40,49 @@ pub data Word : Type 0 where
   Byte : ℕ → Word
   Seat : ℕ → Word
 
--- a field of a line: one word; an option, whose word is there if it is given; or, as the last
--- field, a text, which may be empty, or a table line, which asks for a layer or fails a test
+-- A field of a line. `One` is a word. `Choice` is an option: its word is in the line if the `Bool`
+-- is true. `Text` is a text, which may be empty. `Table` is a table line, with the result of
+-- testing it. Only the last field can be a `Text` or a `Table`.
 pub data Field : Type 0 where
   One : Word → Field
   Choice : Bool → List ℕ → Field
   Text : List ℕ → Field
   Table : Result LayerSpec TableError → Field
 
--- the fields of a line: its first word, and the others
+-- the first word of a line, and its other fields
 pub record Fields : Type 0 where
   pub first : Word
   pub others : List Field
 
 -- ---- the fields of each kind of line
 
--- a line with this first word
+-- the fields of a line whose first word is `word`
 abbrev pub line_with : List ℕ → List Field → Fields
 line_with word fields = record { first = Given word; others = fields }
 
--- a number
+-- the field of the number `n`
 abbrev pub number : ℕ → Field
 number n = One (Number n)
 
--- the word for the size of a log's sectors: none for 512 bytes
+-- the fields for the size of the log's sectors: the word `4096` for 4,096 bytes, nothing for 512
 abbrev pub size_fields : SectorSize → List Field
 size_fields sizes.B512 = []
 size_fields sizes.B4096 = One (Given (codes "4096")) ∷ []
 
--- the first word of a layer's line
+-- the first word of the line of a layer over a disk
 abbrev pub layer_word : DiskName → List ℕ
 layer_word disks.Data = codes "data-layer"
 layer_word disks.Log = codes "log-layer"
 
--- a line of the head: the data disk's sectors; the log disk's sectors, and the size of the log's
--- sectors; or a layer's table line
+-- The fields of a line of the head. The line of the data disk has its sectors. The line of the log
+-- disk has its sectors and the size of the log's sectors. The line of a layer has a table line.
 abbrev pub head_fields : HeadLine → Fields
 head_fields (head_lines.Data sectors) = line_with (codes "data") (number sectors ∷ [])
 head_fields (head_lines.Log sectors size) =
     line_with (codes "log") (number sectors ∷ size_fields size)
 head_fields (head_lines.Layer over asked) = line_with (layer_word over) (Table asked ∷ [])
 
--- a write's options, in their order
+-- the fields of a write's options, in the order of the line
 abbrev pub option_fields : WriteOptions → List Field
 option_fields options =
     Choice options.flush (codes "flush") ∷ Choice options.fua (codes "fua")
@@ -92,7 +94,8 @@ submission_word (submits.Write first count byte options) = codes "w"
 submission_word submits.Flush = codes "f"
 submission_word (submits.Discard first count) = codes "d"
 
--- what is submitted: the first sector and the number of sectors; a write has a byte and options too
+-- The fields of a submission after its first word and its id. A write and a discard have the first
+-- sector and the number of sectors. A write also has a byte and options.
 abbrev pub submission_fields : Submission → List Field
 submission_fields (submits.Write first count byte options) =
     number first ∷ number count ∷ One (Byte byte) ∷ option_fields options
@@ -104,7 +107,7 @@ abbrev pub disk_word : DiskName → List ℕ
 disk_word disks.Data = codes "data"
 disk_word disks.Log = codes "log"
 
--- a line that names no request
+-- the fields of a line that names no request
 abbrev pub step_fields : Step → Fields
 step_fields steps.Close = line_with (codes "close") []
 step_fields (steps.Read first count) = line_with (codes "r") (number first ∷ number count ∷ [])
@@ -114,30 +117,31 @@ step_fields (steps.At moment) = line_with (codes "at") (number moment ∷ [])
 step_fields (steps.Message over layer text) =
     line_with (codes "message") (One (Given (disk_word over)) ∷ number layer ∷ Text text ∷ [])
 
--- a line of the body
+-- the fields of a line of the body
 abbrev pub body_fields : BodyLine → Fields
 body_fields (body_lines.Submit name submission) =
     line_with (submission_word submission) (One (Name name) ∷ submission_fields submission)
 body_fields (body_lines.Complete name) = line_with (codes "c") (One (Name name) ∷ [])
 body_fields (body_lines.Step step) = step_fields step
 
--- a line of a recorder's script
+-- the fields of a line of a recorder's script
 abbrev pub fields_of : LineMeaning → Fields
 fields_of (parsed_lines.Head line) = head_fields line
 fields_of (parsed_lines.Body line) = body_fields line
 fields_of (parsed_lines.Crash picks) = line_with (codes "crash") (map number picks)
 
--- a seat's call: a mark, or a request as in a recorder's script, without an id
+-- The fields of a seat's call, without the seat. They are those of a recorder's line, but a request
+-- has no id.
 abbrev pub call_fields : Call → Fields
 call_fields (calls.Submit submission) =
     line_with (submission_word submission) (submission_fields submission)
 call_fields (calls.Mark text) = line_with (codes "mark") (Text text ∷ [])
 
--- all fields of a line
+-- all fields of a line, the first word included
 abbrev pub all_of : Fields → List Field
 all_of fields = One fields.first ∷ fields.others
 
--- a line of a run's script
+-- the fields of a line of a run's script
 abbrev pub run_fields : RunLine → Fields
 run_fields (run_lines.Head line) = head_fields line
 run_fields (run_lines.Seats count) = line_with (codes "seats") (number count ∷ [])
@@ -146,7 +150,7 @@ run_fields (run_lines.Body said) =
 
 -- ---- the grammar
 
--- these bytes are the word
+-- The bytes are a text of the word. A number has 1 to 20 digits and may have leading zeroes.
 abbrev pub IsWord : List ℕ → Word → Type 0
 IsWord bytes (Given word) = bytes ≡ word
 IsWord bytes (Number n) = number_of bytes ≡ Some n
@@ -155,8 +159,9 @@ IsWord bytes (Byte byte) = byte_of bytes ≡ Some byte
 IsWord bytes (Seat seat) =
     (digits : List ℕ) × (number_of digits ≡ Some seat) × (bytes ≡ 115 ∷ digits)
 
--- what is left of a line has these fields, in their order. Each word ends before the next space,
--- or at the end of the line. A text or a table line is all that is left
+-- The rest of a line, after a space, has these fields in their order; the rest is None if the line
+-- has ended. A word ends before the next space or at the end of the line. A text or a table line is
+-- all the rest.
 abbrev pub HasFields : List Field → Option (List ℕ) → Type 0
 HasFields [] None = Unit {0}
 HasFields [] (Some left) = ⊥
@@ -169,7 +174,7 @@ HasFields (Text text ∷ []) (Some left) = (is_line_text text ≡ true) × (left
 HasFields (Table asked ∷ []) (Some left) = line_answer (words_of left) ≡ asked
 HasFields (field ∷ fields) left = ⊥
 
--- a line with this first word, and this left after it, has these fields
+-- the line whose first word is `word`, and whose rest after the space is `left`, has these fields
 abbrev pub Says : List ℕ → Option (List ℕ) → Fields → Type 0
 Says word left fields = IsWord word fields.first × HasFields fields.others left
 
@@ -179,7 +184,7 @@ IsLineWith line fields = Says (before_byte 32 line) (after_byte 32 line) fields
 
 -- ---- the canonical text
 
--- a word, with no leading zeroes
+-- the canonical text of a word: a number has no leading zeroes
 abbrev pub word_text : Word → List ℕ
 word_text (Given word) = word
 word_text (Number n) = decimal n
@@ -187,23 +192,24 @@ word_text (Name name) = letters_of name
 word_text (Byte byte) = byte_text byte
 word_text (Seat seat) = 115 ∷ decimal seat
 
--- an option's text, if the option is given
+-- `text` if the option is given, otherwise nothing
 abbrev pub option_text : Bool → List ℕ → List ℕ
 option_text given text = if given then text else []
 
--- the canonical text of a table line; one that asks for no layer is never printed
+-- The canonical text of a table line that asks for a layer. A table line that asks for none is
+-- never printed.
 abbrev pub table_text : Result LayerSpec TableError → List ℕ
 table_text (Ok spec) = table_texts.line_text spec
 table_text (Err error) = []
 
--- a field after another, with the space between them
+-- the canonical text of a field, with the space before it; empty for an option that is not given
 abbrev pub field_text : Field → List ℕ
 field_text (One word) = 32 ∷ word_text word
 field_text (Choice given word) = option_text given (32 ∷ word)
 field_text (Text text) = 32 ∷ text
 field_text (Table asked) = 32 ∷ table_text asked
 
--- the text of these fields, after another
+-- the canonical text of these fields, after a first word
 abbrev pub text_after : List Field → List ℕ
 text_after [] = []
 text_after (field ∷ []) = field_text field

@@ -1,4 +1,4 @@
--- The result of reading a text that is no script: the first line at fault, and why.
+-- The fault of a text that is no recorder's script: the first line at fault, and the refusal.
 use Rattle.std.specs.Prelude.{◌≡◌, ℕ, ◌+◌, ◌<◌, Bool, true, false, not, List, [], ◌∷◌, ◌++◌, Option}
 use Rattle.std.specs.Prelude.{Some, None, Err, Result, Ok, length, nat_le, if◌then◌else◌}
 use Rattle.std.specs.List.{list_any, AllZip}
@@ -24,15 +24,16 @@ use Rattle.dmlw_script.specs.Plans.{submission_answer, top_of, Disk, IsInTime, S
 use Rattle.layer_table.specs.declared.layer_spec.LayerSpec.{LayerSpec}
 use Rattle.layer_table.specs.TableLines.{table_refusal}
 
--- these lines and some lines after them are a script
+-- `lines` are a prefix of the lines of a recorder's script
 pub record BeginsScript (lines : List (List ℕ)) : Type 0 where
   pub more : List (List ℕ)
   pub plan : ScriptValue
   pub spells : AreLinesOf (lines ++ more) plan
 
--- how much of a script was read, as far as the next line depends on it: nothing; the data disk's
--- sectors; a head, which may have more layers; a head and some of a body, at this time; or all, so
--- that nothing may come
+-- How much of a script was read, as far as the next line depends on it. `data_due`: nothing.
+-- `log_due`: the line of the data disk. `in_head`: the lines of both disks, and any layers.
+-- `in_body`: the head and at least one line of the body, at this time. `at_end`: no line may
+-- follow.
 pub data Prefix : Type 0 where
   data_due : Prefix
   log_due : Disk → Prefix
@@ -40,22 +41,22 @@ pub data Prefix : Type 0 where
   in_body : Disk → Disk → ℕ → Prefix
   at_end : Prefix
 
--- a disk with no layers
+-- the disk of `sectors` sectors with no layers
 abbrev pub bare : ℕ → Disk
 bare sectors = record { sectors = sectors; layers = [] }
 
--- a disk with one more layer on top
+-- the disk with the layer `spec` on top
 abbrev pub with_layer : Disk → LayerSpec → Disk
 with_layer disk spec = record disk { layers = disk.layers ++ spec ∷ [] }
 
--- the time after a line of the body, if it was `moment` before
+-- the time after a line of the body, if the time before it is `moment`
 abbrev pub moment_at_line : ℕ → BodyLine → ℕ
 moment_at_line moment (body_lines.Submit name submission) = moment
 moment_at_line moment (body_lines.Complete name) = moment
 moment_at_line moment (body_lines.Step step) = time_at_step moment step
 
--- how much was read after a line with this meaning; nothing may come after a crash, nor after a
--- line that may not be there
+-- How much was read after one more line with this meaning. The result is `at_end` after a crash,
+-- after a line that asks for no layer, and after a kind of line that can't follow.
 abbrev pub next : Prefix → LineMeaning → Prefix
 next data_due (parsed_lines.Head (head_lines.Data sectors)) = log_due (bare sectors)
 next (log_due data_disk) (parsed_lines.Head (head_lines.Log sectors size)) =
@@ -70,21 +71,21 @@ next (in_body data_disk log_disk moment) (parsed_lines.Body line) =
     in_body data_disk log_disk (moment_at_line moment line)
 next _ _ = at_end
 
--- how much was read after lines with these meanings
+-- how much was read, starting from `prefix`, after lines with these meanings
 abbrev pub prefix_after : Prefix → List LineMeaning → Prefix
 prefix_after prefix [] = prefix
 prefix_after prefix (s ∷ ss) = prefix_after (next prefix s) ss
 
--- a line of the body comes in time: its time is no less than the time before
+-- if the line of the body sets the time, the new time is at least `moment`
 abbrev pub ComesInTime : ℕ → BodyLine → Type 0
 ComesInTime moment (body_lines.Submit name submission) = Unit {0}
 ComesInTime moment (body_lines.Complete name) = Unit {0}
 ComesInTime moment (body_lines.Step step) = IsInTime moment step
 
--- a line with this meaning may come after this much was read, as far as its words decide. First
--- comes the size of the data disk, then that of the log disk, which has room for one of the log's
--- sectors. Then come up to four layers of the data disk, and then up to four of the log disk. Then
--- comes the body, in which no time decreases, and nothing after a crash
+-- A line with this meaning may follow, as far as its own words decide. First come the data disk and
+-- the log disk, each of an allowed size; the log disk has room for one log sector. Then come up to
+-- four layers of the data disk, then up to four of the log disk. Then comes the body, in which the
+-- time never decreases. A crash may follow the head or the body, and nothing may follow a crash.
 abbrev pub MayFollowInScript : Prefix → LineMeaning → Type 0
 MayFollowInScript data_due (parsed_lines.Head (head_lines.Data sectors)) = is_disk_size sectors ≡
     true
@@ -103,7 +104,8 @@ MayFollowInScript (in_body data_disk log_disk moment)
 MayFollowInScript (in_body data_disk log_disk moment) (parsed_lines.Crash picks) = Unit {0}
 MayFollowInScript _ _ = ⊥
 
--- the line is of the grammar after these lines, and s is its meaning
+-- The line `line` has the meaning `s`, and may follow the lines `before`. Each unskipped line of
+-- `before` has a meaning.
 pub record IsLineAfter (before : List (List ℕ)) (line : List ℕ) (s : LineMeaning) : Type 0 where
   pub plain : is_ascii_line line ≡ true
   pub says : ParsesAs line s
@@ -111,18 +113,19 @@ pub record IsLineAfter (before : List (List ℕ)) (line : List ℕ) (s : LineMea
   pub before_says : AllZip ParsesAs (unskipped before) said
   pub stands : MayFollowInScript (prefix_after data_due said) s
 
--- the request was submitted and hasn't ended
+-- the request was submitted (`Some`, with its number), and hasn't ended
 abbrev pub is_open : Option ℕ → ScriptValue → Bool
 is_open None plan = false
 is_open (Some request) plan = not (is_ended request plan.commands)
 
--- why a test of sectors refuses, if it does
+-- the refusal of a test of sectors, if the test fails
 abbrev pub test_refusal : Result (Unit {0}) BadBio → Option Refusal
 test_refusal (Ok fine) = None
 test_refusal (Err bad) = Some (bad_bio_refusal bad)
 
--- why a line of the body is refused after a script, if it is: the id of a submission isn't new, or
--- that of an end isn't one of an open request; or else its sectors don't pass the test
+-- The refusal of a line of the body after the lines of `plan`, if there is one. `BadId`: the id of
+-- a submission isn't new, or the request of an end isn't open. If the id is good, the sectors must
+-- pass their test.
 abbrev pub body_refusal : ScriptValue → BodyLine → Option Refusal
 body_refusal plan (body_lines.Submit name submission) =
     if list_any (same_name name) plan.names then Some BadId
@@ -133,8 +136,9 @@ body_refusal plan (body_lines.Complete name) =
 body_refusal plan (body_lines.Step step) =
     test_refusal (step_answer (bytes_of plan.log_size) (top_of plan.data_disk) step)
 
--- why a line of the head is refused after a script, if it is: its table line asks for no layer, or
--- for one that isn't within the device below it, or for one with too few sectors
+-- The refusal of a line of the head after the lines of `plan`, if there is one. Only a layer's line
+-- is refused: if its table line asks for no layer, if the layer isn't within the device below it,
+-- or if it has too few sectors.
 abbrev pub head_refusal : ScriptValue → HeadLine → Option Refusal
 head_refusal plan (head_lines.Data sectors) = None
 head_refusal plan (head_lines.Log sectors size) = None
@@ -144,30 +148,31 @@ head_refusal plan (head_lines.Layer over (Ok spec)) =
     (if nat_le (least_sectors over plan.log_size) spec.length then None else Some BadLine)
     else Some OutOfRange
 
--- why a line is refused after a script, if it is
+-- the refusal of a line after the lines of `plan`, if there is one
 abbrev pub line_refusal : ScriptValue → LineMeaning → Option Refusal
 line_refusal plan (parsed_lines.Head line) = head_refusal plan line
 line_refusal plan (parsed_lines.Body line) = body_refusal plan line
 line_refusal plan (parsed_lines.Crash picks) = None
 
--- why a line can't come after these: it isn't of the grammar there; or these are a script, after
--- which it is refused
+-- The refusal of `line` after the lines `before`. Either `line` isn't of the grammar there, and the
+-- refusal is `BadLine`. Or `before` are the lines of a script, after which `line` is refused.
 pub data IsLineFault (before : List (List ℕ)) (line : List ℕ) : Refusal → Type 0 where
   bad_line : ((s : LineMeaning) → IsLineAfter before line s → ⊥) → IsLineFault before line BadLine
   refused : (s : LineMeaning) (plan : ScriptValue) (refusal : Refusal) → IsLineAfter before line s
       → AreLinesOf before plan → line_refusal plan s ≡ Some refusal →
       IsLineFault before line refusal
 
--- why lines that begin a script have no good next line: the text ends inside the head, or no script
--- begins with the next line too
+-- The refusal at the first of the lines after `before`. If there is none, `before` are no script,
+-- and the refusal is `BadLine`. Otherwise `before` with the next line are no prefix of a script,
+-- and `IsLineFault` gives the refusal.
 abbrev pub FaultAfter : List (List ℕ) → List (List ℕ) → Refusal → Type 0
 FaultAfter before [] refusal =
     (refusal ≡ BadLine) × ((plan : ScriptValue) → AreLinesOf before plan → ⊥)
 FaultAfter before (line ∷ more) refusal =
     (BeginsScript (before ++ line ∷ []) → ⊥) × IsLineFault before line refusal
 
--- the first line, counted from 1, at which no continuation
--- is a script, and why; it may be the one after the last
+-- `line` is the number, from 1, of the first line at fault, and `refusal` is why. The lines before
+-- it are a prefix of a script. It is one more than the number of lines if the text ends too early.
 pub record IsFirstFault (lines : List (List ℕ)) (line : ℕ) (refusal : Refusal) : Type 0 where
   pub before : List (List ℕ)
   pub more : List (List ℕ)
@@ -176,16 +181,17 @@ pub record IsFirstFault (lines : List (List ℕ)) (line : ℕ) (refusal : Refusa
   pub begins : BeginsScript before
   pub fault : FaultAfter before more refusal
 
--- memory ran out
+-- the fault that reports that memory ran out
 abbrev pub is_memory : Fault
 is_memory = record { line = None; refusal = Memory }
 
--- a fault has the first line at fault, or memory ran out
+-- A fault that names a line names the first line at fault. A fault that names no line reports that
+-- memory ran out.
 abbrev pub IsFaultOf : List ℕ → Fault → Option ℕ → Type 0
 IsFaultOf text fault (Some line) = IsFirstFault (lines_of text) line fault.refusal
 IsFaultOf text fault None = fault ≡ is_memory
 
--- the script was read, or memory ran out
+-- The result is the script `plan`, or memory ran out.
 abbrev pub IsReadAs : ScriptValue → Result ScriptValue Fault → Type 0
 IsReadAs plan (Ok script) = script ≡ plan
 IsReadAs plan (Err fault) = fault ≡ is_memory

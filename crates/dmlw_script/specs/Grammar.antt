@@ -7,24 +7,24 @@ use Rattle.dmlw_script.specs.Lines.{is_ascii_line, unskipped, lines_of}
 use Rattle.dmlw_script.specs.Plans.{head_count, lines_after_head, lines_of_script, IsPlan}
 use Rattle.dmlw_script.specs.Plans.{ScriptValue}
 
--- the line has this meaning, by its words
+-- the line has the words of a line with this meaning
 abbrev pub ParsesAs : List ℕ → LineMeaning → Type 0
 ParsesAs line meaning = IsLineWith line (fields_of meaning)
 
--- the lines are those of a recorder's script: they are plain, and those that aren't skipped have
--- the meanings of the script's lines, in their order
+-- `lines` are the lines of the recorder's script `plan`. Each line is ASCII without zero bytes. The
+-- unskipped lines have the meanings of the script's lines, in their order.
 pub record AreLinesOf (lines : List (List ℕ)) (plan : ScriptValue) : Type 0 where
   pub plain : AllByRecursion (λ line. is_ascii_line line ≡ true) lines
   pub says : AllZip ParsesAs (unskipped lines) (lines_of_script plan)
   pub script : IsPlan plan
 
--- the text is one of this script
+-- the text is a text of the script `plan`
 abbrev pub IsTextOf : List ℕ → ScriptValue → Type 0
 IsTextOf text plan = AreLinesOf (lines_of text) plan
 
--- the line with this number, counted from 1, has the meaning of the script's command at this place,
--- or of its crash after the last command. Among the lines that aren't skipped it is after those of
--- the head and those of the commands before it
+-- Line `number`, counted from 1, has the meaning of the script's command `place`, counted from 0.
+-- If `place` is the number of commands, the meaning is the crash. The unskipped lines before it are
+-- as many as the lines of the head and `place` together.
 pub record IsLineOf (lines : List (List ℕ)) (plan : ScriptValue) (place number : ℕ) : Type 0 where
   pub before : List (List ℕ)
   pub line : List ℕ

@@ -5,14 +5,14 @@ use Rattle.dmlw_script.specs.declared.line.BodyLine.{BodyLine}
 use Rattle.dmlw_script.specs.declared.line.Line.{Line}
 use Rattle.dmlw_script.specs.declared.line.Line.TheVariants as plain_lines
 
--- the meaning of a line: one of the head, one of the body, or the crash of the log disk, with its
--- picks
+-- the meaning of a line of a recorder's script: a line of the head, a line of the body, or a crash
+-- of the log disk with its picks
 pub data LineMeaning : Type 0 where
   Head : HeadLine → LineMeaning
   Body : BodyLine → LineMeaning
   Crash : List ℕ → LineMeaning
 
--- the meaning of a line that is no crash
+-- the meaning of a parsed line (`Line`), which is no crash
 abbrev pub as_meaning : Line → LineMeaning
 as_meaning (plain_lines.Head line) = Head line
 as_meaning (plain_lines.Body line) = Body line

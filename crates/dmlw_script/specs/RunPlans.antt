@@ -1,4 +1,4 @@
--- The value of a run's script, apart from any text, and the meaning of its lines.
+-- The value of a run's script, which doesn't depend on any text, and the meanings of its lines.
 use Rattle.std.specs.Prelude.{◌≡◌, ℕ, ◌<◌, ◌≤◌, ◌/◌, List, ◌∷◌, ◌++◌, Result, Ok, map, true}
 use Rattle.std.specs.List.{AllByRecursion}
 use Rattle.bio.specs.declared.request.BadBio.{BadBio}
@@ -15,8 +15,8 @@ use Rattle.dmlw_script.specs.Lines.{is_line_text}
 use Rattle.dmlw_script.specs.Plans.{submission_answer, top_of, Disk, IsDisk, WritesByte}
 use Rattle.layer_table.specs.declared.layer_spec.LayerSpec.{LayerSpec}
 
--- the value of a run's script: its disks, the size of its log's sectors, the number of seats, and
--- their calls in the order of the lines
+-- The value of a run's script: its disks, the size of the log's sectors, the number of seats, and
+-- the calls of the seats in the order of the lines.
 pub record RunPlan : Type 0 where
   pub data_disk : Disk
   pub log_disk : Disk
@@ -24,26 +24,28 @@ pub record RunPlan : Type 0 where
   pub seats : ℕ
   pub calls : List SeatCall
 
--- the result of a test of the sectors that a call covers, for a log with sectors of `bytes` bytes
--- and a data disk of `sectors` sectors
+-- The result of the test of the sectors that a call covers. The log's sectors have `bytes` bytes,
+-- and the data disk's top has `sectors` sectors. A mark always passes.
 abbrev pub call_answer : (bytes sectors : ℕ) → Call → Result (Unit {0}) BadBio
 call_answer bytes sectors (Submit submission) = submission_answer bytes sectors submission
 call_answer bytes sectors (Mark text) = Ok tt
 
--- the values of a call fit in a line: a write writes a byte, and the text of a mark is that of a
+-- the values of a call fit in a line: a write writes a byte, and the text of a mark may be in a
 -- line
 abbrev pub FitsLine : Call → Type 0
 FitsLine (Submit submission) = WritesByte submission
 FitsLine (Mark text) = is_line_text text ≡ true
 
--- a line of the body: its seat is one of them, and its call passes the test of its sectors
+-- The line may be in a body with `seats` seats, with `bytes` and `sectors` as in `call_answer`. Its
+-- seat is below `seats`, its call's sectors pass their test, and the call's values fit in a line.
 pub record IsAllowed (bytes sectors seats : ℕ) (line : SeatCall) : Type 0 where
   pub seat : line.seat < seats
   pub tested : call_answer bytes sectors line.call ≡ Ok tt
   pub spelled : FitsLine line.call
 
--- a script of the grammar: its disks are disks of the grammar, and the top of the log disk has room
--- for a sector of the log. There are 1 to 64 seats, and each line of its body is one of theirs
+-- The value is a run's script. Its disks may be in a script, and the top of the log disk has room
+-- for one of the log's sectors. There are 1 to 64 seats, and each line of the body is allowed
+-- (`IsAllowed`).
 pub record IsRunPlan (plan : RunPlan) : Type 0 where
   pub data_disk : IsDisk plan.data_disk
   pub log_disk : IsDisk plan.log_disk
@@ -53,22 +55,23 @@ pub record IsRunPlan (plan : RunPlan) : Type 0 where
   pub calls : AllByRecursion
       (IsAllowed (bytes_of plan.log_size) (top_of plan.data_disk) plan.seats) plan.calls
 
--- the line of a layer over the data disk, and over the log disk
+-- the meaning of the line of a layer over the data disk
 abbrev pub data_layer : LayerSpec → RunLine
 data_layer spec = Head (head_lines.Layer disks.Data (Ok spec))
 
+-- the meaning of the line of a layer over the log disk
 abbrev pub log_layer : LayerSpec → RunLine
 log_layer spec = Head (head_lines.Layer disks.Log (Ok spec))
 
--- the meaning of the lines of a run's head: first the sectors of the data disk, then those of the
--- log disk and the size of the log's sectors, then the number of seats. Then come the layers of the
--- data disk, and then those of the log disk
+-- The meanings of the lines of a run's head, in their order. They are the line of the data disk,
+-- the line of the log disk, the number of seats, the layers of the data disk, and the layers of the
+-- log disk.
 abbrev pub run_head : RunPlan → List RunLine
 run_head plan =
     Head (head_lines.Data plan.data_disk.sectors) ∷ Head
     (head_lines.Log plan.log_disk.sectors plan.log_size) ∷ Seats plan.seats
     ∷ (map data_layer plan.data_disk.layers ++ map log_layer plan.log_disk.layers)
 
--- the meaning of the lines of a run's script, in their order
+-- the meanings of all lines of a run's script, in their order
 abbrev pub lines_of_run : RunPlan → List RunLine
 lines_of_run plan = run_head plan ++ map Body plan.calls

@@ -10,18 +10,18 @@ use Rattle.dmlw_script.specs.RunPlans.{lines_of_run, RunPlan}
 abbrev pub run_line_text : RunLine → List ℕ
 run_line_text said = text_of (run_fields said)
 
--- the line of the number of seats
+-- the meaning of the line of the number of seats
 abbrev pub seats_line : ℕ → RunLine
 seats_line count = run_lines.Seats count
 
--- the line of a seat's call
+-- the meaning of the line of a seat's call
 abbrev pub call_line : SeatCall → RunLine
 call_line said = run_lines.Body said
 
--- the line with this meaning, ended by a line feed
+-- the canonical line with this meaning, and a line feed
 abbrev pub ended_run_line : RunLine → List ℕ
 ended_run_line said = run_line_text said ++ 10 ∷ []
 
--- the canonical text of a run's script
+-- the canonical text of a run's script: the canonical line of each of its lines, with a line feed
 abbrev pub run_text : RunPlan → List ℕ
 run_text plan = flat_map ended_run_line (lines_of_run plan)

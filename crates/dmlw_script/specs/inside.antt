@@ -1,4 +1,5 @@
--- The definitions of `dmlw_script` that only its proofs use: no other crate cites them.
+-- The definitions that only `dmlw_script` uses: the proofs of this crate, and the contracts of its
+-- private functions.
 pub mod LineParser
 pub mod Stages
 pub mod Heads

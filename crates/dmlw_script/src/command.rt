@@ -1,4 +1,4 @@
-//! The commands of a script's lines.
+//! The commands of a recorder's script, one for each line of its body.
 use crate::disk_name::DiskName;
 use bio::{Bytes, Ms};
 
@@ -13,12 +13,12 @@ pub struct WriteOptions {
     pub meta: bool,
 }
 
-/// The request that a line of a script submits. Sectors are of 512 bytes.
+/// A request that a line of a script submits. Sectors have 512 bytes.
 #[derive(Clone, Copy, Debug)]
 pub enum Submission {
-    /// A write of `count` sectors of `byte` from sector `first` on. In a script it covers 1 to
-    /// 2,048 sectors, all of them within the top of the data disk. Both numbers are multiples of
-    /// the sectors of 512 bytes in one of the log's.
+    /// Writes `byte` to each byte of `count` sectors from sector `first` on. In a script it covers
+    /// 1 to 2,048 sectors, all within the top of the data disk. If the log's sectors have 4,096
+    /// bytes, `first` and `count` are multiples of 8.
     Write {
         first: u64,
         count: u64,
@@ -27,7 +27,8 @@ pub enum Submission {
     },
     /// An empty flush.
     Flush,
-    /// A discard of `count` sectors from sector `first` on, in the same range as a write.
+    /// A discard of `count` sectors from sector `first` on. In a script its sectors are limited as
+    /// those of a write are.
     Discard {
         first: u64,
         count: u64,
@@ -39,27 +40,26 @@ pub enum Submission {
 pub enum Step {
     /// Ends the recording.
     Close,
-    /// A read of `count` sectors from sector `first` on. In a script it covers 1 to 2,048 sectors,
-    /// all of them within the top of the data disk. Both numbers are multiples of the sectors of
-    /// 512 bytes in one of the log's.
+    /// A read of `count` sectors from sector `first` on. In a script its sectors are limited as
+    /// those of a write are.
     Read {
         first: u64,
         count: u64,
     },
     /// One turn of the writer.
     Turn,
-    /// A mark of this text, which may be empty. In a script its bytes are those of a line: ASCII,
-    /// no zero byte and no line feed. They are shared: a clone of them takes no memory.
+    /// A mark with this text, which may be empty. In a script each byte is ASCII, and neither zero
+    /// nor a line feed. The bytes are shared: cloning them takes no memory.
     Mark {
         text: Bytes,
     },
-    /// Sets the time. In a script it is no less than the one before it, which at first is 0.
+    /// Sets the time. In a script the time is 0 at first, and never decreases.
     At {
         moment: Ms,
     },
-    /// A message to a layer of this disk, counted from 1, the lowest: one of the dust target's
-    /// messages. In a script the text's bytes are those of a line: ASCII, no zero byte and no line
-    /// feed. They are shared: a clone of them takes no memory.
+    /// A message to a layer over the disk `over`. Layers are counted from 1, the lowest. A script
+    /// need not have that layer, and its text may be any. In a script each byte of the text is
+    /// ASCII, and neither zero nor a line feed. The bytes are shared: cloning them takes no memory.
     Message {
         over: DiskName,
         layer: u64,
@@ -67,12 +67,13 @@ pub enum Step {
     },
 }
 
-/// One line of a script's body.
+/// One line of the body of a recorder's script.
 #[derive(Debug, Drop)]
 pub enum Command {
     /// Submits the next request.
     Submit(Submission),
-    /// Ends the request with this number. It was submitted before, and hasn't ended.
+    /// Ends the request with this number: the count of submissions before its own. In a script it
+    /// was submitted before, and hasn't ended.
     Complete { request: usize },
     /// A line that names no request.
     Step(Step),

@@ -1,4 +1,4 @@
-//! A disk of a script: its sectors, and the layers over it.
+//! A disk of a script, and the layers over it.
 ghost use Rattle.std.specs.Prelude.{◌≡◌, OnOk};
 ghost use Rattle.dmlw_script.specs.Plans.{top_of};
 ghost use Rattle.dmlw_script.specs.FirstFault.{bare, with_layer};
@@ -7,8 +7,8 @@ use layer_table::LayerSpec;
 use std::alloc::{AllocError, Global};
 use std::marker::Model;
 
-/// A disk of a script: its sectors of 512 bytes, and the layers over it, from the lowest up.
-/// Contracts see it as a `Disk` (`specs/Plans`).
+/// A disk of a script: its number of sectors of 512 bytes, and the layers over it, the lowest
+/// first. Contracts see it as a `Disk` (`specs/Plans`).
 #[derive(Debug, Drop)]
 pub struct DiskSpec {
     sectors: u64,
@@ -34,15 +34,16 @@ impl DiskSpec {
         }
     }
 
-    /// Returns the disk's own sectors. In a script 1 to 1,048,576.
+    /// Returns the number of sectors of the disk without its layers. In a script it is 1 to
+    /// 1,048,576.
     pub fn sectors(&self) -> u64
         ensures { result ≡ self.now.sectors }
     {
         self.sectors
     }
 
-    /// Returns the layers over the disk, from the lowest up. In a script at most four, each within
-    /// the device below it.
+    /// Returns the layers over the disk, the lowest first. In a script there are at most four, and
+    /// each is within the device below it.
     pub fn layers(&self) -> &[LayerSpec]
         ensures { result.now ≡ self.now.layers }
     {
@@ -50,7 +51,7 @@ impl DiskSpec {
     }
 
     /// Returns the number of sectors at the top: the length of the uppermost layer, or the disk's
-    /// own sectors.
+    /// number of sectors if it has no layers.
     pub fn top_sectors(&self) -> u64
         ensures { result ≡ top_of self.now }
     {

@@ -1,4 +1,5 @@
-//! The body of a script, line by line: which requests were submitted and which of them are open.
+//! Reads the body of a recorder's script, line by line. It checks that ids are new and that
+//! requests are open when they end.
 ghost use Rattle.std.specs.Prelude.{◌≡◌, ◌<◌, ℕ, [], Ok, OnOk, false, length, option_map};
 ghost use Rattle.bio.specs.Sizes.{bytes_of};
 ghost use Rattle.dmlw_script.specs.Plans.{time_at, range_test, submission_answer};
@@ -20,10 +21,10 @@ use std::alloc::Global;
 pub(crate) struct BodyReader {
     /// The ids that were submitted, in order.
     pub(crate) names: IndexSet<ScriptId>,
-    // For each of them, whether its request has ended.
+    // For each id of `names`, whether its request has ended.
     has_ended: Vec<bool>,
     pub(crate) commands: Vec<Command>,
-    // The time after them.
+    // The time after `commands`.
     moment: Ms,
 }
 
@@ -45,8 +46,8 @@ impl BodyReader {
         }
     }
 
-    /// Reads the next line, for a data disk of `sectors` sectors and a log with sectors of
-    /// `log_size`.
+    /// Reads the next line. `sectors` is the number of sectors at the data disk's top, and
+    /// `log_size` the size of the log's sectors.
     pub(crate) fn read(
         &mut self,
         parsed: BodyLine,
@@ -111,8 +112,8 @@ impl BodyReader {
         self.say(Command::Step(step))
     }
 
-    /// Returns the script over these disks, with this size of the log's sectors, and the picks of
-    /// the crash that ends it, if one does.
+    /// Returns the script with these disks, this size of the log's sectors, and the body that was
+    /// read. `ending` has the picks of the crash that ends the script, if one does.
     pub(crate) fn into_script(
         self,
         data_disk: DiskSpec,
@@ -146,7 +147,7 @@ impl BodyReader {
         Script::new(data_disk, log_disk, log_size, names, commands, ending)
     }
 
-    // Adds the next request's id.
+    // Adds the id of the next request, or refuses an id that isn't new.
     fn name_next(&mut self, name: ScriptId) -> Result<(), LineError>
         requires { IsDraft self.old }
         ensures draft { OnOk result (IsDraft self.new) }
@@ -173,7 +174,7 @@ impl BodyReader {
         Ok(())
     }
 
-    // Adds a line of the body that ends this request.
+    // Adds the end of the request with the number `request`.
     fn end(&mut self, request: usize) -> Result<(), LineError>
         requires draft { IsDraft self.old }
         requires within { request < length self.old.names.keys }
@@ -187,8 +188,8 @@ impl BodyReader {
     }
 }
 
-/// Checks the sectors that a submission covers, on a disk of `sectors` sectors, with a log with
-/// sectors of `log_size`.
+/// Checks the sectors that a submission covers, for a disk of `sectors` sectors and log sectors of
+/// the size `log_size`.
 pub(crate) fn check_submission(
     submission: Submission,
     sectors: u64,
@@ -205,16 +206,16 @@ pub(crate) fn check_submission(
     }
 }
 
-// Checks `count` sectors from sector `first` on, on a disk of `sectors` sectors, with a log with
-// sectors of `log_size`.
+// Checks `count` sectors from sector `first` on, for a disk of `sectors` sectors and log sectors of
+// the size `log_size`.
 fn check_range(first: u64, count: u64, sectors: u64, log_size: SectorSize) -> Result<(), BadBio>
     ensures { result ≡ range_test (bytes_of log_size) sectors first count }
 {
     check_sized(&Bio::Read { first, count }, sectors, log_size)
 }
 
-// Checks a line that names no request, at the time `moment`: an `at` isn't less, and sectors pass
-// the same test.
+// Checks a line that names no request. A read's sectors must pass `check_range`, and an `at` must
+// not set a time before `moment`.
 fn check_step(step: &Step, sectors: u64, log_size: SectorSize, moment: Ms) -> Result<(), LineError>
     ensures { Follows result tt (step_test (bytes_of log_size) sectors moment step.now) }
 {
@@ -229,7 +230,7 @@ fn check_step(step: &Step, sectors: u64, log_size: SectorSize, moment: Ms) -> Re
     }
 }
 
-// Returns the time after a command, if it was `moment` before.
+// Returns the time after a command, if the time before it is `moment`.
 fn time_after(moment: Ms, command: &Command) -> Ms
     ensures { result ≡ time_at moment command.now }
 {

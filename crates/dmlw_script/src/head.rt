@@ -1,4 +1,5 @@
-//! The head of a script: its disks, the size of its log's sectors, and its layers, in their order.
+//! Reads the head of a script, line by line: the disks, the size of the log's sectors, and the
+//! layers.
 ghost use Rattle.std.specs.Prelude.{◌≡◌, List, false, ℕ};
 ghost use Rattle.bio.specs.Sizes.{bytes_of};
 ghost use Rattle.dmlw_script.specs.Plans.{is_disk_size as is_a_disk_size};
@@ -20,16 +21,16 @@ use std::alloc::Global;
 // The maximum number of layers over one disk.
 const MAX_LAYERS: usize = 4;
 
-/// How much of a script was read.
+/// How much of the head of a script was read, and whether a crash has ended the script.
 #[derive(Clone, Copy)]
 pub(crate) enum Part {
-    /// Nothing: the line of the data disk comes next.
+    /// Nothing was read. The line of the data disk comes next.
     Nothing,
-    /// The line of the data disk: that of the log disk comes next.
+    /// The line of the data disk was read. The line of the log disk comes next.
     Data,
-    /// The lines of both disks: layers come next, or the body.
+    /// The lines of both disks were read, and no crash.
     Whole,
-    /// All: a crash has ended the script.
+    /// The whole script was read: a crash has ended it.
     Ended,
 }
 
@@ -37,11 +38,11 @@ pub(crate) enum Part {
 #[derive(Drop)]
 pub(crate) struct Head {
     pub(crate) part: Part,
-    /// The data disk, with no sectors if its line wasn't read.
+    /// The data disk; it has 0 sectors until its line is read.
     pub(crate) data_disk: DiskSpec,
-    /// The log disk, with no sectors if its line wasn't read.
+    /// The log disk; it has 0 sectors until its line is read.
     pub(crate) log_disk: DiskSpec,
-    /// The size of the log's sectors, 512 bytes if the log disk's line wasn't read.
+    /// The size of the log's sectors; it is 512 bytes until the log disk's line is read.
     pub(crate) log_size: SectorSize,
 }
 
@@ -57,7 +58,7 @@ impl Head {
         }
     }
 
-    /// Reads the next line of the head; `began` is whether the body has begun.
+    /// Reads the next line of the head. If `began`, no layer may follow.
     pub(crate) fn read(
         &mut self,
         alloc: Global,
@@ -85,7 +86,7 @@ impl Head {
         }
     }
 
-    // Reads a layer's line in a head that has both disks.
+    // Reads the line of a layer in a head that has both disks and no body yet.
     fn layer(
         &mut self,
         over: DiskName,
@@ -106,7 +107,8 @@ impl Head {
     }
 }
 
-// Puts the layer that a line asks for over a disk; its layers have at least `least` sectors.
+// Puts the layer that a line asks for on top of a disk. Refuses a fifth layer, one that is not
+// within the device below it, and one with fewer than `least` sectors.
 fn push_layer(
     disk: &mut DiskSpec,
     asked: Result<LayerSpec, TableError>,
@@ -128,21 +130,22 @@ fn push_layer(
     Ok(())
 }
 
-// Returns whether a layer is within the device below it, which has `sectors` sectors.
+// Returns whether the layer is within the device below it, which has `sectors` sectors.
 fn is_within(layer: LayerSpec, sectors: u64) -> bool
     ensures { result ≡ is_within_them layer sectors }
 {
     layer.offset <= sectors && layer.length <= sectors - layer.offset
 }
 
-// Returns whether a disk may have this number of sectors.
+// Returns whether a disk may have `sectors` sectors.
 fn is_disk_size(sectors: u64) -> bool
     ensures { result ≡ is_a_disk_size sectors }
 {
     0 < sectors && sectors <= MAX_DEVICE_SECTORS
 }
 
-// Returns whether a log disk may have this number of sectors: one of the log's sectors fits on it.
+// Returns whether a log disk may have `sectors` sectors: a disk may, and one log sector of the size
+// `size` fits on it.
 fn is_log_disk_size(sectors: u64, size: SectorSize) -> bool
     ensures { result ≡ is_a_log_disk_size (bytes_of size) sectors }
 {

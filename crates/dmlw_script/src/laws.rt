@@ -1,5 +1,4 @@
-//! Laws of the grammar, apart from the code: each function does nothing, and its clauses are the
-//! law.
+//! Laws of the grammar, which name no code. Each function does nothing; its clauses are the law.
 ghost use Rattle.std.specs.Prelude.{◌≡◌, ◌≢◌, ◌<◌, ◌≤◌, ◌+◌, ◌++◌, ◌∷◌, ◌⊎◌, [], None, Some};
 ghost use Rattle.std.specs.Prelude.{true, ℕ, List};
 ghost use Rattle.std.specs.List.{AllByRecursion};
@@ -20,7 +19,8 @@ ghost use Rattle.dmlw_script.specs.RunPlans.{IsRunPlan, RunPlan};
 ghost use Rattle.dmlw_script.specs.RunFirstFault.{IsFirstRunFault};
 ghost use Rattle.dmlw_script.specs.RunText.{run_text};
 
-/// Lines make a text with a line feed after each; the last may have none unless it is empty.
+/// If no line has a line feed, the text with a line feed after each line has exactly these lines.
+/// So has the text without the last line feed, if the last line isn't empty.
 pub fn lines_make_a_text()
     ensures with_line_feeds { (lines : List (List ℕ)) → AllByRecursion IsUnbroken lines
         → lines_of (with_line_feeds lines) ≡ lines }
@@ -29,27 +29,27 @@ pub fn lines_make_a_text()
         lines_of (with_line_feeds lines ++ last) ≡ lines ++ last ∷ [] }
 {}
 
-/// A text is that of at most one script.
+/// A text is the text of at most one recorder's script.
 pub fn one_script()
     ensures { (text : List ℕ) (plan other : ScriptValue) → IsTextOf text plan → IsTextOf text other
         → plan ≡ other }
 {}
 
-/// Each script has a text: its canonical text.
+/// The canonical text of a recorder's script is a text of the script.
 #[tactic(auto, using(crate::proofs::CanonicalTextLaws::spelling_spells))]
 pub fn each_script_has_a_text()
     ensures { (plan : ScriptValue) → IsPlan plan → IsTextOf (canonical_text plan) plan }
 {}
 
-/// Scripts with the same canonical text are equal.
+/// If two recorder's scripts have the same canonical text, they are equal.
 #[tactic(auto, using(crate::proofs::ScriptLaws::same_from_spelling))]
 pub fn scripts_have_own_texts()
     ensures { (plan other : ScriptValue) → IsPlan plan → IsPlan other
         → canonical_text plan ≡ canonical_text other → plan ≡ other }
 {}
 
-/// An empty line or a comment may be added or removed between any two lines of a script's text: the
-/// script stays the same.
+/// If an empty line or an ASCII comment without zero bytes is added to the lines of a script, they
+/// are lines of the same script. If an empty line or a comment is removed, they are too.
 pub fn skipped_lines_say_nothing()
     ensures put_in { (before after : List (List ℕ)) (line : List ℕ) (plan : ScriptValue) →
         is_ascii_line line ≡ true → is_skipped line ≡ true →
@@ -59,10 +59,11 @@ pub fn skipped_lines_say_nothing()
         AreLinesOf (before ++ line ∷ after) plan → AreLinesOf (before ++ after) plan }
 {}
 
-/// The line that is named for a command is the one with its meaning, after the head and the lines
-/// of the commands before it. Each command has one such line, and so has the crash that ends a
-/// script, after the last command; there is none after that. Places of commands are counted from 0,
-/// those of lines with the head.
+/// `command_line` finds the line of each command of a script, and of the crash that ends it.
+/// `place` counts the commands from 0; the crash has the place after the last command. `says`: the
+/// line found has the command's meaning, after the lines of the head and of the commands before it.
+/// `found`: each command has a line, and so has the crash. `one`: it has only one. `none`: there is
+/// no line for a later place.
 pub fn lines_are_those_of_commands()
     ensures says { (text : List ℕ) (plan : ScriptValue) (place number : ℕ) → IsTextOf text plan →
         command_line text (place + head_count plan) ≡ Some number
@@ -76,7 +77,8 @@ pub fn lines_are_those_of_commands()
         count_after_head plan ≤ place → command_line text (place + head_count plan) ≡ None }
 {}
 
-/// Each command of a script may come after those before it, and no request ends twice.
+/// Each command of a script may follow the commands before it (`CanFollow`), and no request ends
+/// twice.
 #[tactic(auto, using(crate::proofs::ScriptLaws::can_follow, crate::proofs::ScriptLaws::ends_once))]
 pub fn requests_end_once()
     ensures can_follow { (plan : ScriptValue) (before : List Command) (command : Command)
@@ -88,8 +90,8 @@ pub fn requests_end_once()
         plan.commands ≡ before ++ Complete request ∷ (between ++ Complete request ∷ rest) → ⊥ }
 {}
 
-/// A text is a script's or has a first fault, which is one line and one reason. The text of a
-/// script has none.
+/// Lines are those of a recorder's script, or have a first fault. The first fault is one line with
+/// one refusal. The lines of a script have no first fault.
 pub fn texts_have_one_first_fault()
     ensures each { (lines : List (List ℕ)) → ((plan : ScriptValue) × AreLinesOf lines plan)
         ⊎ ((line : ℕ) × (refusal : Refusal) × IsFirstFault lines line refusal) }
@@ -99,28 +101,28 @@ pub fn texts_have_one_first_fault()
         AreLinesOf lines plan → IsFirstFault lines m r → ⊥ }
 {}
 
-/// Each run's script has a text: its canonical text.
+/// The canonical text of a run's script is a text of the script.
 #[tactic(auto, using(crate::proofs::RunTextLaws::run_text_is))]
 pub fn each_run_script_has_a_text()
     ensures { (plan : RunPlan) → IsRunPlan plan → IsRunText (run_text plan) plan }
 {}
 
-/// A text is that of at most one run's script.
+/// A text is the text of at most one run's script.
 #[tactic(auto, using(crate::proofs::RunTextLaws::one_run_script_of))]
 pub fn one_run_script()
     ensures { (text : List ℕ) (plan other : RunPlan) → IsRunText text plan → IsRunText text other
         → plan ≡ other }
 {}
 
-/// Runs' scripts with the same canonical text are equal.
+/// If two run's scripts have the same canonical text, they are equal.
 #[tactic(auto, using(crate::proofs::RunTextLaws::same_from_run_text))]
 pub fn run_scripts_have_own_texts()
     ensures { (plan other : RunPlan) → IsRunPlan plan → IsRunPlan other
         → run_text plan ≡ run_text other → plan ≡ other }
 {}
 
-/// A text is a run's script's or has a first fault, which is one line and one reason. The text of a
-/// run's script has none.
+/// Lines are those of a run's script, or have a first fault. The first fault is one line with one
+/// refusal. The lines of a run's script have no first fault.
 pub fn run_texts_have_one_first_fault()
     ensures each { (lines : List (List ℕ)) → ((plan : RunPlan) × AreRunLines lines plan)
         ⊎ ((line : ℕ) × (refusal : Refusal) × IsFirstRunFault lines line refusal) }

@@ -1,19 +1,20 @@
-//! The scripts of `dmlw record`: texts with the sizes of the disks and of the log's sectors, the
-//! layers over them, the requests, and the ends of these. And the scripts of `dmlw run`, with
-//! requests that seats make.
+//! Reads and prints the scripts of `dmlw record` and of `dmlw run`. A recorder's script is a text
+//! of lines. Its head has the sizes of the disks and of the log's sectors, and the layers over the
+//! disks. Its body submits requests, ends them, and has steps such as reads, marks and times. A
+//! crash of the log disk may end it. A run's script has a number of seats, and its body has
+//! requests and marks of the seats.
 //!
-//! `read_script` and `read_run_script` read a text, or return the first line that is wrong. In a
-//! recorder's script a request's number is the place of its submission among the script's
-//! submissions, counted from 0. So a caller that goes over the commands needs no map of ids.
-//! `print_script` and `print_run_script` write the canonical text of a script, line by line: the
-//! head, the body, and the crash that ends it. Reading that text gives the same script.
+//! `read_script` and `read_run_script` read a text, or return the first line at fault. In a
+//! recorder's script the number of a request is the number of submissions before it. So a caller
+//! that goes over the commands needs no map of ids. `print_script` and `print_run_script` write the
+//! canonical text of a script. Reading that text gives the same script, unless memory runs out.
 //!
-//! `specs/Fields` says what the words of each kind of line are. `specs/Grammar` is the grammar, a
+//! `specs/Fields` defines the words of each kind of line. `specs/Grammar` is the grammar, a
 //! relation between texts and scripts. `specs/Plans` defines the value of a script,
 //! `specs/CanonicalText` its canonical text, and `specs/Texts` the text of an id.
-//! `specs/RunGrammar`, `specs/RunPlans` and `specs/RunText` are the same for a run's script. A new
-//! kind of line is a case of `Submission` or of `Step`, and of `submission_fields` or
-//! `step_fields`; a new option of a write is a field of `option_fields`.
+//! `specs/RunGrammar`, `specs/RunPlans` and `specs/RunText` do the same for a run's script. For a
+//! new kind of line, add a case to `Submission` or `Step`, and to `submission_fields` or
+//! `step_fields`. For a new option of a write, add a field to `option_fields`.
 #![tactic(auto)]
 
 pub use command::{Command, Step, Submission, WriteOptions};

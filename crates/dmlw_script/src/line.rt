@@ -1,4 +1,5 @@
-//! The meaning of a line of a script by its words, whatever is before it.
+//! Parses a line of a script. The result depends only on the words of the line, not on the lines
+//! before it.
 ghost use Rattle.std.specs.Prelude.{◌≡◌, option_copied, option_map};
 ghost use Rattle.dmlw_script.specs.LineMeaning.{as_meaning};
 ghost use Rattle.dmlw_script.specs.Lines.{is_line_byte as is_a_line_byte};
@@ -25,8 +26,8 @@ use bio::{Ms, SectorSize};
 use layer_table::{LayerSpec, TableError, parse_line};
 use refusals::{cut, number_of};
 
-// The lines that a recorder's script can have: angle brackets have the kind of a word, and square
-// ones a word that may be left out.
+// The forms of the lines of a recorder's script. A word in angle brackets stands for a value, and a
+// word in square brackets may be left out.
 const RECORDER_FORMS: [&str; 15] = [
     "data <sectors>",
     "log <sectors> [4096]",
@@ -45,7 +46,7 @@ const RECORDER_FORMS: [&str; 15] = [
     "crash <pick> ..",
 ];
 
-// The lines that a script of seats can have.
+// The forms of the lines of a run's script, as in `RECORDER_FORMS`.
 const SEAT_FORMS: [&str; 9] = [
     "data <sectors>",
     "log <sectors> [4096]",
@@ -79,8 +80,8 @@ pub(crate) enum HeadLine {
         sectors: u64,
         size: SectorSize,
     },
-    /// `data-layer <table line>`, or `log-layer <table line>`: the layer that is asked for, or why
-    /// none is
+    /// `data-layer <table line>` or `log-layer <table line>`: the layer that the table line asks
+    /// for, or why it asks for none
     Layer {
         over: DiskName,
         asked: Result<LayerSpec, TableError>,
@@ -104,19 +105,19 @@ pub(crate) enum BodyLine {
     Step(Step),
 }
 
-/// Returns the forms of the lines that a recorder's script can have, for a reader. Angle brackets
-/// have the kind of a word, and square ones a word that may be left out.
+/// Returns the forms of the lines of a recorder's script, for people to read. A word in angle
+/// brackets stands for a value, and a word in square brackets may be left out.
 pub fn recorder_forms() -> &'static [&'static str] {
     &RECORDER_FORMS
 }
 
-/// Returns the forms of the lines that a script of seats can have.
+/// Returns the forms of the lines of a run's script, in the notation of `recorder_forms`.
 pub fn seat_forms() -> &'static [&'static str] {
     &SEAT_FORMS
 }
 
-/// Parses a line that was already split into its first word and the other words, if it has any. The
-/// line is no crash, no mark and no message. Returns None if it isn't of the grammar.
+/// Parses a line that is no crash, no mark and no message. `verb` is its first word, and `words`
+/// are the other words, if it has any. Returns None if the line isn't of the grammar.
 pub(crate) fn parse_parts(verb: &[u8], words: Option<&[u8]>) -> Option<Line>
     ensures { option_map as_meaning result ≡ plain_parts verb.now (option_copied words.entry) }
 {
@@ -126,7 +127,7 @@ pub(crate) fn parse_parts(verb: &[u8], words: Option<&[u8]>) -> Option<Line>
     }
 }
 
-// Parses a line of this one word.
+// Parses a line of the single word `verb`.
 fn lone_word(verb: &[u8]) -> Option<Line>
     ensures { option_map as_meaning result ≡ lone_word verb.now }
 {
@@ -137,7 +138,7 @@ fn lone_word(verb: &[u8]) -> Option<Line>
     }
 }
 
-// Parses a line with this first word and these other words.
+// Parses a line with the first word `verb` and the other words `words`.
 fn parse_words(verb: &[u8], words: &[u8]) -> Option<Line>
     ensures { option_map as_meaning result ≡ parse_words verb.now words.now }
 {
@@ -147,8 +148,8 @@ fn parse_words(verb: &[u8], words: &[u8]) -> Option<Line>
     }
 }
 
-/// Parses a line of the head with this first word and these other words. Returns None if it isn't
-/// of the grammar.
+/// Parses a line of the head with the first word `verb` and the other words `words`. Returns None
+/// if it isn't of the grammar.
 pub(crate) fn head_words(verb: &[u8], words: &[u8]) -> Option<HeadLine>
     ensures { result ≡ the_head verb.now words.now }
 {
@@ -167,7 +168,8 @@ pub(crate) fn head_words(verb: &[u8], words: &[u8]) -> Option<HeadLine>
     }
 }
 
-// Parses the words of the log disk's line: its sectors, and the size of the log's sectors.
+// Parses the words of the log disk's line: its number of sectors, and `4096` if the log's sectors
+// have 4,096 bytes.
 fn log_of(words: &[u8]) -> Option<HeadLine>
     ensures { result ≡ the_log words.now }
 {
@@ -178,7 +180,7 @@ fn log_of(words: &[u8]) -> Option<HeadLine>
     })
 }
 
-// Returns the size of a log's sectors that a word gives, or 512 bytes if there is none.
+// Returns the size of the log's sectors: 512 bytes without a word, and 4,096 for the word `4096`.
 fn size_of(word: Option<&[u8]>) -> Option<SectorSize>
     ensures { result ≡ the_size (option_copied word.entry) }
 {
@@ -189,7 +191,7 @@ fn size_of(word: Option<&[u8]>) -> Option<SectorSize>
     }
 }
 
-// Returns the line of a layer over this disk, with this table line.
+// Returns the line of a layer over a disk, with the table line `text`.
 fn layer_of(over: DiskName, text: &[u8]) -> HeadLine
     ensures { result ≡ the_layer over text.now }
 {
@@ -199,7 +201,7 @@ fn layer_of(over: DiskName, text: &[u8]) -> HeadLine
     }
 }
 
-// Parses a line of the body with this first word and these other words.
+// Parses a line of the body with the first word `verb` and the other words `words`.
 fn body_words(verb: &[u8], words: &[u8]) -> Option<Line>
     ensures { option_map as_meaning result ≡ body_words verb.now words.now }
 {
@@ -215,8 +217,8 @@ fn body_words(verb: &[u8], words: &[u8]) -> Option<Line>
     }
 }
 
-// Parses a line that submits a request, with this first word and these other words: its id, and
-// those of the request.
+// Parses a line that submits a request: `verb` is its first word, and `words` are its id and the
+// words of the request.
 fn submit_of(verb: &[u8], words: &[u8]) -> Option<Line>
     ensures { option_map as_meaning result ≡ the_submit verb.now words.now }
 {
@@ -227,8 +229,8 @@ fn submit_of(verb: &[u8], words: &[u8]) -> Option<Line>
     }))
 }
 
-/// Parses a request with this first word and these other words, if there are any. Returns None if
-/// they aren't those of one.
+/// Parses a request with the first word `verb` and the other words, if there are any. The words
+/// have no id. Returns None if they are no request.
 pub(crate) fn submission_of(verb: &[u8], words: Option<&[u8]>) -> Option<Submission>
     ensures { result ≡ the_submission verb.now (option_copied words.entry) }
 {
@@ -279,8 +281,8 @@ fn sectors_of(words: &[u8]) -> Option<(u64, u64)>
     Some((number_of(first)?, number_of(count?)?))
 }
 
-/// Parses the words of a message: its disk, its layer and its text. Returns None if they aren't of
-/// the grammar.
+/// Parses the words of a message: the name of a disk, the number of a layer, and the text. Returns
+/// None if they aren't of the grammar.
 pub(crate) fn message_of(words: Option<&[u8]>) -> Option<(DiskName, u64, &[u8])>
     ensures { option_map (λ message. step (Step.Message message.0 message.1 message.2.now)) result
         ≡ the_message (option_copied words.entry) }
@@ -295,7 +297,7 @@ pub(crate) fn message_of(words: Option<&[u8]>) -> Option<(DiskName, u64, &[u8])>
     }
 }
 
-// Returns the disk that a word names.
+// Returns the disk that a word names, if it names one.
 fn disk_of(word: &[u8]) -> Option<DiskName>
     ensures { result ≡ disk_of_word word.now }
 {

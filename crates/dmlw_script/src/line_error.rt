@@ -1,4 +1,4 @@
-//! Why reading a script ends at a line.
+//! Why reading a script fails: an allocation failed, or a line is at fault.
 ghost use Rattle.std.specs.Prelude.{◌≡◌};
 ghost use Rattle.dmlw_script.specs.declared.line_error.LineError.TheVariants.{Memory};
 ghost use Rattle.dmlw_script.specs.declared.line_error.LineError.TheVariants as line_errors;
@@ -10,12 +10,12 @@ use layer_table::TableError;
 use refusals::Refusal;
 use std::alloc::{AllocError, AllocFailed};
 
-/// Why reading ends at a line.
+/// Why reading a line fails.
 #[derive(Clone, Copy)]
 pub(crate) enum LineError {
     /// An allocation failed.
     Memory,
-    /// The line is at fault.
+    /// The line is refused.
     Refused(Refusal),
 }
 

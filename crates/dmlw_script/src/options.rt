@@ -1,4 +1,4 @@
-//! The options of a write: flush, fua and meta, in this order.
+//! Parses the options of a write: `flush`, `fua` and `meta`, in this order.
 ghost use Rattle.std.specs.Prelude.{◌≡◌, option_copied};
 ghost use Rattle.dmlw_script.specs.inside.LineParser.{options_of as the_options};
 ghost use Rattle.dmlw_script.specs.inside.LineParser.{take_word as the_taking};
@@ -6,7 +6,8 @@ ghost use Rattle.dmlw_script.specs.inside.LineParser.{take_word as the_taking};
 use crate::command::WriteOptions;
 use refusals::cut;
 
-/// Parses a write's last words: its options in their order, flush, fua, meta.
+/// Parses the last words of a write, if there are any. Each option may be left out, and no other
+/// word may follow. Returns None otherwise.
 pub(crate) fn options_of(words: Option<&[u8]>) -> Option<WriteOptions>
     ensures { result ≡ the_options (option_copied words.entry) }
 {
@@ -19,7 +20,8 @@ pub(crate) fn options_of(words: Option<&[u8]>) -> Option<WriteOptions>
     }
 }
 
-// Returns whether this word is the first of these, and the words left after it.
+// Returns whether `word` is the first of the words, and the words that are left: those after
+// `word`, or all if it is not the first.
 fn take_word<'a>(words: Option<&'a [u8]>, word: &[u8]) -> (bool, Option<&'a [u8]>)
     ensures stands { result.0 ≡ (the_taking word.now (option_copied words.entry)).0 }
     ensures left { option_copied result.1 ≡ (the_taking word.now (option_copied words.entry)).1 }

@@ -1,4 +1,4 @@
-//! The parts of lines: a first word, numbers and ids.
+//! Prints parts of lines: first words, numbers and ids.
 ghost use Rattle.std.specs.Prelude.{◌≡◌, ◌++◌, ◌∷◌, decimal, OnOk};
 ghost use Rattle.dmlw_script.specs.Ids.{letters_of};
 
@@ -6,7 +6,7 @@ use crate::script_id::ScriptId;
 use refusals::push_number;
 use std::alloc::AllocError;
 
-// Appends a line's first word and space, and a number.
+// Appends `verb`, which ends with a space if one is wanted, and a number.
 pub(crate) fn push_value(out: &mut Vec<u8>, verb: &[u8], number: u64) -> Result<(), AllocError>
     ensures { OnOk result (out.new.items ≡ out.old.items ++ (verb.now ++ decimal number)) }
 {
@@ -14,8 +14,7 @@ pub(crate) fn push_value(out: &mut Vec<u8>, verb: &[u8], number: u64) -> Result<
     push_number(out, number)
 }
 
-// Appends a line's first word and space, or only a space, and after it a first sector and a number
-// of sectors.
+// Appends `verb` as `push_value` does, a first sector, a space, and a number of sectors.
 pub(crate) fn push_sectors(
     out: &mut Vec<u8>,
     verb: &[u8],
@@ -30,7 +29,7 @@ pub(crate) fn push_sectors(
     push_number(out, count)
 }
 
-// Appends a line's first word and space, and an id.
+// Appends `verb` as `push_value` does, and an id.
 pub(crate) fn push_name(out: &mut Vec<u8>, verb: &[u8], name: ScriptId) -> Result<(), AllocError>
     ensures { OnOk result (out.new.items ≡ out.old.items ++ (verb.now ++ letters_of name)) }
 {

@@ -11,7 +11,7 @@ use bio::SectorSize;
 use layer_table::{LayerSpec, push_line};
 use std::alloc::AllocError;
 
-// Appends the lines of a script's head.
+// Appends the lines of a head without a number of seats: the disks and their layers.
 pub(crate) fn push_head(
     out: &mut Vec<u8>,
     data_disk: &DiskSpec,
@@ -25,7 +25,8 @@ pub(crate) fn push_head(
     push_disk_layers(out, data_disk, log_disk)
 }
 
-// Appends the lines of the disks: the sectors of each, and the size of the log's sectors.
+// Appends the lines of both disks: the number of sectors of each, and the size of the log's
+// sectors.
 pub(crate) fn push_disks(
     out: &mut Vec<u8>,
     data_sectors: u64,
@@ -43,7 +44,7 @@ pub(crate) fn push_disks(
     Ok(())
 }
 
-// Appends the lines of both disks' layers.
+// Appends the lines of the data disk's layers, then of the log disk's.
 pub(crate) fn push_disk_layers(
     out: &mut Vec<u8>,
     data_disk: &DiskSpec,
@@ -57,8 +58,8 @@ pub(crate) fn push_disk_layers(
     push_layers(out, DiskName::Log, log_disk.layers())
 }
 
-// Appends the line of the log disk, without its line feed: the size of the log's sectors is named
-// if it isn't 512 bytes.
+// Appends the line of the log disk, without its line feed. The size of the log's sectors is printed
+// only if it is 4,096 bytes.
 fn push_log(out: &mut Vec<u8>, sectors: u64, size: SectorSize) -> Result<(), AllocError>
     ensures { OnOk result (out.new.items ≡ out.old.items ++ line_text (log_line sectors size)) }
 {
@@ -69,7 +70,7 @@ fn push_log(out: &mut Vec<u8>, sectors: u64, size: SectorSize) -> Result<(), All
     }
 }
 
-// Appends the lines of a disk's layers.
+// Appends the lines of the layers over a disk.
 fn push_layers(out: &mut Vec<u8>, over: DiskName, layers: &[LayerSpec]) -> Result<(), AllocError>
     ensures { OnOk result (out.new.items
         ≡ out.old.items ++ flat_map ended_line (map (layer_line over) layers.now)) }
@@ -80,7 +81,7 @@ fn push_layers(out: &mut Vec<u8>, over: DiskName, layers: &[LayerSpec]) -> Resul
     Ok(())
 }
 
-// Appends the line of a layer.
+// Appends the line of one layer over a disk.
 fn push_layer(out: &mut Vec<u8>, over: DiskName, layer: &LayerSpec) -> Result<(), AllocError>
     ensures { OnOk result (out.new.items
         ≡ out.old.items ++ ended_line (layer_line over layer.now)) }

@@ -1,5 +1,5 @@
--- The steps of the reader over a body. `Grammar` and `FirstFault` define the results in terms of
--- the grammar.
+-- What the reader does with each line of a body, step by step. `Grammar` and `FirstFault` say what
+-- the results are, by the grammar.
 use Rattle.std.specs.Prelude.{◌≡◌, ℕ, Bool, false, List, [], ◌∷◌, ◌++◌, Option, Some, None, Result}
 use Rattle.std.specs.Prelude.{Ok, Err, length, nat_lt, slice_index_or, if◌then◌else◌}
 use Rattle.refusals.specs.declared.refusal.Refusal.{Refusal}
@@ -19,63 +19,65 @@ use Rattle.dmlw_script.specs.declared.line_error.LineError.TheVariants as line_e
 use Rattle.dmlw_script.specs.Plans.{is_ended, time_after, request_of, step_answer}
 use Rattle.dmlw_script.specs.Plans.{submission_answer}
 
--- a script's body, as far as it was read: the ids that were submitted, and the commands
+-- a script's body, as far as it was read: the submitted ids, in order, and the commands
 pub record Body : Type 0 where
   pub names : List ScriptId
   pub body : List Command
 
--- what was read into a draft
+-- the part of a body that the reader `d` has read
 abbrev pub body_of : BodyReader → Body
 body_of d = record { names = d.names.keys; body = d.commands.items }
 
--- each of n requests has its flag, which says whether it has ended, and no other request has
+-- There are `n` flags. The flag of a request says whether `body` ends the request; `body` ends no
+-- request without a flag.
 pub record IsFlags (n : ℕ) (flags : List Bool) (body : List Command) : Type 0 where
   pub in_step : length flags ≡ n
   pub each : (request : ℕ) → slice_index_or flags request false ≡ is_ended request body
 
--- a draft's flags are those of its requests, and its time is the one after its commands
+-- The flags of `d` say which of its requests have ended. Its time is the time after its commands.
 pub record IsDraft (d : BodyReader) : Type 0 where
   pub flags : IsFlags (length d.names.keys) d.has_ended.items d.commands.items
   pub in_time : d.moment ≡ time_after d.commands.items
 
--- goes on with a value that is there
+-- applies `f` to the value, unless there is a refusal
 infixl 10 ◌>>=◌
 abbrev pub ◌>>=◌ : {A B : Type 0} → Result A Refusal → (A → Result B Refusal) → Result B Refusal
 (Ok x) >>= f = f x
 (Err refusal) >>= f = Err refusal
 
--- the next command, after a body
+-- the body with one more command
 abbrev pub with_command : Body → Command → Body
 with_command b command = record b { body = b.body ++ command ∷ [] }
 
--- the body with the next request's id, which must be new
+-- the body with the id of the next request, if no request has this id yet; `BadId` if one has
 abbrev pub named_next : Option ℕ → Body → ScriptId → Result Body Refusal
 named_next (Some request) b name = Err BadId
 named_next None b name = Ok (record b { names = b.names ++ name ∷ [] })
 
--- the body with the next request's id
+-- as `named_next`, which gets the number of the request with this id, if there is one
 abbrev pub with_name : Body → ScriptId → Result Body Refusal
 with_name b name = named_next (request_of name b.names) b name
 
--- the result of a test of sectors, as a refusal
+-- the result of a test of sectors, with its refusal as the error
 abbrev pub as_refusal : Result (Unit {0}) BadBio → Result (Unit {0}) Refusal
 as_refusal (Ok fine) = Ok tt
 as_refusal (Err bad) = Err (bad_bio_refusal bad)
 
--- the test of a line that names no request, at this time: no `at` goes back, and sectors pass their
--- test
+-- The test of a step at the time `moment`. An `at` must not decrease the time, and any other step
+-- passes the test of its sectors.
 abbrev pub step_test : (bytes sectors moment : ℕ) → Step → Result (Unit {0}) Refusal
 step_test bytes sectors moment (steps.At later) = if nat_lt later moment then Err BadLine else Ok tt
 step_test bytes sectors moment step = as_refusal (step_answer bytes sectors step)
 
--- an end, whose request must be open
+-- The body with the end of a request, if the request is open. If its id was never submitted (None)
+-- or it has ended, `BadId`.
 abbrev pub ended_next : Option ℕ → Body → Result Body Refusal
 ended_next None b = Err BadId
 ended_next (Some request) b =
     if is_ended request b.body then Err BadId else Ok (with_command b (commands.Complete request))
 
--- the body after one more line, for a log with sectors of `bytes` bytes and a data disk of
--- `sectors` sectors
+-- The body after one more line, or the refusal. The log's sectors have `bytes` bytes, and the data
+-- disk's top has `sectors` sectors.
 abbrev pub body_step : (bytes sectors : ℕ) → Body → BodyLine → Result Body Refusal
 body_step bytes sectors b (body_lines.Submit name submission) = do
   submitted ← with_name b name
@@ -86,7 +88,9 @@ body_step bytes sectors b (body_lines.Step step) = do
   fine ← step_test bytes sectors (time_after b.body) step
   Ok (with_command b (commands.Step step))
 
--- the result of a call that leaves this value is that of this step
+-- The result of a call agrees with `step`. If the call succeeds, `step` is Ok with the value
+-- `after`, which the call leaves. If it refuses, `step` is the same refusal. If memory ran out,
+-- nothing is claimed.
 abbrev pub Follows : {A : Type 0} → Result (Unit {0}) LineError → A → Result A Refusal → Type 0
 Follows (Ok done) after step = step ≡ Ok after
 Follows (Err (line_errors.Refused refusal)) after step = step ≡ Err refusal

@@ -1,4 +1,4 @@
--- The head of a script, as far as it was read.
+-- What the reader does with each line of a head, step by step.
 use Rattle.std.specs.Prelude.{ℕ, Bool, true, false, ◌∷◌, [], List, Result, Ok, Err, length, nat_le}
 use Rattle.std.specs.Prelude.{nat_lt, if◌then◌else◌}
 use Rattle.bio.specs.Sizes.{bytes_of}
@@ -22,51 +22,52 @@ use Rattle.dmlw_script.specs.Plans.{is_disk_size, is_log_disk_size, is_within, l
 use Rattle.dmlw_script.specs.Plans.{top_of, Disk}
 use Rattle.dmlw_script.specs.FirstFault.{bare, with_layer}
 
--- how much was read up to this part, with these disks, this size of the log's sectors, and these
--- picks of a crash
+-- how much was read, for a head that has come to this part, with these disks, log sectors of this
+-- size, and these picks of a crash
 abbrev pub stage_at : List ℕ → Disk → Disk → SectorSize → Part → Stage
 stage_at picks data_disk log_disk size parts.Nothing = heads.Empty
 stage_at picks data_disk log_disk size parts.Data = heads.Data data_disk
 stage_at picks data_disk log_disk size parts.Whole = heads.Whole data_disk log_disk size
 stage_at picks data_disk log_disk size parts.Ended = heads.Ended data_disk log_disk size picks
 
--- how much was read, if a crash has these picks
+-- how much was read into `head`, with `picks` as the picks of a crash
 abbrev pub stage_of : List ℕ → Head → Stage
 stage_of picks head = stage_at picks head.data_disk head.log_disk head.log_size head.part
 
--- the disk with a layer, which must have at least `least` sectors
+-- the disk with one more layer, which must have at least `least` sectors
 abbrev pub long_layer : (least : ℕ) → Disk → LayerSpec → Result Disk Refusal
 long_layer least disk spec =
     if nat_le least spec.length then Ok (with_layer disk spec) else Err BadLine
 
--- the disk with the layer that a table line asks for, which must be within the device below it and
--- have at least `least` sectors
+-- The disk with one more layer: the one that a table line asks for. The layer must be within the
+-- device below it, and have at least `least` sectors.
 abbrev pub asked_layer : (least : ℕ) → Disk → Result LayerSpec TableError → Result Disk Refusal
 asked_layer least disk (Err error) = Err (table_refusal error)
 asked_layer least disk (Ok spec) =
     if is_within spec (top_of disk) then long_layer least disk spec else Err OutOfRange
 
--- the disk with one more layer, which must be at most the fourth
+-- as `asked_layer`, but a disk that has four layers gets no more
 abbrev pub layer_step : (least : ℕ) → Disk → Result LayerSpec TableError → Result Disk Refusal
 layer_step least disk asked =
     if nat_lt (length disk.layers) 4 then asked_layer least disk asked else Err BadLine
 
--- a head with another data disk
+-- the head with the data disk that `read` gives, or the refusal of `read`
 abbrev pub with_data : Result Disk Refusal → Disk → SectorSize → Result Stage Refusal
 with_data read log_disk size = read >>= λ data_disk. Ok (heads.Whole data_disk log_disk size)
 
--- a head with another log disk
+-- the head with the log disk that `read` gives, or the refusal of `read`
 abbrev pub with_log : Disk → Result Disk Refusal → SectorSize → Result Stage Refusal
 with_log data_disk read size = read >>= λ log_disk. Ok (heads.Whole data_disk log_disk size)
 
--- a layer over the data disk, if the log disk has none yet
+-- the head with one more layer over the data disk; the log disk's layers, which are the first
+-- argument, must be none
 abbrev pub data_layer : List LayerSpec → Disk → Disk → SectorSize → Result LayerSpec TableError
     → Result Stage Refusal
 data_layer [] data_disk log_disk size asked =
     with_data (layer_step (least_sectors disks.Data size) data_disk asked) log_disk size
 data_layer (layer ∷ layers) data_disk log_disk size asked = Err BadLine
 
--- a layer in a head with these disks and this size of the log's sectors, before or in the body
+-- the head with one more layer; the first argument says whether no layer may follow any more
 abbrev pub layer_in : Bool → Disk → Disk → SectorSize → DiskName → Result LayerSpec TableError
     → Result Stage Refusal
 layer_in true data_disk log_disk size over asked = Err BadLine
@@ -75,8 +76,8 @@ layer_in false data_disk log_disk size disks.Data asked =
 layer_in false data_disk log_disk size disks.Log asked =
     with_log data_disk (layer_step (least_sectors disks.Log size) log_disk asked) size
 
--- the head with one more line, before or in the body: first the size of the data disk, then that of
--- the log disk and of the log's sectors, then the layers
+-- The head with one more line. First comes the data disk, then the log disk with the size of the
+-- log's sectors, then the layers. If `began` is true, no layer may follow.
 abbrev pub head_step : Stage → Bool → HeadLine → Result Stage Refusal
 head_step heads.Empty began (head_lines.Data sectors) =
     if is_disk_size sectors then Ok (heads.Data (bare sectors)) else Err BadLine

@@ -1,5 +1,5 @@
--- The meaning of a line, as the reader finds it. `Grammar` defines it in terms of the grammar; the
--- two agree by proof.
+-- How the reader finds the meaning of a line of a recorder's script. `Grammar` defines the meaning
+-- by the words of the line; the two agree by proof.
 use Rattle.std.specs.Prelude.{ℕ, ◌==◌, Bool, true, false, List, [], ◌∷◌, Option, Some}
 use Rattle.std.specs.Prelude.{None, codes, if◌then◌else◌}
 use Rattle.std.specs.List.{slice_split}
@@ -26,33 +26,35 @@ use Rattle.dmlw_script.specs.Ids.{id_of_word}
 use Rattle.dmlw_script.specs.Lines.{is_line_text}
 use Rattle.dmlw_script.specs.declared.command.WriteOptions.{WriteOptions}
 
--- goes on with a value that is there
+-- applies `f` to the value, if there is one
 infixl 10 ◌>>=◌
 abbrev pub ◌>>=◌ : {A B : Type 0} → Option A → (A → Option B) → Option B
 (Some x) >>= f = f x
 None >>= f = None
 
--- a line that submits a request
+-- the meaning of a line that submits a request
 abbrev pub submit : ScriptId → Submission → LineMeaning
 submit name submission = parsed_lines.Body (body_lines.Submit name submission)
 
--- a line that names no request
+-- the meaning of a line that names no request
 abbrev pub step : Step → LineMeaning
 step it = parsed_lines.Body (body_lines.Step it)
 
--- whether this word is the first of these, and the words left after it
+-- Whether `word` is the first of the words, and the words that are left: those after `word`, or all
+-- if it is not the first.
 abbrev pub take_word : List ℕ → Option (List ℕ) → Bool × Option (List ℕ)
 take_word word None = (false, None)
 take_word word (Some words) =
     if bytes_eq (before_byte 32 words) word then (true, after_byte 32 words) else
     (false, Some words)
 
--- the options that were found, if no word is left
+-- a write's options that were found, if no word is left
 abbrev pub found_options : Bool → Bool → Bool → Option (List ℕ) → Option WriteOptions
 found_options flush fua meta None = Some (record { flush = flush; fua = fua; meta = meta })
 found_options flush fua meta (Some words) = None
 
--- the options that these words are, if there are any words
+-- The options of a write whose last words these are. None stands for no words. The options keep the
+-- order flush, fua, meta.
 abbrev pub options_of : Option (List ℕ) → Option WriteOptions
 options_of words =
     let flush = take_word (codes "flush") words in
@@ -60,7 +62,7 @@ options_of words =
     let meta = take_word (codes "meta") fua.1 in
     found_options flush.0 fua.0 meta.0 meta.1
 
--- the write with these words: the first sector, the number of sectors, the byte and the options
+-- the write with these words: the first sector, the number of sectors, the byte, and any options
 abbrev pub write_words : List ℕ → Option Submission
 write_words words = do
   from_count ← after_byte 32 words
@@ -71,7 +73,7 @@ write_words words = do
   options ← options_of (after_byte 32 from_byte)
   Some (submits.Write first count byte options)
 
--- the sectors with these words: the first one, and their number
+-- the first sector and the number of sectors that these two words give
 abbrev pub sectors_of : List ℕ → Option (ℕ × ℕ)
 sectors_of words = do
   first ← number_of (before_byte 32 words)
@@ -85,40 +87,40 @@ discard_words words = do
   sectors ← sectors_of words
   Some (submits.Discard sectors.0 sectors.1)
 
--- the request with this first word and these other words
+-- the write or discard with the first word `verb` and the words `words` after the id
 abbrev pub submission_with : List ℕ → List ℕ → Option Submission
 submission_with verb words =
     if bytes_eq verb (codes "w") then write_words words
     else if bytes_eq verb (codes "d") then discard_words words
     else None
 
--- the request with this first word and these other words, if there are any
+-- the request with the first word `verb` and the words after the id, if there are any
 abbrev pub submission_of : List ℕ → Option (List ℕ) → Option Submission
 submission_of verb (Some words) = submission_with verb words
 submission_of verb None = if bytes_eq verb (codes "f") then Some submits.Flush else None
 
--- the line that submits a request, with this first word and these other words: an id, and those of
--- the request
+-- the meaning of a line that submits a request: `verb` is its first word, and `words` are its id
+-- and the words of the request
 abbrev pub submit_of : List ℕ → List ℕ → Option LineMeaning
 submit_of verb words = do
   name ← id_of_word (before_byte 32 words)
   submission ← submission_of verb (after_byte 32 words)
   Some (submit name submission)
 
--- the read with these words: the first sector and the number of sectors
+-- the meaning of a read with these words: the first sector and the number of sectors
 abbrev pub read_of : List ℕ → Option LineMeaning
 read_of words = do
   sectors ← sectors_of words
   Some (step (steps.Read sectors.0 sectors.1))
 
--- the meaning of a line of this one word
+-- the meaning of a line of the single word `verb`: a close or a turn
 abbrev pub lone_word : List ℕ → Option LineMeaning
 lone_word verb =
     if bytes_eq verb (codes "close") then Some (step steps.Close)
     else if bytes_eq verb (codes "turn") then Some (step steps.Turn)
     else None
 
--- the meaning of a line of the body with this first word and these other words
+-- the meaning of a line of the body with the first word `verb` and the other words `words`
 abbrev pub body_words : List ℕ → List ℕ → Option LineMeaning
 body_words verb words =
     if bytes_eq verb (codes "c") then option_map
@@ -128,23 +130,24 @@ body_words verb words =
     (number_of words)
     else submit_of verb words
 
--- the line of a layer over this disk, with this table line
+-- the meaning of the line of a layer over a disk, with the table line `text`
 abbrev pub layer_of : DiskName → List ℕ → HeadLine
 layer_of over text = head_lines.Layer over (line_answer (words_of text))
 
--- the size of a log's sectors that a word gives, or 512 bytes if there is none
+-- the size of the log's sectors: 512 bytes without a word, and 4,096 for the word `4096`
 abbrev pub size_of : Option (List ℕ) → Option SectorSize
 size_of None = Some sizes.B512
 size_of (Some word) = if bytes_eq word (codes "4096") then Some sizes.B4096 else None
 
--- the line of the log disk with these words: its sectors and the size of the log's sectors
+-- the meaning of the log disk's line with these words: its number of sectors, and `4096` if the
+-- log's sectors have 4,096 bytes
 abbrev pub log_of : List ℕ → Option HeadLine
 log_of words = do
   sectors ← number_of (before_byte 32 words)
   size ← size_of (after_byte 32 words)
   Some (head_lines.Log sectors size)
 
--- the meaning of a line of the head with this first word and these other words
+-- the meaning of a line of the head with the first word `verb` and the other words `words`
 abbrev pub head_words : List ℕ → List ℕ → Option HeadLine
 head_words verb words =
     if bytes_eq verb (codes "data") then option_map head_lines.Data (number_of words)
@@ -153,52 +156,54 @@ head_words verb words =
     else if bytes_eq verb (codes "log-layer") then Some (layer_of disks.Log words)
     else None
 
--- the meaning of a line with this first word and these other words
+-- the meaning of a line with the first word `verb` and the other words `words`, as a line of the
+-- head or of the body
 abbrev pub parse_words : List ℕ → List ℕ → Option LineMeaning
 parse_words verb words =
     option_or (option_map parsed_lines.Head (head_words verb words)) (body_words verb words)
 
--- the words of a text, with one space between them
+-- the parts of a text between its spaces
 abbrev pub split_words : List ℕ → List (List ℕ)
 split_words bytes = slice_split (λ byte. byte == 32) bytes
 
--- a number before others
+-- the list with the number in front, if both are there
 abbrev pub with_number : Option ℕ → Option (List ℕ) → Option (List ℕ)
 with_number (Some n) (Some ns) = Some (n ∷ ns)
 with_number (Some n) None = None
 with_number None ns = None
 
--- the numbers that words are, if each is one
+-- the values of the words, if each word is a number
 abbrev pub numbers_of : List (List ℕ) → Option (List ℕ)
 numbers_of [] = Some []
 numbers_of (word ∷ words) = with_number (number_of word) (numbers_of words)
 
--- the picks in these words, if there are any
+-- the picks in these words, if each is a number; no words give no picks
 abbrev pub picks_of : Option (List ℕ) → Option (List ℕ)
 picks_of None = Some []
 picks_of (Some words) = numbers_of (split_words words)
 
--- the mark with this text, if there is a space after the first word
+-- the meaning of a mark with this text; None stands for a line with no space after `mark`
 abbrev pub mark_of : Option (List ℕ) → Option LineMeaning
 mark_of None = None
 mark_of (Some text) = if is_line_text text then Some (step (steps.Mark text)) else None
 
--- the disk that a word names
+-- the disk that a word names, if it names one
 abbrev pub disk_of_word : List ℕ → Option DiskName
 disk_of_word word =
     if bytes_eq word (codes "data") then Some disks.Data
     else if bytes_eq word (codes "log") then Some disks.Log
     else None
 
--- the message to a layer of this disk with these words: the layer's number, and the text after one
--- space
+-- the meaning of a message to a layer of a disk: `words` are the layer's number and, after one
+-- space, the text
 abbrev pub message_to : DiskName → List ℕ → Option LineMeaning
 message_to over words = do
   layer ← number_of (before_byte 32 words)
   text ← after_byte 32 words
   if is_line_text text then Some (step (steps.Message over layer text)) else None
 
--- the message with these words, if there are any: its disk, and the others
+-- the meaning of a message with these words: the name of a disk, the number of a layer, and the
+-- text
 abbrev pub message_of : Option (List ℕ) → Option LineMeaning
 message_of None = None
 message_of (Some words) = do
@@ -206,13 +211,13 @@ message_of (Some words) = do
   from_layer ← after_byte 32 words
   message_to over from_layer
 
--- the meaning of a line with this first word and these other words, if it has any; the line is no
--- crash, no mark and no message
+-- the meaning of a line that is no crash, no mark and no message: `verb` is its first word, and
+-- `words` are the others, if there are any
 abbrev pub plain_parts : List ℕ → Option (List ℕ) → Option LineMeaning
 plain_parts verb (Some words) = parse_words verb words
 plain_parts verb None = lone_word verb
 
--- the meaning of a line with this first word and these other words, if it has any
+-- the meaning of a line: `verb` is its first word, and `words` are the others, if there are any
 abbrev pub parse_parts : List ℕ → Option (List ℕ) → Option LineMeaning
 parse_parts verb words =
     if bytes_eq verb (codes "crash") then option_map (λ picks. parsed_lines.Crash picks)
@@ -221,6 +226,6 @@ parse_parts verb words =
     else if bytes_eq verb (codes "message") then message_of words
     else plain_parts verb words
 
--- the meaning of a line, if it is of the grammar
+-- the meaning of a line, if its words have one
 abbrev pub parse_line : List ℕ → Option LineMeaning
 parse_line line = parse_parts (before_byte 32 line) (after_byte 32 line)

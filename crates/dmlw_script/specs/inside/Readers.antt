@@ -1,5 +1,5 @@
--- The steps of the reader over lines. `Grammar` and `FirstFault` define the results in terms of the
--- grammar.
+-- What the reader of a recorder's script does with each line, step by step. `Grammar` and
+-- `FirstFault` say what the results are, by the grammar.
 use Rattle.std.specs.Prelude.{◌≡◌, ℕ, ◌+◌, Bool, true, false, not, List, [], ◌∷◌, Option, Some}
 use Rattle.std.specs.Prelude.{None, Result, Ok, Err, if◌then◌else◌}
 use Rattle.bio.specs.Sizes.{bytes_of}
@@ -26,51 +26,52 @@ pub record Progress : Type 0 where
   pub head : Stage
   pub body : Body
 
--- what a reader has read
+-- the part of a script that the reader `r` has read
 abbrev pub progress_of : Reader → Progress
 progress_of r = record { head = stage_of r.picks.items r.head; body = body_of r.draft }
 
--- a reader's draft is one
+-- the body that the reader has read satisfies `IsDraft`
 abbrev pub IsReader : Reader → Type 0
 IsReader r = IsDraft r.draft
 
--- whether a body has begun
+-- whether the body has begun: it has at least one command
 abbrev pub has_begun : List Command → Bool
 has_begun [] = false
 has_begun (command ∷ body) = true
 
--- the head after one more line
+-- `p` with the head that `read` gives, or the refusal of `read`
 abbrev pub with_head : Progress → Result Stage Refusal → Result Progress Refusal
 with_head p read = read >>= λ head. Ok (record p { head = head })
 
--- the body after one more line
+-- `p` with the body that `read` gives, or the refusal of `read`
 abbrev pub with_body : Progress → Result Body Refusal → Result Progress Refusal
 with_body p read = read >>= λ body. Ok (record p { body = body })
 
--- one more line of the body, which comes after a whole head
+-- `p` after one more line of the body; the lines of both disks must be before it, and no crash
 abbrev pub body_line : Stage → Progress → BodyLine → Result Progress Refusal
 body_line (heads.Whole data_disk log_disk log_size) p line =
     with_body p (body_step (bytes_of log_size) (top_of data_disk) p.body line)
 body_line _ p line = Err BadLine
 
--- a crash, which comes after a whole head
+-- `p` after a crash; the lines of both disks must be before it, and no crash
 abbrev pub crash_line : Stage → Progress → List ℕ → Result Progress Refusal
 crash_line (heads.Whole data_disk log_disk log_size) p picks =
     Ok (record p { head = heads.Ended data_disk log_disk log_size picks })
 crash_line _ p picks = Err BadLine
 
--- one more line that is none to skip
+-- `p` after one more line with this meaning
 abbrev pub parsed_step : Progress → LineMeaning → Result Progress Refusal
 parsed_step p (parsed_lines.Head line) = with_head p (head_step p.head (has_begun p.body.body) line)
 parsed_step p (parsed_lines.Body line) = body_line p.head p line
 parsed_step p (parsed_lines.Crash picks) = crash_line p.head p picks
 
--- one more line that isn't skipped, which must have a meaning
+-- the state after one more line, if the line has a meaning; otherwise `BadLine`
 abbrev pub step_if : {S W : Type 0} → (S → W → Result S Refusal) → S → Option W → Result S Refusal
 step_if step s None = Err BadLine
 step_if step s (Some said) = step s said
 
--- one more line: it is parsed by `parse`, and then this step is taken
+-- The state `s` after one more line. The line must be ASCII without zero bytes. If it is not
+-- skipped, `parse` gives its meaning, and `step` the next state.
 abbrev pub line_by : {S W : Type 0} → (List ℕ → Option W) → (S → W → Result S Refusal) → S → List ℕ
     → Result S Refusal
 line_by parse step s line =
@@ -78,15 +79,16 @@ line_by parse step s line =
     else if is_skipped line then Ok s
     else step_if step s (parse line)
 
--- one more line of a recorder's script that isn't skipped
+-- `p` after one more line of a recorder's script that isn't skipped; `said` is its meaning, if it
+-- has one
 abbrev pub step_if_parsed : Progress → Option LineMeaning → Result Progress Refusal
 step_if_parsed p said = step_if parsed_step p said
 
--- one more line of a recorder's script
+-- `p` after one more line of a recorder's script
 abbrev pub line_step : Progress → List ℕ → Result Progress Refusal
 line_step p line = line_by parse_line parsed_step p line
 
--- the text ends here: a whole head is before it
+-- the script, if the text ends after this head and this body; the lines of both disks must be there
 abbrev pub finished : Stage → Body → Result ScriptValue Refusal
 finished (heads.Whole data_disk log_disk log_size) body =
     Ok (record {
@@ -108,33 +110,34 @@ finished (heads.Ended data_disk log_disk log_size picks) body =
     })
 finished _ body = Err BadLine
 
--- the end of the text, after what was read
+-- the script, if the text ends after `p`
 abbrev pub finish_step : Progress → Result ScriptValue Refusal
 finish_step p = finished p.head p.body
 
--- the result for the line with this number
+-- the result, in which a refusal names the line `number`
 abbrev pub at_line : {A : Type 0} → ℕ → Result A Refusal → Result A Fault
 at_line number (Ok x) = Ok x
 at_line number (Err refusal) = Err (record { line = Some number; refusal = refusal })
 
--- goes on with a value that is there
+-- applies `f` to the value, unless there is a fault
 abbrev pub and_then : {A B : Type 0} → Result A Fault → (A → Result B Fault) → Result B Fault
 and_then (Ok x) f = f x
 and_then (Err fault) f = Err fault
 
--- the result of reading these lines by one step for each line and one for the end of the text;
--- `number` is that of the first line
+-- The result of reading `lines` from the state `s` on: `step` for each line, then `finish` at the
+-- end of the text. `number` is the number of the first line. A refusal of `finish` names the line
+-- after the last.
 abbrev pub read_by : {S A : Type 0} → (S → List ℕ → Result S Refusal) → (S → Result A Refusal) → S
     → ℕ → List (List ℕ) → Result A Fault
 read_by step finish s number [] = at_line number (finish s)
 read_by step finish s number (line ∷ lines) =
     and_then (at_line number (step s line)) (λ t. read_by step finish t (number + 1) lines)
 
--- the result of reading these lines; `number` is that of the first
+-- the result of reading `lines` after `p`; `number` is the number of the first line
 abbrev pub read_lines : Progress → ℕ → List (List ℕ) → Result ScriptValue Fault
 read_lines p number lines = read_by line_step finish_step p number lines
 
--- nothing was read
+-- the state in which nothing was read
 abbrev pub nothing : Progress
 nothing = record { head = heads.Empty; body = record { names = []; body = [] } }
 
@@ -142,28 +145,30 @@ nothing = record { head = heads.Empty; body = record { names = []; body = [] } }
 abbrev pub read_text : List ℕ → Result ScriptValue Fault
 read_text text = read_lines nothing 1 (lines_of text)
 
--- a fault with a line is the result of reading, and one with none is that memory ran out
+-- A fault that names a line is the result `read`. A fault that names no line reports that memory
+-- ran out.
 abbrev pub IsFault : {A : Type 0} → Option ℕ → Fault → Result A Fault → Type 0
 IsFault (Some line) fault read = read ≡ Err fault
 IsFault None fault read = fault.refusal ≡ Memory
 
--- the result of a reader, if `read` is that of its text: the same, unless memory ran out
+-- The first result, that of a reader, is `read`, unless memory ran out.
 abbrev pub Reads : {A : Type 0} → Result A Fault → Result A Fault → Type 0
 Reads (Ok script) read = read ≡ Ok script
 Reads (Err fault) read = IsFault fault.line fault read
 
--- the result at the end of a text, if `step` is that of the step
+-- The first result, that of a reader at the end of a text, is `step`, unless memory ran out.
 abbrev pub Finishes : {A : Type 0} → Result A LineError → Result A Refusal → Type 0
 Finishes (Ok script) step = step ≡ Ok script
 Finishes (Err (line_errors.Refused refusal)) step = step ≡ Err refusal
 Finishes (Err line_errors.Memory) step = Unit {0}
 
--- the fault that reports an error at a line
+-- the fault that reports an error at the line `line`; out of memory names no line
 abbrev pub fault_of : ℕ → LineError → Fault
 fault_of line (line_errors.Refused refusal) = record { line = Some line; refusal = refusal }
 fault_of line line_errors.Memory = record { line = None; refusal = Memory }
 
--- no picks are read: the line is bad, or memory ran out
+-- Reading picks failed with this error. Either it is `BadLine`, and the words have no picks (`read`
+-- is None). Or memory ran out.
 abbrev pub HasNoPicks : LineError → Option (List ℕ) → Type 0
 HasNoPicks (line_errors.Refused refusal) read = (refusal ≡ BadLine) × (read ≡ None)
 HasNoPicks line_errors.Memory read = Unit {0}

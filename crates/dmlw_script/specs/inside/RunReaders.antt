@@ -1,5 +1,5 @@
--- The steps of the reader of a run's script over lines. `RunGrammar` and `RunFirstFault` define the
--- results in terms of the grammar.
+-- What the reader of a run's script does with each line, step by step. `RunGrammar` and
+-- `RunFirstFault` say what the results are, by the grammar.
 use Rattle.std.specs.Prelude.{ℕ, ◌&&◌, Bool, true, false, List, [], ◌∷◌, ◌++◌, Option, Some, None}
 use Rattle.std.specs.Prelude.{Result, Ok, Err, nat_le, nat_lt, if◌then◌else◌}
 use Rattle.bio.specs.Sizes.{bytes_of}
@@ -21,64 +21,68 @@ use Rattle.dmlw_script.specs.inside.RunLineParser.{parse_run_line}
 use Rattle.dmlw_script.specs.inside.Stages.{Stage}
 use Rattle.dmlw_script.specs.inside.Stages as heads
 
--- a run's script, as far as it was read: its head, the number
--- of its seats, if that was read, and the lines of its body
+-- a run's script, as far as it was read: its head, the number of seats, if its line was read, and
+-- the lines of its body
 pub record RunProgress : Type 0 where
   pub head : Stage
   pub seats : Option ℕ
   pub calls : List SeatCall
 
--- what a reader has read
+-- the part of a script that the reader `r` has read
 abbrev pub run_progress : RunReader → RunProgress
 run_progress r = record { head = stage_of [] r.head; seats = r.seats; calls = r.calls.items }
 
--- no layer may come: the number of seats wasn't read yet, or the body has begun
+-- no layer may follow: the number of seats wasn't read yet, or the body has begun
 abbrev pub is_closed : Option ℕ → List SeatCall → Bool
 is_closed None calls = true
 is_closed (Some seats) [] = false
 is_closed (Some seats) (call ∷ calls) = true
 
--- the head after one more line
+-- `p` with the head that `read` gives, or the refusal of `read`
 abbrev pub with_run_head : RunProgress → Result Stage Refusal → Result RunProgress Refusal
 with_run_head p read = read >>= λ head. Ok (record p { head = head })
 
--- one more line of the head that isn't the number of seats
+-- `p` after one more line of the head that isn't the number of seats
 abbrev pub run_head_step : RunProgress → HeadLine → Result RunProgress Refusal
 run_head_step p line = with_run_head p (head_step p.head (is_closed p.seats p.calls) line)
 
--- a script may have this number of seats
+-- a script may have `count` seats: 1 to 64
 abbrev pub is_seat_count : ℕ → Bool
 is_seat_count count = nat_le 1 count && nat_le count 64
 
--- the number of seats, which comes once, after both disks
+-- `p` after the line of the number of seats. The lines of both disks must be before it, no number
+-- of seats, and the number must be 1 to 64.
 abbrev pub seats_line : Stage → Option ℕ → RunProgress → ℕ → Result RunProgress Refusal
 seats_line (heads.Whole data_disk log_disk log_size) None p count =
     if is_seat_count count then Ok (record p { seats = Some count }) else Err BadLine
 seats_line _ _ p count = Err BadLine
 
--- the body after one more line, if the test of its sectors has this result
+-- `p` with one more line of the body, if the test of the sectors passed; otherwise the refusal of
+-- the test
 abbrev pub with_call : RunProgress → SeatCall → Result (Unit {0}) Refusal
     → Result RunProgress Refusal
 with_call p line test = test >>= λ fine. Ok (record p { calls = p.calls ++ line ∷ [] })
 
--- one more line of the body, which comes after the number of seats and has one of them
+-- `p` after one more line of the body. The lines of both disks and the number of seats must be
+-- before it, and its seat must be below that number.
 abbrev pub call_line : Stage → Option ℕ → RunProgress → SeatCall → Result RunProgress Refusal
 call_line (heads.Whole data_disk log_disk log_size) (Some seats) p line =
     if nat_lt line.seat seats then with_call p line
     (as_refusal (call_answer (bytes_of log_size) (top_of data_disk) line.call)) else Err BadLine
 call_line _ _ p line = Err BadLine
 
--- one more line that is none to skip
+-- `p` after one more line with this meaning
 abbrev pub said_step : RunProgress → RunLine → Result RunProgress Refusal
 said_step p (run_lines.Head line) = run_head_step p line
 said_step p (run_lines.Seats count) = seats_line p.head p.seats p count
 said_step p (run_lines.Body line) = call_line p.head p.seats p line
 
--- one more line
+-- `p` after one more line
 abbrev pub run_line_step : RunProgress → List ℕ → Result RunProgress Refusal
 run_line_step p line = line_by parse_run_line said_step p line
 
--- the text ends here: both disks and the number of seats are before it
+-- the script, if the text ends here; the lines of both disks and of the number of seats must be
+-- there
 abbrev pub finished_run : Stage → Option ℕ → List SeatCall → Result RunPlan Refusal
 finished_run (heads.Whole data_disk log_disk log_size) (Some seats) calls =
     Ok (record {
@@ -90,15 +94,15 @@ finished_run (heads.Whole data_disk log_disk log_size) (Some seats) calls =
     })
 finished_run _ _ calls = Err BadLine
 
--- the end of the text, after what was read
+-- the script, if the text ends after `p`
 abbrev pub run_finish_step : RunProgress → Result RunPlan Refusal
 run_finish_step p = finished_run p.head p.seats p.calls
 
--- nothing was read
+-- the state in which nothing was read
 abbrev pub nothing_read : RunProgress
 nothing_read = record { head = heads.Empty; seats = None; calls = [] }
 
--- the result of reading these lines; `number` is that of the first
+-- the result of reading `lines` after `p`; `number` is the number of the first line
 abbrev pub read_run_lines : RunProgress → ℕ → List (List ℕ) → Result RunPlan Fault
 read_run_lines p number lines = read_by run_line_step run_finish_step p number lines
 

@@ -1,10 +1,11 @@
--- How much of a script was read, apart from its commands.
+-- How much of a script was read, without its body.
 use Rattle.std.specs.Prelude.{ℕ, List}
 use Rattle.bio.specs.declared.sector_size.SectorSize.{SectorSize}
 use Rattle.dmlw_script.specs.Plans.{Disk}
 
--- nothing; the size of the data disk; the sizes of both and of the log's sectors, and layers; or
--- all of the script, ended by a crash with these picks
+-- `Empty`: nothing was read. `Data`: the line of the data disk was read. `Whole`: the lines of both
+-- disks were read, and any layers. `Ended`: also a crash with these picks was read, which ends the
+-- script.
 pub data Stage : Type 0 where
   Empty : Stage
   Data : Disk → Stage

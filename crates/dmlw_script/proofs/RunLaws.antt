@@ -26,7 +26,7 @@ use Rattle.dmlw_script.specs.RunPlans.{call_answer, data_layer, lines_of_run, lo
 use Rattle.dmlw_script.specs.RunPlans.{IsAllowed, FitsLine, IsRunPlan, RunPlan}
 use Rattle.dmlw_script.specs.inside.Drafts.{◌>>=◌, as_refusal}
 use Rattle.dmlw_script.specs.inside.Heads as heads_inside
-use Rattle.dmlw_script.specs.inside.Heads.{head_step, layer_step, with_log}
+use Rattle.dmlw_script.specs.inside.Heads.{head_step, with_log}
 use Rattle.dmlw_script.specs.inside.RunLineParser.{parse_run_line}
 use Rattle.dmlw_script.specs.inside.RunReaders.{call_line, finished_run, is_closed, is_seat_count}
 use Rattle.dmlw_script.specs.inside.RunReaders.{nothing_read, run_finish_step, said_step}

@@ -1,13 +1,11 @@
 -- What messages leave of a stack's layers, and what a layer
 -- that was put shows, by what is said of them.
-use Rattle.std.proofs.Common.{◌≡◌, ℕ, ◌+◌, ◌≤◌, List, [], Ok, refl, inl, inr, arith}
+use Rattle.std.proofs.Common.{◌≡◌, ℕ, ◌+◌, List, [], refl, inl, inr, arith}
 use Rattle.std.specs.Prelude.{◌↔◌, Result}
-use Rattle.blockdev.specs.Calls.{Call}
 use Rattle.blockdev.specs.View.{View}
 use Rattle.blockdev.specs.declared.device.BlockDev.{Ghosts}
 use Rattle.blockdev.specs.declared.message.MessageError.{MessageError}
 use Rattle.fault_layers.specs.Window.{SeenFrom}
-use Rattle.sector_disk.specs.declared.disk.SectorDisk.{SectorDisk}
 use Rattle.bio.specs.Content.{Content}
 use Rattle.layer_table.specs.declared.layer_spec.LayerSpec.{LayerSpec}
 use Rattle.layer_table.specs.declared.slot.Slot.{Slot}

@@ -1,5 +1,5 @@
 -- The definitions on lines: those that ask for a layer, and each first test that fails.
-use Rattle.std.proofs.Common.{◌≡◌, ◌||◌, List, ℕ, true, false, [], ◌∷◌, ◌++◌, Result, Ok, Err}
+use Rattle.std.proofs.Common.{◌≡◌, List, ℕ, [], ◌∷◌, ◌++◌, Result, Ok, Err}
 use Rattle.std.proofs.Common.{refl, sym, true≢false, arith}
 use Rattle.std.specs.Prelude.{codes, decimal}
 use Rattle.refusals.specs.Words.{words_of}

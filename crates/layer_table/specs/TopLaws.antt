@@ -1,5 +1,5 @@
 -- The effect of a call at the top of layers, by the rule of the top.
-use Rattle.std.proofs.Common.{◌≡◌, ℕ, List, [], ◌∷◌, length, Result, refl, ap, subst, sym, ◌∙◌}
+use Rattle.std.proofs.Common.{◌≡◌, ℕ, List, [], ◌∷◌, length, Result, refl, ap, subst, ◌∙◌}
 use Rattle.dust_layer.specs.declared.mode.Mode.{Mode}
 use Rattle.dust_layer.specs.BadBlocks.{Bad}
 use Rattle.bio.specs.declared.outcome.DevError.{DevError}

@@ -48,8 +48,8 @@ pub fn scripts_have_own_texts()
         → canonical_text plan ≡ canonical_text other → plan ≡ other }
 {}
 
-/// If an empty line or an ASCII comment without zero bytes is added to the lines of a script, they
-/// are lines of the same script. If an empty line or a comment is removed, they are too.
+/// Adding an empty line, or an ASCII comment without zero bytes, to the lines of a script keeps the
+/// script. So does removing an empty line or a comment.
 pub fn skipped_lines_say_nothing()
     ensures put_in { (before after : List (List ℕ)) (line : List ℕ) (plan : ScriptValue) →
         is_ascii_line line ≡ true → is_skipped line ≡ true →

@@ -137,8 +137,8 @@ body_refusal plan (body_lines.Step step) =
     test_refusal (step_answer (bytes_of plan.log_size) (top_of plan.data_disk) step)
 
 -- The refusal of a line of the head after the lines of `plan`, if there is one. Only a layer's line
--- is refused: if its table line asks for no layer, if the layer isn't within the device below it,
--- or if it has too few sectors.
+-- is refused. Its table line asks for no layer, the layer isn't within the device below it, or it
+-- has too few sectors.
 abbrev pub head_refusal : ScriptValue → HeadLine → Option Refusal
 head_refusal plan (head_lines.Data sectors) = None
 head_refusal plan (head_lines.Log sectors size) = None

@@ -260,8 +260,8 @@ data_line sectors = parsed_lines.Head (head_lines.Data sectors)
 abbrev pub log_line : ℕ → SectorSize → LineMeaning
 log_line sectors size = parsed_lines.Head (head_lines.Log sectors size)
 
--- The meanings of the lines of a head, in their order. They are the line of the data disk, the line
--- of the log disk, the layers of the data disk, and the layers of the log disk.
+-- The meanings of the lines of a head, in their order: the line of the data disk, then that of the
+-- log disk. Then come the layers of the data disk, and then those of the log disk.
 abbrev pub head_of : Disk → Disk → SectorSize → List LineMeaning
 head_of data_disk log_disk log_size =
     data_line data_disk.sectors ∷ log_line log_disk.sectors log_size

@@ -91,8 +91,8 @@ run_disk disks.Data plan = plan.data_disk
 run_disk disks.Log plan = plan.log_disk
 
 -- The refusal of a line of the head after the lines of `plan`, if there is one. Only a layer's line
--- is refused: if its table line asks for no layer, if the layer isn't within the device below it,
--- or if it has too few sectors.
+-- is refused. Its table line asks for no layer, the layer isn't within the device below it, or it
+-- has too few sectors.
 abbrev pub head_refusal : RunPlan → HeadLine → Option Refusal
 head_refusal plan (head_lines.Data sectors) = None
 head_refusal plan (head_lines.Log sectors size) = None

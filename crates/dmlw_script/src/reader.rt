@@ -238,10 +238,10 @@ impl Reader {
 /// A fault has the number of its line, from 1, and one of these refusals. If several fit, the first
 /// in this list is reported.
 ///
-/// `BadLine`: the line isn't of the grammar at its place. Some cases are less plain: a byte that is
-/// zero or not ASCII (also in a comment), and an `at` that decreases the time. Others are a layer's
-/// line out of its place, a fifth layer for one disk, and a text that ends inside the head (the
-/// fault is at the line after the last).
+/// `BadLine`: the line isn't of the grammar at its place. This includes a byte that is zero or not
+/// ASCII, also in a comment, and an `at` that decreases the time. It includes a layer's line out of
+/// its place, and a fifth layer for one disk. If the text ends inside the head, the fault is at the
+/// line after the last.
 ///
 /// `UnknownTarget`, `WrongCount`, `BadNumber`, `BadFeature` or `OutOfRange`: the table line of a
 /// layer asks for no layer.
@@ -250,7 +250,7 @@ impl Reader {
 ///
 /// `BadLine`: a layer of the log disk is shorter than a sector of the log.
 ///
-/// `BadId`: an id is submitted again, or isn't the id of an open request at its end.
+/// `BadId`: an id is submitted again, or the request that a line ends isn't open.
 ///
 /// `NotWhole`, `TooLong`, `PastEnd` or `Unaligned`: `bio::check_sized` refuses the sectors of a
 /// write, a discard or a read. It tests them for the top of the data disk and the size of the log's

@@ -156,11 +156,11 @@ impl RunReader {
 /// A fault has the number of its line, from 1, and one of these refusals. If several fit, the first
 /// in this list is reported.
 ///
-/// `BadLine`: the line isn't of the grammar at its place. Some cases are less plain: a byte that is
-/// zero or not ASCII (also in a comment), and a number of seats that isn't 1 to 64. Others are a
-/// layer's line out of its place or before the number of seats, and a fifth layer for one disk.
-/// Others are a seat that doesn't exist, and a text that ends inside the head (the fault is at the
-/// line after the last).
+/// `BadLine`: the line isn't of the grammar at its place. This includes a byte that is zero or not
+/// ASCII, also in a comment, and a seat that doesn't exist. It includes a number of seats that
+/// isn't 1 to 64, and a layer's line before the number of seats. It includes a layer's line out of
+/// its place, and a fifth layer for one disk. If the text ends inside the head, the fault is at the
+/// line after the last.
 ///
 /// `UnknownTarget`, `WrongCount`, `BadNumber`, `BadFeature` or `OutOfRange`: the table line of a
 /// layer asks for no layer.

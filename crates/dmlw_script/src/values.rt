@@ -8,7 +8,8 @@ use crate::line_error::LineError;
 use refusals::{Refusal, cut, number_of};
 use std::alloc::Global;
 
-/// Parses the picks of a crash. Each word is a number, and no words give no picks.
+/// Parses the picks of a crash; no words give no picks. Refuses a word that is no number as
+/// `BadLine`.
 pub(crate) fn picks_of(alloc: Global, words: Option<&[u8]>) -> Result<Vec<u64>, LineError>
     ensures picks { IfOk result
         (λ picks. the_picks (option_copied words.entry) ≡ Some picks.items) }

@@ -22,8 +22,8 @@ use Rattle.dmlw_script.specs.Plans.{is_disk_size, is_log_disk_size, is_within, l
 use Rattle.dmlw_script.specs.Plans.{top_of, Disk}
 use Rattle.dmlw_script.specs.FirstFault.{bare, with_layer}
 
--- how much was read, for a head that has come to this part, with these disks, log sectors of this
--- size, and these picks of a crash
+-- How much was read, for a head that has come to this part. The head has these disks and log
+-- sectors of this size, and the crash has these picks.
 abbrev pub stage_at : List ℕ → Disk → Disk → SectorSize → Part → Stage
 stage_at picks data_disk log_disk size parts.Nothing = heads.Empty
 stage_at picks data_disk log_disk size parts.Data = heads.Data data_disk

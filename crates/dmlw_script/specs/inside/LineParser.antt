@@ -40,8 +40,8 @@ submit name submission = parsed_lines.Body (body_lines.Submit name submission)
 abbrev pub step : Step → LineMeaning
 step it = parsed_lines.Body (body_lines.Step it)
 
--- Whether `word` is the first of the words, and the words that are left: those after `word`, or all
--- if it is not the first.
+-- Whether `word` is the first of the words, and which words are left. Those after `word` are left,
+-- or all if `word` is not the first.
 abbrev pub take_word : List ℕ → Option (List ℕ) → Bool × Option (List ℕ)
 take_word word None = (false, None)
 take_word word (Some words) =

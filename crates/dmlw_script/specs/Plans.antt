@@ -68,8 +68,8 @@ top_of disk = top_sectors disk.sectors disk.layers
 abbrev pub is_within : LayerSpec → ℕ → Bool
 is_within layer sectors = nat_le (layer.offset + layer.length) sectors
 
--- The disk may be in a script. It has an allowed size and at most four layers, and each layer is
--- within the device below it.
+-- The disk may be in a script. It has an allowed size and at most four layers. A table line can ask
+-- for each layer, and each is within the device below it.
 pub record IsDisk (disk : Disk) : Type 0 where
   pub size : is_disk_size disk.sectors ≡ true
   pub few : length disk.layers ≤ 4
@@ -191,9 +191,9 @@ ArePicks None = Unit {0}
 ArePicks (Some picks) = AllByRecursion (λ pick. pick < 2 ^ 64) picks
 
 -- The value is a script. Its disks may be in a script, and the top of the log disk has room for one
--- of the log's sectors. Its ids are ids and differ, and there is one for each submission. Each
--- command may follow those before it, on the top of the data disk. Each pick of its crash is below
--- 2^64.
+-- of the log's sectors. Each of its ids is an id, no two are the same, and there is one for each
+-- submission. Each command may follow those before it, on the top of the data disk. Each pick of
+-- its crash is below 2^64.
 pub record IsPlan (plan : ScriptValue) : Type 0 where
   pub data_disk : IsDisk plan.data_disk
   pub log_disk : IsDisk plan.log_disk

@@ -73,8 +73,8 @@ pub enum Step {
 pub enum Command {
     /// Submits the next request.
     Submit(Submission),
-    /// Ends a request. Its number is the number of submissions before its own. In a script the
-    /// request was submitted before, and hasn't ended.
+    /// Ends the request with the number `request`: the number of submissions before its submission.
+    /// In a script the request was submitted before, and hasn't ended.
     Complete { request: usize },
     /// A line that names no request.
     Step(Step),

@@ -53,8 +53,8 @@ abbrev pub found_options : Bool → Bool → Bool → Option (List ℕ) → Opti
 found_options flush fua meta None = Some (record { flush = flush; fua = fua; meta = meta })
 found_options flush fua meta (Some words) = None
 
--- The options of a write whose last words these are. None stands for no words. The options keep the
--- order flush, fua, meta.
+-- The options that the last words of a write give; None stands for no words. The options must be in
+-- the order flush, fua, meta.
 abbrev pub options_of : Option (List ℕ) → Option WriteOptions
 options_of words =
     let flush = take_word (codes "flush") words in

@@ -222,7 +222,8 @@ line_at names before (commands.Submit submission) =
 line_at names before (commands.Complete request) = body_lines.Complete (name_at names request)
 line_at names before (commands.Step step) = body_lines.Step step
 
--- the number of requests submitted once `command` is done, if `before` were submitted before it
+-- the number of requests submitted before the next command, if `before` were submitted before this
+-- command
 abbrev pub count_after_command : ℕ → Command → ℕ
 count_after_command before (commands.Submit submission) = before + 1
 count_after_command before (commands.Complete request) = before

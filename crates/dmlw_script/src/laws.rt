@@ -61,7 +61,7 @@ pub fn skipped_lines_say_nothing()
 
 /// `command_line` finds the line of each command of a script, and of the crash that ends it.
 /// `place` counts the commands from 0, and the crash comes after the last command. `says`: the line
-/// found has the meaning of the command or crash, and comes after the lines of the head and of the
+/// found has the meaning of the command or crash. It comes after the lines of the head and of the
 /// commands before `place`. `found`: a line is found for each command, and for the crash. `one`:
 /// only one line fits a place. `none`: no line is found for a later place.
 pub fn lines_are_those_of_commands()

@@ -113,8 +113,8 @@ fn push_submit(out: &mut Vec<u8>, name: ScriptId, submission: Submission) -> Res
     push_submission(out, submission)
 }
 
-// Returns the number of requests submitted once `command` is done, if `before` were submitted
-// before it.
+// Returns the number of requests submitted before the next command, if `before` were submitted
+// before `command`.
 fn submitted_after(before: usize, command: &Command) -> usize
     requires { before + 1 < 2 ^ 64 }
     ensures { result ≡ count_after_command before command.now }

@@ -1,4 +1,4 @@
--- Laws of a script's body: names of requests, and one more command after others.
+-- Laws of the body of a recorder's script: ids of requests, and one more command after others.
 -- `CanonicalTextLaws`, `RecorderFaults`, `RecorderLaws` and `RunLaws` cite it.
 use Rattle.std.proofs.Common.{◌≡◌, ℕ, ◌+◌, ◌<◌, true, false, cond, List, [], ◌∷◌, ◌++◌}
 use Rattle.std.proofs.Common.{length, get_or, Option, Some, None, Ok, Err, ⊎_elim, refl, ap, ◌∙◌}

@@ -1,4 +1,4 @@
--- The one text of a script is a text of it, and lines with line feeds make a text.
+-- The canonical text of a script is a text of the script, and lines with line feeds make a text.
 -- Serves the laws `each_script_has_a_text` and `lines_make_a_text`.
 use Rattle.std.proofs.Common.{◌≡◌, ◌≢◌, ℕ, ◌+◌, ◌^◌, ◌<◌, ◌≤◌, Bool, true, false}
 use Rattle.std.proofs.Common.{not, ◌&&◌, cond, List, [], ◌∷◌, ◌++◌, length, Option, Some, None, Ok}

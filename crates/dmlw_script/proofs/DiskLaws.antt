@@ -1,4 +1,4 @@
--- Laws of disks and their layers.
+-- Laws of disks and their layers: the number of sectors at the top, and one more layer.
 use Rattle.std.proofs.Common.{◌≡◌, ℕ, suc, ◌+◌, ◌-◌, ◌≤◌, ◌<◌, true, List, [], ◌∷◌, ◌++◌, length}
 use Rattle.std.proofs.Common.{Some, refl, ap, ◌∙◌, sym, arith}
 use Rattle.std.specs.Prelude.{nat_le, slice_get}

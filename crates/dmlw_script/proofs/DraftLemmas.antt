@@ -1,5 +1,5 @@
--- What one more command, request or end makes of a script's body that is read.
--- Serves the proofs of `BodyReader`'s `end`, `say` and `name_next`, and `BodyLaws`.
+-- How one more command, request or end changes the body that `BodyReader` has read. Serves the
+-- proofs of `BodyReader`'s `end`, `say` and `name_next`, and `BodyLaws` and `RecorderFaults`.
 use Rattle.std.proofs.Common.{◌≡◌, ℕ, zero, suc, ◌+◌, ◌<◌, Bool, true, false, ◌||◌, cond, List, []}
 use Rattle.std.proofs.Common.{◌∷◌, ◌++◌, length, Some, None, Ok, Err, refl, ap, ◌∙◌, sym, ⊎_elim}
 use Rattle.std.proofs.Common.{arith, set, get_or, get_or-set_same, get_or-set_other}

@@ -1,4 +1,4 @@
--- Definitions on texts, each by computation.
+-- Examples of the definitions about lines, disks and scripts, each proved by computation.
 use Rattle.std.proofs.Common.{◌≡◌, ℕ, Bool, true, false, None, Some, List, [], ◌∷◌, Err, Ok}
 use Rattle.std.proofs.Common.{refl, arith}
 use Rattle.std.specs.Prelude.{◌≤◌, ◌++◌, codes, decimal}

@@ -1,4 +1,4 @@
--- A text that a reader refuses has one first fault, and a script's text has none.
+-- If a reader refuses a text, the text has exactly one first fault. The text of a script has none.
 use Rattle.std.proofs.Common.{◌≡◌, ℕ, ◌+◌, ◌<◌, ◌≤◌, Bool, true, false, List, [], ◌∷◌, ◌++◌, length}
 use Rattle.std.proofs.Common.{Option, Some, None, Ok, Err, ◌⊎◌, inl, inr, ⊎_elim, refl, ap, ◌∙◌}
 use Rattle.std.proofs.Common.{sym, subst, arith, append_assoc}

@@ -1,4 +1,5 @@
--- The canonical text of fields has these fields. `CanonicalTextLaws` and `RunTextLaws` cite it.
+-- The canonical text of the fields of a line is a line with these fields. `CanonicalTextLaws`,
+-- `LineParserLaws`, `RunTextLaws` and `Spelling` cite it.
 use Rattle.std.proofs.Common.{◌≡◌, ℕ, ◌/◌, ◌%◌, ◌^◌, ◌<◌, Bool, true, false, not, List, []}
 use Rattle.std.proofs.Common.{◌∷◌, ◌++◌, Option, Some, None, refl, ap, sym, subst, arith}
 use Rattle.std.specs.Prelude.{◌-◌, ◌==◌, decimal, length, replicate}

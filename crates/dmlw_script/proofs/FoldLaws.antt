@@ -1,5 +1,5 @@
--- Laws of reading line by line, whatever is read of each:
--- reading goes on, ends in a value, or ends at a fault.
+-- Laws of reading line by line, with any step: reading goes on, ends in a value, or ends at a
+-- fault.
 use Rattle.std.proofs.Common.{◌≡◌, ℕ, ◌+◌, true, false, not, List, [], ◌∷◌, ◌++◌, length, Option}
 use Rattle.std.proofs.Common.{Bool, cond, Some, None, Ok, Err, refl, ap, ◌∙◌, sym, subst, arith}
 use Rattle.std.specs.Prelude.{map, Result}

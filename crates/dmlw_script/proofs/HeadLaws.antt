@@ -1,5 +1,5 @@
--- Laws of a head, which scripts of both kinds have: when a line of it is taken, why one is refused,
--- and that the lines of layers give them again.
+-- Laws of the head of a script, of both kinds. They say which lines of a head are read, why a line
+-- is refused, and that reading the lines of layers gives these layers.
 use Rattle.std.proofs.Common.{◌≡◌, ℕ, ◌+◌, ◌<◌, ◌≤◌, Bool, true, false, cond, List, [], ◌∷◌, ◌++◌}
 use Rattle.std.proofs.Common.{length, append_assoc, Option, Some, None, Ok, Err, ◌⊎◌, inl, inr}
 use Rattle.std.proofs.Common.{⊎_elim, refl, ap, ◌∙◌, sym, subst, arith}

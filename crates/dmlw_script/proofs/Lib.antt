@@ -1,4 +1,5 @@
--- The lemmas of `dmlw_script`; the proof of a function stands in the folder of its source file.
+-- The lemmas of `dmlw_script`. The proof of a function is in the folder that is named after its
+-- source file.
 mod Spelling
 mod RunSpelling
 pub mod DiskLaws

@@ -1,5 +1,5 @@
--- The first line of a text, and the shorter text after it.
--- Serves the proof of the reader's `next_line`.
+-- The first line of a text, and the text after it, which is shorter. Serves the proof of the
+-- reader's `next_line`, and `CanonicalTextLaws`.
 use Rattle.std.proofs.Common.{◌≡◌, ℕ, ◌<◌, ◌≤◌, Bool, true, false, cond, List, [], ◌∷◌, length}
 use Rattle.std.proofs.Common.{Option, Some, None, refl, ap, arith}
 use Rattle.std.specs.Prelude.{◌==◌, unwrap_or}

@@ -1,5 +1,6 @@
--- What is heard of a line is what it says by its fields, and the other way round; and its fields can
--- be written. `CanonicalTextLaws`, `RecorderLaws`, `RunLines` and `ScriptLaws` cite it.
+-- The parser finds a meaning of a line exactly if the line has the fields of this meaning. The
+-- fields of a meaning that the parser finds have a canonical text. The laws of texts and of readers
+-- of both kinds of scripts cite it.
 use Rattle.std.proofs.Common.{◌≡◌, ℕ, ◌+◌, ◌<◌, Bool, true, false}
 use Rattle.std.proofs.Common.{cond, List, [], ◌∷◌, Option, Some, None, ⊎_elim}
 use Rattle.std.proofs.Common.{refl, ap, subst, ◌∙◌, sym, arith}

@@ -1,4 +1,5 @@
--- What is known of a reader of scripts, and what follows of the texts that it reads.
+-- What the laws need to know of a reader of scripts (`Reader`), and what follows for the texts that
+-- it reads.
 use Rattle.std.proofs.Common.{◌≡◌, ℕ, Bool, true, false, not, List, [], ◌∷◌, ◌++◌, append_assoc}
 use Rattle.std.proofs.Common.{Option, Some, None, Ok, Err, ⊎_elim, refl, ap, ◌∙◌, sym, subst}
 use Rattle.std.specs.Prelude.{Result, IfOk}

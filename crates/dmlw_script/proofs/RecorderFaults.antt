@@ -1,4 +1,4 @@
--- Why a recorder's reader refuses a text, as `FaultLaws` asks for it.
+-- Why the reader of recorder's scripts refuses a text. These are the facts that `FaultLaws` needs.
 use Rattle.std.proofs.Common.{◌≡◌, ℕ, ◌+◌, ◌<◌, ◌≤◌, true, false, not, List, [], ◌∷◌}
 use Rattle.std.proofs.Common.{◌++◌, Option, Some, None, Ok, Err, ◌⊎◌, inl, inr, ⊎_elim, refl, ap}
 use Rattle.std.proofs.Common.{◌∙◌, sym, arith, append_assoc}

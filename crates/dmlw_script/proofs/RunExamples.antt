@@ -1,4 +1,4 @@
--- What some lines and texts of a run say, and which plans are a script's.
+-- Examples of run's scripts: the meanings of some lines and texts, and which values are scripts.
 use Rattle.std.proofs.Common.{◌≡◌, ℕ, List, [], ◌∷◌, ◌++◌, Some, None, Ok, Err, refl, arith}
 use Rattle.std.specs.Prelude.{codes}
 use Rattle.bio.specs.declared.sector_size.SectorSize.TheVariants as sizes

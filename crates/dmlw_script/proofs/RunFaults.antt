@@ -1,4 +1,4 @@
--- Why a run's reader refuses a text, as `FaultLaws` asks for it.
+-- Why the reader of run's scripts refuses a text. These are the facts that `FaultLaws` needs.
 use Rattle.std.proofs.Common.{◌≡◌, ℕ, ◌<◌, true, false, List, [], ◌∷◌, ◌++◌, Option, Some, None, Ok}
 use Rattle.std.proofs.Common.{Err, ◌⊎◌, inl, inr, ⊎_elim, refl, ap, ◌∙◌, sym}
 use Rattle.std.specs.Prelude.{Result, codes, map, nat_le, nat_lt}

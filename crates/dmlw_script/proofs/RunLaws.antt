@@ -1,4 +1,4 @@
--- What a run's reader has read, as `ReaderLaws` asks for it.
+-- What the reader of run's scripts has read. These are the facts that `ReaderLaws` needs.
 use Rattle.std.proofs.Common.{◌≡◌, ℕ, ◌≤◌, true, List, [], ◌∷◌, ◌++◌, append_assoc, Option, Some}
 use Rattle.std.proofs.Common.{None, Ok, refl, ap, ◌∙◌, sym, subst}
 use Rattle.std.specs.Prelude.{map, nat_le, nat_lt, Result}

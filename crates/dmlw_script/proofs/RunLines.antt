@@ -1,4 +1,5 @@
--- What is heard of a line of a run's script is what it says by its fields, and the other way round.
+-- The parser finds a meaning of a line of a run's script exactly if the line has the fields of this
+-- meaning.
 use Rattle.std.proofs.Common.{◌≡◌, ℕ, Bool, true, false, cond, List, [], ◌∷◌, ◌++◌, Option, Some}
 use Rattle.std.proofs.Common.{None, ⊎_elim, refl, ap, subst, ◌∙◌, sym}
 use Rattle.std.specs.Prelude.{◌==◌, codes}

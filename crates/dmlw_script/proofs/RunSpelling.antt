@@ -1,4 +1,5 @@
--- A run's head is spelled as a recorder's, but for the line of its seats.
+-- The canonical lines of a run's head are those of a recorder's head, and the line of the number of
+-- seats.
 use Rattle.std.proofs.Common.{◌≡◌, ℕ, List, [], ◌∷◌, ◌++◌, refl, ap, ◌∙◌, sym, append_assoc}
 use Rattle.std.specs.Prelude.{flat_map, map}
 use Rattle.std.proofs.lemmas.List.Concat.{flat_map-append}

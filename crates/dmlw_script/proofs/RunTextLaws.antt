@@ -1,4 +1,5 @@
--- The one text of a run's script is a text of it, and a text is one script's at most.
+-- The canonical text of a run's script is a text of the script. A text is the text of at most one
+-- run's script.
 use Rattle.std.proofs.Common.{◌≡◌, ℕ, ◌^◌, ◌<◌, ◌≤◌, List, Ok, refl, sym, subst, arith}
 use Rattle.std.specs.Prelude.{map}
 use Rattle.std.specs.List.{AllByRecursion}

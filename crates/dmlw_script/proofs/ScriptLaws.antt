@@ -1,5 +1,6 @@
--- Laws of whole scripts: their texts, skipped lines, the lines of commands, and ends of requests.
--- Serves `scripts_have_own_texts` and `requests_end_once`, among other laws of `laws.rt`.
+-- Laws of whole recorder's scripts: their texts, skipped lines, the lines of commands, and the ends
+-- of requests. Serves `scripts_have_own_texts` and `requests_end_once`, among other laws of
+-- `laws.rt`.
 use Rattle.std.proofs.Common.{◌≡◌, ℕ, zero, suc, ◌+◌, ◌<◌, ◌≤◌, Bool, true, false, not, ◌||◌, cond}
 use Rattle.std.proofs.Common.{List, [], ◌∷◌, ◌++◌, length, Option, Some, None, ⊎_elim, get_or, refl}
 use Rattle.std.proofs.Common.{ap, ◌∙◌, sym, subst, arith, append_assoc}

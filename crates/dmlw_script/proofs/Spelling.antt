@@ -1,4 +1,5 @@
--- The text of a script is that of its parts, one after another: `print_script` writes it in three.
+-- The canonical text of a script is the text of its head, its body and its ending, in this order.
+-- `print_script` writes it in these three parts.
 use Rattle.std.proofs.Common.{◌≡◌, ℕ, List, [], ◌∷◌, ◌++◌, Option, Some, None, refl, ap, ◌∙◌, sym}
 use Rattle.std.proofs.Common.{append_assoc}
 use Rattle.std.specs.Prelude.{decimal, flat_map, map}

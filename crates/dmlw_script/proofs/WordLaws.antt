@@ -1,4 +1,5 @@
--- Choices, and words: how a line is cut into them, and what is read as a number, an id or a byte.
+-- Laws of choices, and of words: how a line is split into words, and which word is read as a
+-- number, an id or a byte.
 use Rattle.std.proofs.Common.{◌≡◌, ℕ, ◌+◌, ◌-◌, ◌*◌, ◌/◌, ◌%◌, ◌<◌, Bool, true, false, ◌&&◌}
 use Rattle.std.proofs.Common.{cond, List, [], ◌∷◌, ◌++◌, Option, Some, None, ◌⊎◌, inl, inr}
 use Rattle.std.proofs.Common.{refl, ap, subst, ◌∙◌, sym, arith}

@@ -137,8 +137,9 @@ body_refusal plan (body_lines.Step step) =
     test_refusal (step_answer (bytes_of plan.log_size) (top_of plan.data_disk) step)
 
 -- The refusal of a line of the head after the lines of `plan`, if there is one. Only a layer's line
--- is refused: if its table line asks for no layer, if the layer isn't within the device below it,
--- or if it has too few sectors.
+-- is refused. If it asks for no layer, the refusal is the one for its table line. If the layer
+-- isn't within the device below it, the refusal is `OutOfRange`. If the layer has too few sectors,
+-- the refusal is `BadLine`.
 abbrev pub head_refusal : ScriptValue → HeadLine → Option Refusal
 head_refusal plan (head_lines.Data sectors) = None
 head_refusal plan (head_lines.Log sectors size) = None
@@ -172,7 +173,8 @@ FaultAfter before (line ∷ more) refusal =
     (BeginsScript (before ++ line ∷ []) → ⊥) × IsLineFault before line refusal
 
 -- `line` is the number, from 1, of the first line at fault, and `refusal` is why. The lines before
--- it are a prefix of a script. It is one more than the number of lines if the text ends too early.
+-- line `line` are a prefix of a script. If the text ends too early, `line` is one more than the
+-- number of lines.
 pub record IsFirstFault (lines : List (List ℕ)) (line : ℕ) (refusal : Refusal) : Type 0 where
   pub before : List (List ℕ)
   pub more : List (List ℕ)

@@ -23,8 +23,8 @@ abbrev pub IsTextOf : List ℕ → ScriptValue → Type 0
 IsTextOf text plan = AreLinesOf (lines_of text) plan
 
 -- Line `number`, counted from 1, has the meaning of the script's command `place`, counted from 0.
--- If `place` is the number of commands, the meaning is the crash. The unskipped lines before it are
--- as many as the lines of the head and `place` together.
+-- If `place` is the number of commands, the meaning is the crash. Before line `number` there are as
+-- many unskipped lines as the head has lines, and `place` more.
 pub record IsLineOf (lines : List (List ℕ)) (plan : ScriptValue) (place number : ℕ) : Type 0 where
   pub before : List (List ℕ)
   pub line : List ℕ

@@ -5,8 +5,8 @@ use Rattle.dmlw_script.specs.declared.line.BodyLine.{BodyLine}
 use Rattle.dmlw_script.specs.declared.line.Line.{Line}
 use Rattle.dmlw_script.specs.declared.line.Line.TheVariants as plain_lines
 
--- the meaning of a line of a recorder's script: a line of the head, a line of the body, or a crash
--- of the log disk with its picks
+-- The meaning of a line of a recorder's script. It is a line of the head, a line of the body, or a
+-- crash of the log disk with its picks.
 pub data LineMeaning : Type 0 where
   Head : HeadLine → LineMeaning
   Body : BodyLine → LineMeaning

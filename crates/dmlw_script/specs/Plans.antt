@@ -68,8 +68,8 @@ top_of disk = top_sectors disk.sectors disk.layers
 abbrev pub is_within : LayerSpec → ℕ → Bool
 is_within layer sectors = nat_le (layer.offset + layer.length) sectors
 
--- The disk may be in a script. It has an allowed size and at most four layers, and each layer is
--- within the device below it.
+-- The disk may be in a script. It has an allowed size and at most four layers. A table line can ask
+-- for each layer, and each is within the device below it.
 pub record IsDisk (disk : Disk) : Type 0 where
   pub size : is_disk_size disk.sectors ≡ true
   pub few : length disk.layers ≤ 4
@@ -191,9 +191,9 @@ ArePicks None = Unit {0}
 ArePicks (Some picks) = AllByRecursion (λ pick. pick < 2 ^ 64) picks
 
 -- The value is a script. Its disks may be in a script, and the top of the log disk has room for one
--- of the log's sectors. Its ids are ids and differ, and there is one for each submission. Each
--- command may follow those before it, on the top of the data disk. Each pick of its crash is below
--- 2^64.
+-- of the log's sectors. Each of its ids is an id, no two are the same, and there is one for each
+-- submission. Each command may follow those before it, on the top of the data disk. Each pick of
+-- its crash is below 2^64.
 pub record IsPlan (plan : ScriptValue) : Type 0 where
   pub data_disk : IsDisk plan.data_disk
   pub log_disk : IsDisk plan.log_disk
@@ -222,7 +222,8 @@ line_at names before (commands.Submit submission) =
 line_at names before (commands.Complete request) = body_lines.Complete (name_at names request)
 line_at names before (commands.Step step) = body_lines.Step step
 
--- the number of requests submitted once `command` is done, if `before` were submitted before it
+-- the number of requests submitted before the next command, if `before` were submitted before this
+-- command
 abbrev pub count_after_command : ℕ → Command → ℕ
 count_after_command before (commands.Submit submission) = before + 1
 count_after_command before (commands.Complete request) = before
@@ -260,8 +261,8 @@ data_line sectors = parsed_lines.Head (head_lines.Data sectors)
 abbrev pub log_line : ℕ → SectorSize → LineMeaning
 log_line sectors size = parsed_lines.Head (head_lines.Log sectors size)
 
--- The meanings of the lines of a head, in their order. They are the line of the data disk, the line
--- of the log disk, the layers of the data disk, and the layers of the log disk.
+-- The meanings of the lines of a head, in their order: the line of the data disk, then that of the
+-- log disk. Then come the layers of the data disk, and then those of the log disk.
 abbrev pub head_of : Disk → Disk → SectorSize → List LineMeaning
 head_of data_disk log_disk log_size =
     data_line data_disk.sectors ∷ log_line log_disk.sectors log_size

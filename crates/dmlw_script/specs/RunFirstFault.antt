@@ -91,8 +91,9 @@ run_disk disks.Data plan = plan.data_disk
 run_disk disks.Log plan = plan.log_disk
 
 -- The refusal of a line of the head after the lines of `plan`, if there is one. Only a layer's line
--- is refused: if its table line asks for no layer, if the layer isn't within the device below it,
--- or if it has too few sectors.
+-- is refused. If it asks for no layer, the refusal is the one for its table line. If the layer
+-- isn't within the device below it, the refusal is `OutOfRange`. If the layer has too few sectors,
+-- the refusal is `BadLine`.
 abbrev pub head_refusal : RunPlan → HeadLine → Option Refusal
 head_refusal plan (head_lines.Data sectors) = None
 head_refusal plan (head_lines.Log sectors size) = None
@@ -128,8 +129,8 @@ RunFaultAfter before (line ∷ more) refusal =
     (BeginsRun (before ++ line ∷ []) → ⊥) × IsRunLineFault before line refusal
 
 -- `line` is the number, from 1, of the first line at fault, and `refusal` is why. The lines before
--- it are a prefix of a run's script. It is one more than the number of lines if the text ends too
--- early.
+-- line `line` are a prefix of a run's script. If the text ends too early, `line` is one more than
+-- the number of lines.
 pub record IsFirstRunFault (lines : List (List ℕ)) (line : ℕ) (refusal : Refusal) : Type 0 where
   pub before : List (List ℕ)
   pub more : List (List ℕ)

@@ -15,8 +15,8 @@ use Rattle.dmlw_script.specs.Lines.{is_line_text}
 use Rattle.dmlw_script.specs.Plans.{submission_answer, top_of, Disk, IsDisk, WritesByte}
 use Rattle.layer_table.specs.declared.layer_spec.LayerSpec.{LayerSpec}
 
--- The value of a run's script: its disks, the size of the log's sectors, the number of seats, and
--- the calls of the seats in the order of the lines.
+-- The value of a run's script. `log_size` is the size of the log's sectors, and `seats` the number
+-- of seats. `calls` are the calls of the seats, in the order of the lines.
 pub record RunPlan : Type 0 where
   pub data_disk : Disk
   pub log_disk : Disk
@@ -63,9 +63,8 @@ data_layer spec = Head (head_lines.Layer disks.Data (Ok spec))
 abbrev pub log_layer : LayerSpec → RunLine
 log_layer spec = Head (head_lines.Layer disks.Log (Ok spec))
 
--- The meanings of the lines of a run's head, in their order. They are the line of the data disk,
--- the line of the log disk, the number of seats, the layers of the data disk, and the layers of the
--- log disk.
+-- The meanings of the lines of a run's head, in their order: the data disk, the log disk, and the
+-- number of seats. Then come the layers of the data disk, and then those of the log disk.
 abbrev pub run_head : RunPlan → List RunLine
 run_head plan =
     Head (head_lines.Data plan.data_disk.sectors) ∷ Head

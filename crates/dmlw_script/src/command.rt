@@ -57,9 +57,10 @@ pub enum Step {
     At {
         moment: Ms,
     },
-    /// A message to a layer over the disk `over`. Layers are counted from 1, the lowest. A script
-    /// need not have that layer, and its text may be any. In a script each byte of the text is
-    /// ASCII, and neither zero nor a line feed. The bytes are shared: cloning them takes no memory.
+    /// A message to a layer over the disk `over`. Layers are counted from 1, the lowest. Reading a
+    /// script doesn't check that the layer exists, or that it takes the message. In a script each
+    /// byte of the text is ASCII, and neither zero nor a line feed. The bytes are shared: cloning
+    /// them takes no memory.
     Message {
         over: DiskName,
         layer: u64,
@@ -72,8 +73,8 @@ pub enum Step {
 pub enum Command {
     /// Submits the next request.
     Submit(Submission),
-    /// Ends the request with this number: the count of submissions before its own. In a script it
-    /// was submitted before, and hasn't ended.
+    /// Ends the request with the number `request`: the number of submissions before its submission.
+    /// In a script the request was submitted before, and hasn't ended.
     Complete { request: usize },
     /// A line that names no request.
     Step(Step),

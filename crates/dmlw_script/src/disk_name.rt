@@ -1,6 +1,6 @@
 // The two disks of a script.
 
-/// A disk of a script.
+/// The name of a disk of a script.
 #[derive(Clone, Copy, Debug, PartialEq, Eq)]
 pub enum DiskName {
     /// The disk that is recorded.

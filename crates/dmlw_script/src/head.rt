@@ -107,8 +107,9 @@ impl Head {
     }
 }
 
-// Puts the layer that a line asks for on top of a disk. Refuses a fifth layer, one that is not
-// within the device below it, and one with fewer than `least` sectors.
+// Puts the layer that a line asks for on top of a disk. Refuses a fifth layer, and a line that asks
+// for no layer. Also refuses a layer that isn't within the device below it, or has fewer than
+// `least` sectors.
 fn push_layer(
     disk: &mut DiskSpec,
     asked: Result<LayerSpec, TableError>,

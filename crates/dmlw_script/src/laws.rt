@@ -1,4 +1,4 @@
-//! Laws of the grammar, which name no code. Each function does nothing; its clauses are the law.
+//! Laws of the grammar only, not of the code. Each function does nothing; its clauses are the law.
 ghost use Rattle.std.specs.Prelude.{◌≡◌, ◌≢◌, ◌<◌, ◌≤◌, ◌+◌, ◌++◌, ◌∷◌, ◌⊎◌, [], None, Some};
 ghost use Rattle.std.specs.Prelude.{true, ℕ, List};
 ghost use Rattle.std.specs.List.{AllByRecursion};
@@ -48,8 +48,8 @@ pub fn scripts_have_own_texts()
         → canonical_text plan ≡ canonical_text other → plan ≡ other }
 {}
 
-/// If an empty line or an ASCII comment without zero bytes is added to the lines of a script, they
-/// are lines of the same script. If an empty line or a comment is removed, they are too.
+/// Adding an empty line, or an ASCII comment without zero bytes, to the lines of a script keeps the
+/// script. So does removing an empty line or a comment.
 pub fn skipped_lines_say_nothing()
     ensures put_in { (before after : List (List ℕ)) (line : List ℕ) (plan : ScriptValue) →
         is_ascii_line line ≡ true → is_skipped line ≡ true →
@@ -60,10 +60,10 @@ pub fn skipped_lines_say_nothing()
 {}
 
 /// `command_line` finds the line of each command of a script, and of the crash that ends it.
-/// `place` counts the commands from 0; the crash has the place after the last command. `says`: the
-/// line found has the command's meaning, after the lines of the head and of the commands before it.
-/// `found`: each command has a line, and so has the crash. `one`: it has only one. `none`: there is
-/// no line for a later place.
+/// `place` counts the commands from 0, and the crash comes after the last command. `says`: the line
+/// found has the meaning of the command or crash. It comes after the lines of the head and of the
+/// commands before `place`. `found`: a line is found for each command, and for the crash. `one`:
+/// only one line fits a place. `none`: no line is found for a later place.
 pub fn lines_are_those_of_commands()
     ensures says { (text : List ℕ) (plan : ScriptValue) (place number : ℕ) → IsTextOf text plan →
         command_line text (place + head_count plan) ≡ Some number

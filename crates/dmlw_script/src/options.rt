@@ -6,8 +6,8 @@ ghost use Rattle.dmlw_script.specs.inside.LineParser.{take_word as the_taking};
 use crate::command::WriteOptions;
 use refusals::cut;
 
-/// Parses the last words of a write, if there are any. Each option may be left out, and no other
-/// word may follow. Returns None otherwise.
+/// Parses the last words of a write, if there are any. Each option may be left out. Returns None if
+/// any other word is left.
 pub(crate) fn options_of(words: Option<&[u8]>) -> Option<WriteOptions>
     ensures { result ≡ the_options (option_copied words.entry) }
 {
@@ -20,8 +20,8 @@ pub(crate) fn options_of(words: Option<&[u8]>) -> Option<WriteOptions>
     }
 }
 
-// Returns whether `word` is the first of the words, and the words that are left: those after
-// `word`, or all if it is not the first.
+// Returns whether `word` is the first of the words. Also returns the words that are left: those
+// after `word`, or all if it is not the first.
 fn take_word<'a>(words: Option<&'a [u8]>, word: &[u8]) -> (bool, Option<&'a [u8]>)
     ensures stands { result.0 ≡ (the_taking word.now (option_copied words.entry)).0 }
     ensures left { option_copied result.1 ≡ (the_taking word.now (option_copied words.entry)).1 }

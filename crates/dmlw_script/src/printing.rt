@@ -17,14 +17,15 @@ use crate::submissions::{push_submission, push_word};
 use refusals::push_number;
 use std::alloc::{AllocError, Global};
 
-/// Returns the canonical text of a script: no comments, no empty lines, no leading zeroes, and a
-/// line feed after each line. Reading it gives the same script.
+/// Returns the canonical text of a recorder's script: no comments, no empty lines, no leading
+/// zeroes, and a line feed after each line. Reading it gives the same script, unless memory runs
+/// out.
 pub fn print_script(alloc: Global, script: &Script) -> Result<Vec<u8>, AllocError>
     ensures spelled { IfOk result (λ text. text.items ≡ canonical_text script.now) }
-    // The result is a text of this script, and so is read as it.
+    // The result is a text of this script (so `read_script` reads it as this script).
     ensures again { IfOk result (λ text. IsTextOf text.items script.now) }
 {
-    // For the prover.
+    // For the prover: the canonical text of a script is a text of it.
     crate::laws::each_script_has_a_text();
     let mut out = Vec::new(alloc);
     push_head(&mut out, script.data(), script.log(), script.log_size())?;
@@ -33,7 +34,7 @@ pub fn print_script(alloc: Global, script: &Script) -> Result<Vec<u8>, AllocErro
     Ok(out)
 }
 
-// Appends the line of the crash that ends a script, if one does.
+// Appends the line of the crash that ends the script, if one does.
 fn push_ending(out: &mut Vec<u8>, script: &Script) -> Result<(), AllocError>
     ensures { OnOk result (out.new.items ≡ out.old.items ++ ending_text script.now.ending) }
 {
@@ -43,7 +44,7 @@ fn push_ending(out: &mut Vec<u8>, script: &Script) -> Result<(), AllocError>
     }
 }
 
-// Appends the line of a crash.
+// Appends the line of a crash with these picks.
 fn push_crash(out: &mut Vec<u8>, picks: &[u64]) -> Result<(), AllocError>
     ensures { OnOk result (out.new.items
         ≡ out.old.items ++ ended_line (parsed_lines.Crash picks.now)) }
@@ -53,7 +54,7 @@ fn push_crash(out: &mut Vec<u8>, picks: &[u64]) -> Result<(), AllocError>
     Ok(())
 }
 
-// Appends the line of a crash, without its line feed.
+// Appends the line of a crash with these picks, without its line feed.
 fn push_picks(out: &mut Vec<u8>, picks: &[u64]) -> Result<(), AllocError>
     ensures { OnOk result (out.new.items
         ≡ out.old.items ++ line_text (parsed_lines.Crash picks.now)) }
@@ -81,7 +82,7 @@ fn push_body(out: &mut Vec<u8>, script: &Script) -> Result<(), AllocError>
     Ok(())
 }
 
-// Appends the line of a command, if `before` requests were submitted before it.
+// Appends the line of a command. `before` requests were submitted before it.
 fn push_command(
     out: &mut Vec<u8>,
     names: &[ScriptId],
@@ -112,7 +113,8 @@ fn push_submit(out: &mut Vec<u8>, name: ScriptId, submission: Submission) -> Res
     push_submission(out, submission)
 }
 
-// Returns the number of requests submitted after a command, if it was `before` before it.
+// Returns the number of requests submitted before the next command, if `before` were submitted
+// before `command`.
 fn submitted_after(before: usize, command: &Command) -> usize
     requires { before + 1 < 2 ^ 64 }
     ensures { result ≡ count_after_command before command.now }

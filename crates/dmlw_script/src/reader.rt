@@ -1,4 +1,4 @@
-//! Reads the text of a recorder's script: `read_script` returns the script, or the first line at
+//! Reads the text of a recorder's script. `read_script` returns the script, or the first line at
 //! fault.
 ghost use Rattle.std.specs.Prelude.{◌≡◌, ◌<◌, ◌∷◌, [], None, IfErr, IfOk, MatchOption, OnOk};
 ghost use Rattle.std.specs.Prelude.{length, option_copied, option_map};
@@ -25,13 +25,13 @@ use bio::Bytes;
 use refusals::{Fault, Refusal, cut};
 use std::alloc::{AllocError, Global};
 
-// A script, as far as it was read.
+// A recorder's script, as far as it was read.
 #[derive(Drop)]
 struct Reader {
     alloc: Global,
     head: Head,
     draft: BodyReader,
-    // The picks of the crash that ended the script, if one did.
+    // The picks of the crash that ended the script; empty if none did.
     picks: Vec<u64>,
 }
 
@@ -73,8 +73,8 @@ impl Reader {
         self.read_words(verb, words)
     }
 
-    // Reads a line that isn't skipped and was already split into its first word and the other
-    // words, if it has any.
+    // Reads a line that isn't skipped. `verb` is its first word, and `words` are the other words,
+    // if it has any.
     fn read_words(&mut self, verb: &[u8], words: Option<&[u8]>) -> Result<(), LineError>
         requires { IsReader self.old }
         ensures reader { OnOk result (IsReader self.new) }
@@ -93,8 +93,8 @@ impl Reader {
         }
     }
 
-    // Reads a line that isn't skipped and is no crash, no mark and no message, and was already
-    // split.
+    // Reads a line that isn't skipped, and is no crash, no mark and no message. `verb` and `words`
+    // are as in `read_words`.
     fn read_plain(&mut self, verb: &[u8], words: Option<&[u8]>) -> Result<(), LineError>
         requires { IsReader self.old }
         ensures reader { OnOk result (IsReader self.new) }
@@ -133,7 +133,7 @@ impl Reader {
         Ok(())
     }
 
-    // Reads a mark with this text, if there is a space after its first word.
+    // Reads a mark with this text; None stands for a line with no space after `mark`.
     fn read_mark(&mut self, text: Option<&[u8]>) -> Result<(), LineError>
         requires { IsReader self.old }
         ensures reader { OnOk result (IsReader self.new) }
@@ -149,7 +149,7 @@ impl Reader {
         }
     }
 
-    // Reads a message with these words: its disk, layer and text.
+    // Reads a message with these words: the name of a disk, the number of a layer, and the text.
     fn read_message(&mut self, words: Option<&[u8]>) -> Result<(), LineError>
         requires { IsReader self.old }
         ensures reader { OnOk result (IsReader self.new) }
@@ -165,7 +165,7 @@ impl Reader {
         })))
     }
 
-    // Reads the next line that isn't skipped, and is no crash.
+    // Reads the next line, which has the meaning `parsed`.
     fn read_parsed(&mut self, parsed: Line) -> Result<(), LineError>
         requires { IsReader self.old }
         ensures reader { OnOk result (IsReader self.new) }
@@ -207,7 +207,7 @@ impl Reader {
         }
     }
 
-    // Ends the text, and returns the script.
+    // Returns the script, or `BadLine` if the text ends before the lines of both disks.
     fn finish(self) -> Result<Script, LineError>
         requires { IfOk (finish_step (progress_of self)) IsPlan }
         ensures { Finishes result (finish_step (progress_of self)) }
@@ -232,29 +232,43 @@ impl Reader {
     }
 }
 
-/// Reads a text, in time linear in its length; nothing is read after a fault.
+/// Reads the text of a recorder's script, in time linear in its length. Nothing is read after the
+/// first fault.
 ///
-/// The faults of a line are, in this order: `BadLine` if it isn't of the grammar at its place (also
-/// in a comment, if a byte is zero or not ASCII; at an `at` that goes back; at a layer's line out
-/// of its place, or a fifth one for its disk; and after the last line, if the head isn't whole);
-/// `UnknownTarget`, `WrongCount`, `BadNumber`, `BadFeature` or `OutOfRange` if the table line of a
-/// layer asks for none; `OutOfRange` if a layer isn't within the device below it; `BadLine` if a
-/// layer of the log disk is shorter than a sector of the log; `BadId` if an id is submitted again
-/// or isn't open at its end; and `NotWhole`, `TooLong`, `PastEnd` or `Unaligned` if
-/// `bio::check_sized` refuses the sectors of a write, a discard or a read for the top of the data
-/// disk and the log's sector size. Lack of memory is `Memory`, and names no line.
+/// A fault has the number of its line, from 1, and one of these refusals. If several fit, the first
+/// in this list is reported.
+///
+/// `BadLine`: the line isn't of the grammar at its place. This includes a byte that is zero or not
+/// ASCII, also in a comment, and an `at` that decreases the time. It includes a layer's line out of
+/// its place, and a fifth layer for one disk. If the text ends inside the head, the fault is at the
+/// line after the last.
+///
+/// `UnknownTarget`, `WrongCount`, `BadNumber`, `BadFeature` or `OutOfRange`: the table line of a
+/// layer asks for no layer.
+///
+/// `OutOfRange`: a layer isn't within the device below it.
+///
+/// `BadLine`: a layer of the log disk is shorter than a sector of the log.
+///
+/// `BadId`: an id is submitted again, or the request that a line ends isn't open.
+///
+/// `NotWhole`, `TooLong`, `PastEnd` or `Unaligned`: `bio::check_sized` refuses the sectors of a
+/// write, a discard or a read. It tests them for the top of the data disk and the size of the log's
+/// sectors.
+///
+/// If memory runs out, the refusal is `Memory`, and the fault has no line.
 pub fn read_script(alloc: Global, text: &[u8]) -> Result<Script, Fault>
-    // The result is a recorder's script, and this is a text of it.
+    // If the result is a script, the text is a text of this script.
     ensures found { IfOk result (λ script. IsTextOf text.now script) }
-    // A text of a script is read, unless memory runs out.
+    // If the text is a text of a script, the result is this script, or memory ran out.
     ensures only { (plan : ScriptValue) → IsTextOf text.now plan → IsReadAs plan result }
-    // A fault is reported with the first line at which no continuation is a script.
+    // A fault names the first line at fault, or reports that memory ran out.
     ensures fault { IfErr result (λ fault. IsFaultOf text.now fault fault.line) }
 {
     read(alloc, text)
 }
 
-// Reads the lines of a text in turn.
+// Reads the lines of a text in turn, up to the first fault.
 fn read(alloc: Global, text: &[u8]) -> Result<Script, Fault>
     ensures { Reads result (read_text text.now) }
 {
@@ -274,14 +288,14 @@ fn read(alloc: Global, text: &[u8]) -> Result<Script, Fault>
     }
 }
 
-/// Returns the text in memory of its own; clones of it take no more memory.
+/// Returns a copy of the text; cloning the copy takes no more memory.
 pub(crate) fn shared_text(alloc: Global, text: &[u8]) -> Result<Bytes, AllocError>
     ensures { IfOk result (λ shared. shared ≡ text.now) }
 {
     Bytes::from_vec(text.to_vec(alloc)?).into_shared()
 }
 
-/// Returns the next line and the text after it, if there is a line.
+/// Returns the first line of the text and the text after it; None if the text is empty.
 pub(crate) fn next_line(text: &[u8]) -> Option<(&[u8], &[u8])>
     ensures { MatchOption result (text.now ≡ []) (λ next.
         (lines_of text.now ≡ next.0.now ∷ lines_of next.1.now)
@@ -297,7 +311,7 @@ pub(crate) fn next_line(text: &[u8]) -> Option<(&[u8], &[u8])>
     }
 }
 
-/// Returns the fault for an error at a line.
+/// Returns the fault that reports an error at a line; out of memory names no line.
 pub(crate) fn fault_at(line: u64, error: LineError) -> Fault
     ensures { result ≡ fault_of line error }
 {
@@ -313,14 +327,14 @@ pub(crate) fn fault_at(line: u64, error: LineError) -> Fault
     }
 }
 
-/// Returns whether a script's text may have a line of these bytes.
+/// Returns whether each byte of a line is ASCII, and not zero.
 pub(crate) fn is_ascii_line(line: &[u8]) -> bool
     ensures { result ≡ is_plain_line line.now }
 {
     line.iter().all(|byte| 0 < *byte && *byte < 128)
 }
 
-/// Returns whether a line is empty, or a comment.
+/// Returns whether a line is empty, or a comment: its first byte is `#`.
 pub(crate) fn is_skipped(line: &[u8]) -> bool
     ensures { result ≡ is_a_skipped_line line.now }
 {
@@ -330,10 +344,10 @@ pub(crate) fn is_skipped(line: &[u8]) -> bool
     }
 }
 
-/// Returns the number, counted from 1, of the line at this place, or none if the text has no such
-/// line. A place counts the lines of a text that aren't skipped, those of the head included. The
-/// place of a command's line is `head_lines` more than the command's own place, and the crash's
-/// line is after that of the last command. Takes no memory, and one pass over the text.
+/// Returns the number, from 1, of the unskipped line at the index `place`; None if the text has no
+/// such line. `place` counts the unskipped lines from 0, those of the head included. For a script,
+/// the place of a command's line is `head_lines` more than the index of the command. The crash's
+/// line comes after that of the last command. The call takes no memory, and one pass over the text.
 pub fn line_of(text: &[u8], place: usize) -> Option<u64>
     ensures { result ≡ command_line text.now place }
 {

@@ -1,4 +1,4 @@
-//! The meaning of a line of a run's script by its words.
+//! Parses a line of a run's script. The result depends only on the words of the line.
 ghost use Rattle.std.specs.Prelude.{◌≡◌, IfErr, IfOk, Some, option_copied};
 ghost use Rattle.dmlw_script.specs.inside.RunLineParser.{call_of as the_call, mark_call};
 ghost use Rattle.dmlw_script.specs.inside.RunLineParser.{parse_run_line, run_head_line};
@@ -26,7 +26,7 @@ pub(crate) enum RunLine {
     Body(SeatCall),
 }
 
-/// Parses a line that isn't skipped.
+/// Parses a line of a run's script that isn't skipped. Refuses a line with no meaning as `BadLine`.
 pub(crate) fn run_line_of(alloc: Global, line: &[u8]) -> Result<RunLine, LineError>
     ensures said { IfOk result (λ said. parse_run_line line.now ≡ Some said) }
     ensures none { IfErr result (λ error. IsNoRunLine error (parse_run_line line.now)) }
@@ -39,7 +39,7 @@ pub(crate) fn run_line_of(alloc: Global, line: &[u8]) -> Result<RunLine, LineErr
     }
 }
 
-// Parses a line of the head with this first word and these other words.
+// Parses a line of the head with the first word `verb` and the other words `words`.
 fn head_line_of(verb: &[u8], words: &[u8]) -> Option<RunLine>
     ensures { result ≡ run_head_line verb.now words.now }
 {
@@ -50,7 +50,7 @@ fn head_line_of(verb: &[u8], words: &[u8]) -> Option<RunLine>
     }
 }
 
-// Parses a line of the body with this first word and these other words.
+// Parses a line of the body: `verb` is its seat, and `words` are the words of the call.
 fn seat_line_of(alloc: Global, verb: &[u8], words: &[u8]) -> Result<RunLine, LineError>
     ensures said { IfOk result (λ said. seat_line verb.now words.now ≡ Some said) }
     ensures none { IfErr result (λ error. IsNoRunLine error (seat_line verb.now words.now)) }
@@ -61,7 +61,7 @@ fn seat_line_of(alloc: Global, verb: &[u8], words: &[u8]) -> Result<RunLine, Lin
     Ok(RunLine::Body(SeatCall { seat, call }))
 }
 
-// Parses the name of a seat: `s` and its number.
+// Parses the word of a seat: `s` and its number.
 fn seat_of(word: &[u8]) -> Option<u64>
     ensures { result ≡ the_seat word.now }
 {
@@ -71,7 +71,8 @@ fn seat_of(word: &[u8]) -> Option<u64>
     }
 }
 
-// Parses the call of a seat with this first word and these other words, if there are any.
+// Parses the call of a seat: `verb` is its first word, and `words` are the other words, if there
+// are any.
 fn call_of(alloc: Global, verb: &[u8], words: Option<&[u8]>) -> Result<Call, LineError>
     ensures said { IfOk result (λ call. the_call verb.now (option_copied words.entry) ≡ Some call) }
     ensures none { IfErr result
@@ -84,7 +85,7 @@ fn call_of(alloc: Global, verb: &[u8], words: Option<&[u8]>) -> Result<Call, Lin
     Ok(Call::Submit(submission))
 }
 
-// Parses a mark with this text, if there is a space after the first word.
+// Parses a mark with this text; None stands for a call with no space after `mark`.
 fn mark_of(alloc: Global, text: Option<&[u8]>) -> Result<Call, LineError>
     ensures said { IfOk result (λ call. mark_call (option_copied text.entry) ≡ Some call) }
     ensures none { IfErr result (λ error. IsUnread error (mark_call (option_copied text.entry))) }

@@ -1,4 +1,4 @@
-//! Prints a run's script as its canonical text.
+//! Prints a run's script: `print_run_script` returns its canonical text.
 ghost use Rattle.std.specs.Prelude.{◌≡◌, ◌++◌, flat_map, map, IfOk, OnOk};
 ghost use Rattle.dmlw_script.specs.RunGrammar.{IsRunText};
 ghost use Rattle.dmlw_script.specs.RunPlans.{run_head};
@@ -14,13 +14,13 @@ use crate::submissions::{push_submission, push_word};
 use std::alloc::{AllocError, Global};
 
 /// Returns the canonical text of a run's script: no comments, no empty lines, no leading zeroes,
-/// and a line feed after each line. Reading it gives the same script.
+/// and a line feed after each line. Reading it gives the same script, unless memory runs out.
 pub fn print_run_script(alloc: Global, script: &RunScript) -> Result<Vec<u8>, AllocError>
     ensures spelled { IfOk result (λ text. text.items ≡ run_text script.now) }
-    // The result is a text of this script, and so is read as it.
+    // The result is a text of this script (so `read_run_script` reads it as this script).
     ensures again { IfOk result (λ text. IsRunText text.items script.now) }
 {
-    // For the prover.
+    // For the prover: the canonical text of a run's script is a text of it.
     crate::laws::each_run_script_has_a_text();
     let mut out = Vec::new(alloc);
     push_run_head(&mut out, script)?;
@@ -28,7 +28,7 @@ pub fn print_run_script(alloc: Global, script: &RunScript) -> Result<Vec<u8>, Al
     Ok(out)
 }
 
-// Appends the lines of a run's head.
+// Appends the lines of a run's head: the disks, the number of seats, and the layers.
 fn push_run_head(out: &mut Vec<u8>, script: &RunScript) -> Result<(), AllocError>
     ensures { OnOk result (out.new.items
         ≡ out.old.items ++ flat_map ended_run_line (run_head script.now)) }
@@ -76,7 +76,7 @@ fn push_seat_call(out: &mut Vec<u8>, line: &SeatCall) -> Result<(), AllocError>
     Ok(())
 }
 
-// Appends the words of a call.
+// Appends the words of a call, after its seat and a space.
 fn push_call(out: &mut Vec<u8>, call: &Call) -> Result<(), AllocError>
     ensures { OnOk result (out.new.items ≡ out.old.items ++ text_of (call_fields call.now)) }
 {

@@ -1,4 +1,5 @@
-//! Reads a script of `dmlw run`.
+//! Reads the text of a run's script. `read_run_script` returns the script, or the first line at
+//! fault.
 ghost use Rattle.std.specs.Prelude.{IfErr, IfOk};
 ghost use Rattle.bio.specs.Sizes.{bytes_of};
 ghost use Rattle.dmlw_script.specs.RunGrammar.{IsRunText};
@@ -28,7 +29,7 @@ const MAX_SEATS: u64 = 64;
 struct RunReader {
     alloc: Global,
     head: Head,
-    // The number of seats, after their line was read.
+    // The number of seats; None until its line is read.
     seats: Option<u64>,
     calls: Vec<SeatCall>,
 }
@@ -68,7 +69,7 @@ impl RunReader {
         self.read_said(said)
     }
 
-    // Reads the next line that isn't skipped, with this meaning.
+    // Reads the next line, which has the meaning `said`.
     fn read_said(&mut self, said: RunLine) -> Result<(), LineError>
         ensures { Follows result (run_progress self.new) (said_step (run_progress self.old) said) }
     {
@@ -79,7 +80,8 @@ impl RunReader {
         }
     }
 
-    // Reads the next line of the head, which isn't that of the seats.
+    // Reads the next line of the head, which isn't the number of seats. No layer may come before
+    // the number of seats, or after a line of the body.
     fn read_head(&mut self, line: HeadLine) -> Result<(), LineError>
         ensures { Follows result (run_progress self.new)
             (run_head_step (run_progress self.old) line) }
@@ -88,7 +90,7 @@ impl RunReader {
         self.head.read(self.alloc, line, closed)
     }
 
-    // Reads the number of seats.
+    // Reads the line of the number of seats: 1 to 64, only once, and after the lines of both disks.
     fn read_seats(&mut self, count: u64) -> Result<(), LineError>
         ensures { Follows result (run_progress self.new)
             (seats_line (run_progress self.old).head self.old.seats (run_progress self.old) count) }
@@ -102,7 +104,7 @@ impl RunReader {
         }
     }
 
-    // Reads the next line of the body.
+    // Reads the next line of the body. Its seat must be below the number of seats.
     fn read_call(&mut self, line: SeatCall) -> Result<(), LineError>
         ensures { Follows result (run_progress self.new)
             (call_line (run_progress self.old).head self.old.seats (run_progress self.old) line) }
@@ -121,7 +123,8 @@ impl RunReader {
         }
     }
 
-    // Ends the text, and returns the script.
+    // Returns the script, or `BadLine` if the text ends before the lines of both disks and of the
+    // number of seats.
     fn finish(self) -> Result<RunScript, LineError>
         requires { IfOk (run_finish_step (run_progress self)) IsRunPlan }
         ensures { Finishes result (run_finish_step (run_progress self)) }
@@ -147,29 +150,42 @@ impl RunReader {
     }
 }
 
-/// Reads a run's text, in time linear in its length; nothing is read after a fault.
+/// Reads the text of a run's script, in time linear in its length. Nothing is read after the first
+/// fault.
 ///
-/// The faults of a line are, in this order: `BadLine` if it isn't of the grammar at its place (also
-/// in a comment, if a byte is zero or not ASCII; at a number of seats that isn't 1 to 64; at a
-/// layer's line before that of the seats, out of its place, or a fifth one for its disk; at a line
-/// of a seat that doesn't exist; and after the last line, if the head isn't whole);
-/// `UnknownTarget`, `WrongCount`, `BadNumber`, `BadFeature` or `OutOfRange` if the table line of a
-/// layer asks for none; `OutOfRange` if a layer isn't within the device below it; `BadLine` if a
-/// layer of the log disk is shorter than a sector of the log; and `NotWhole`, `TooLong`, `PastEnd`
-/// or `Unaligned` if `bio::check_sized` refuses the sectors of a write or a discard for the top of
-/// the data disk and the log's sector size. Lack of memory is `Memory`, and names no line.
+/// A fault has the number of its line, from 1, and one of these refusals. If several fit, the first
+/// in this list is reported.
+///
+/// `BadLine`: the line isn't of the grammar at its place. This includes a byte that is zero or not
+/// ASCII, also in a comment, and a seat that doesn't exist. It includes a number of seats that
+/// isn't 1 to 64, and a layer's line before the number of seats. It includes a layer's line out of
+/// its place, and a fifth layer for one disk. If the text ends inside the head, the fault is at the
+/// line after the last.
+///
+/// `UnknownTarget`, `WrongCount`, `BadNumber`, `BadFeature` or `OutOfRange`: the table line of a
+/// layer asks for no layer.
+///
+/// `OutOfRange`: a layer isn't within the device below it.
+///
+/// `BadLine`: a layer of the log disk is shorter than a sector of the log.
+///
+/// `NotWhole`, `TooLong`, `PastEnd` or `Unaligned`: `bio::check_sized` refuses the sectors of a
+/// write or a discard. It tests them for the top of the data disk and the size of the log's
+/// sectors.
+///
+/// If memory runs out, the refusal is `Memory`, and the fault has no line.
 pub fn read_run_script(alloc: Global, text: &[u8]) -> Result<RunScript, Fault>
-    // The result is a run's script, and this is a text of it.
+    // If the result is a script, the text is a text of this script.
     ensures found { IfOk result (λ script. IsRunText text.now script) }
-    // A text of a script is read, unless memory runs out.
+    // If the text is a text of a run's script, the result is this script, or memory ran out.
     ensures only { (plan : RunPlan) → IsRunText text.now plan → IsReadAsRun plan result }
-    // A fault is reported with the first line with which no run's script can go on.
+    // A fault names the first line at fault, or reports that memory ran out.
     ensures fault { IfErr result (λ fault. IsRunFaultAt text.now fault fault.line) }
 {
     read_run(alloc, text)
 }
 
-// Reads the lines of a text in turn.
+// Reads the lines of a text in turn, up to the first fault.
 fn read_run(alloc: Global, text: &[u8]) -> Result<RunScript, Fault>
     ensures { Reads result (read_run_text text.now) }
 {
@@ -189,8 +205,8 @@ fn read_run(alloc: Global, text: &[u8]) -> Result<RunScript, Fault>
     }
 }
 
-// Checks the sectors that a call covers, on a disk of `sectors` sectors, with a log with sectors of
-// `log_size`.
+// Checks the sectors that a call covers, for a disk of `sectors` sectors and log sectors of the
+// size `log_size`.
 fn check_call(call: &Call, sectors: u64, log_size: SectorSize) -> Result<(), LineError>
     ensures { Follows result tt (as_refusal (call_answer (bytes_of log_size) sectors call.now)) }
 {

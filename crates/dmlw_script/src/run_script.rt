@@ -1,4 +1,4 @@
-//! A run's script: its disks, its seats, and their calls.
+//! A run's script: its disks, its number of seats, and the calls of the seats.
 ghost use Rattle.std.specs.Prelude.{◌≡◌, ◌/◌, ◌≤◌};
 
 use crate::disk::DiskSpec;
@@ -45,7 +45,7 @@ impl RunScript {
     ghost use Rattle.dmlw_script.specs.Plans.{top_of};
     ghost use Rattle.dmlw_script.specs.RunPlans.{IsRunPlan};
 
-    /// Makes the script of these parts.
+    /// Makes the script with these parts.
     pub(crate) fn new(
         data_disk: DiskSpec,
         log_disk: DiskSpec,
@@ -77,7 +77,7 @@ impl RunScript {
         }
     }
 
-    /// Returns the data disk, of 1 to 1,048,576 sectors, with up to four layers.
+    /// Returns the data disk. It has 1 to 1,048,576 sectors, and up to four layers.
     pub fn data(&self) -> &DiskSpec
         ensures disk { result.now ≡ self.now.data_disk }
         ensures script { IsRunPlan self.now }
@@ -85,7 +85,7 @@ impl RunScript {
         &self.data_disk
     }
 
-    /// Returns the log disk, of 1 to 1,048,576 sectors, with up to four layers. Its top has room
+    /// Returns the log disk. It has 1 to 1,048,576 sectors, and up to four layers. Its top has room
     /// for one of the log's sectors.
     pub fn log(&self) -> &DiskSpec
         ensures disk { result.now ≡ self.now.log_disk }
@@ -94,8 +94,8 @@ impl RunScript {
         &self.log_disk
     }
 
-    /// Returns the size of the log's sectors: 512 bytes, or 4,096. One of them fits on the top of
-    /// the log disk.
+    /// Returns the size of the log's sectors: 512 or 4,096 bytes. The top of the log disk has room
+    /// for one of them.
     pub fn log_size(&self) -> SectorSize
         ensures size { result ≡ self.now.log_size }
         ensures room { bytes_of result / 512 ≤ top_of self.now.log_disk }

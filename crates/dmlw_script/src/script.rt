@@ -1,4 +1,4 @@
-//! A script that was read: its disks, its commands, and the crash that ends it, if one does.
+//! A recorder's script: its disks, its commands, and the crash that ends it, if one does.
 ghost use Rattle.std.specs.Prelude.{◌≡◌, ◌≤◌, ◌/◌, option_copied, option_map};
 
 use crate::command::Command;
@@ -8,7 +8,7 @@ use bio::SectorSize;
 use indexmap::IndexSet;
 use std::marker::Model;
 
-/// A script of the grammar. Contracts see it as a `ScriptValue` (`specs/Plans`), and each value
+/// A recorder's script. Contracts see it as a `ScriptValue` (`specs/Plans`), and each value
 /// satisfies `IsPlan`.
 #[derive(Debug, Drop)]
 pub struct Script {
@@ -50,7 +50,7 @@ impl Script {
     ghost use Rattle.bio.specs.Sizes.{bytes_of};
     ghost use Rattle.dmlw_script.specs.Plans.{head_count, top_of, IsPlan};
 
-    /// Makes the script of these parts.
+    /// Makes the script with these parts.
     pub(crate) fn new(
         data_disk: DiskSpec,
         log_disk: DiskSpec,
@@ -86,7 +86,7 @@ impl Script {
         }
     }
 
-    /// Returns the data disk, of 1 to 1,048,576 sectors, with up to four layers.
+    /// Returns the data disk. It has 1 to 1,048,576 sectors, and up to four layers.
     pub fn data(&self) -> &DiskSpec
         ensures disk { result.now ≡ self.now.data_disk }
         ensures script { IsPlan self.now }
@@ -94,7 +94,7 @@ impl Script {
         &self.data_disk
     }
 
-    /// Returns the log disk, of 1 to 1,048,576 sectors, with up to four layers. Its top has room
+    /// Returns the log disk. It has 1 to 1,048,576 sectors, and up to four layers. Its top has room
     /// for one of the log's sectors.
     pub fn log(&self) -> &DiskSpec
         ensures disk { result.now ≡ self.now.log_disk }
@@ -103,8 +103,8 @@ impl Script {
         &self.log_disk
     }
 
-    /// Returns the size of the log's sectors: 512 bytes, or 4,096. One of them fits on the top of
-    /// the log disk.
+    /// Returns the size of the log's sectors: 512 or 4,096 bytes. The top of the log disk has room
+    /// for one of them.
     pub fn log_size(&self) -> SectorSize
         ensures size { result ≡ self.now.log_size }
         ensures room { bytes_of result / 512 ≤ top_of self.now.log_disk }
@@ -112,8 +112,7 @@ impl Script {
         self.log_size
     }
 
-    /// Returns the number of lines of the head, 2 to 10: those of both disks, and one for each
-    /// layer.
+    /// Returns the number of lines of the head, 2 to 10: one for each disk, and one for each layer.
     pub fn head_lines(&self) -> usize
         ensures lines { result ≡ head_count self.now }
         ensures few { result ≤ 10 }
@@ -121,8 +120,8 @@ impl Script {
         2 + self.data_disk.layers().len() + self.log_disk.layers().len()
     }
 
-    /// Returns the ids in the order of their submissions: a request's number is the place of its
-    /// id.
+    /// Returns the ids in the order of their submissions. The number of a request is the index of
+    /// its id.
     pub fn names(&self) -> &[ScriptId]
         ensures names { result.now ≡ self.now.names }
         ensures script { IsPlan self.now }
@@ -130,7 +129,7 @@ impl Script {
         self.names.as_slice()
     }
 
-    /// Returns the lines of the body, without a crash.
+    /// Returns the commands, one for each line of the body. The crash is not among them.
     pub fn commands(&self) -> &[Command]
         ensures commands { result.now ≡ self.now.commands }
         ensures script { IsPlan self.now }
@@ -138,8 +137,8 @@ impl Script {
         self.commands.as_slice()
     }
 
-    /// Returns the picks of the crash of the log disk that ends the script, or none if no crash
-    /// does.
+    /// Returns the picks of the crash of the log disk that ends the script; None if no crash ends
+    /// it.
     pub fn crash(&self) -> Option<&[u64]>
         ensures picks { option_copied result ≡ self.now.ending }
         ensures script { IsPlan self.now }

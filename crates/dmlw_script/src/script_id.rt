@@ -1,4 +1,4 @@
-//! The id by which a script's lines name a request.
+//! The id by which the lines of a recorder's script name a request.
 ghost use Rattle.std.specs.Prelude.{◌≡◌, ◌≤◌, Some, length};
 ghost use Rattle.std.specs.List.{list_all};
 ghost use Rattle.dmlw_script.specs.Ids.{is_name_byte as is_id_byte, is_id as is_an_id};
@@ -20,7 +20,7 @@ pub struct ScriptId {
 }
 
 impl ScriptId {
-    /// Returns the id of a word, if it is one.
+    /// Returns the id that a word is, if it is one.
     pub(crate) fn of_word(word: &[u8]) -> Option<ScriptId>
         ensures { result ≡ id_of_word word.now }
     {
@@ -31,7 +31,7 @@ impl ScriptId {
         }
     }
 
-    // Returns the characters, with zeroes after them.
+    // Returns the id with the characters of `word`.
     fn padded(word: &[u8]) -> ScriptId
         requires { length word.now ≤ 16 }
         ensures { result ≡ script_id word.now }

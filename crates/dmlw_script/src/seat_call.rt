@@ -5,16 +5,14 @@ use bio::Bytes;
 /// The call of a seat.
 #[derive(Debug, Drop)]
 pub enum Call {
-    /// Submits a request. In a script its sectors are in
-    /// the same range as in a script of a recorder.
+    /// Submits a request. In a script its sectors are limited as those of a recorder's script are.
     Submit(Submission),
-    /// Adds a mark with this text, which may be empty, to the log. In a script its bytes are those
-    /// of a line: ASCII, no zero byte and no line feed. They are shared: a clone of them takes no
-    /// memory.
+    /// Adds a mark with this text, which may be empty, to the log. In a script each byte is ASCII,
+    /// and neither zero nor a line feed. The bytes are shared: cloning them takes no memory.
     Mark { text: Bytes },
 }
 
-/// One line of a run's body.
+/// One line of the body of a run's script.
 #[derive(Debug, Drop)]
 pub struct SeatCall {
     /// The seat, counted from 0. In a script it is below the number of seats.

@@ -1,4 +1,4 @@
-//! Prints the lines that are no submissions: ends, marks, turns, times and messages.
+//! Prints the lines that name no request: reads, turns, marks, times, messages and closes.
 ghost use Rattle.std.specs.Prelude.{◌≡◌, ◌++◌, ◌∷◌, codes, decimal, OnOk};
 ghost use Rattle.dmlw_script.specs.Fields.{step_fields, text_of};
 
@@ -21,7 +21,8 @@ pub(crate) fn push_step(out: &mut Vec<u8>, step: &Step) -> Result<(), AllocError
     }
 }
 
-// Appends the line of a mark, without its line feed; after a seat, the seat's call.
+// Appends a mark with this text, without a line feed: a line of a recorder's script, or the call of
+// a seat.
 pub(crate) fn push_mark(out: &mut Vec<u8>, text: &[u8]) -> Result<(), AllocError>
     ensures { OnOk result (out.new.items ≡ out.old.items ++ (codes "mark " ++ text.now)) }
 {
@@ -45,7 +46,7 @@ fn push_message(
     }
 }
 
-// Appends a line's first words and space, a number, and a text after a space.
+// Appends `verb`, a number, a space and a text. `verb` ends with a space if one is wanted.
 fn push_valued(out: &mut Vec<u8>, verb: &[u8], number: u64, text: &[u8]) -> Result<(), AllocError>
     ensures { OnOk result (out.new.items
         ≡ out.old.items ++ (verb.now ++ (decimal number ++ 32 ∷ text.now))) }

@@ -1,4 +1,5 @@
-//! Prints what a line submits.
+//! Prints the words of a submission: its first word, its sectors, and the byte and options of a
+//! write.
 ghost use Rattle.std.specs.Prelude.{◌≡◌, ◌<◌, ◌++◌, OnOk};
 ghost use Rattle.dmlw_script.specs.Fields.{option_fields, option_text, submission_fields};
 ghost use Rattle.dmlw_script.specs.Fields.{submission_word, text_after};
@@ -19,8 +20,8 @@ pub(crate) fn push_word(out: &mut Vec<u8>, submission: Submission) -> Result<(),
     }
 }
 
-// Appends what is submitted, after the first word or the id: its sectors, and a write's byte and
-// options.
+// Appends the words of a submission that follow its first word and its id, each after a space. They
+// are the sectors, and the byte and options of a write.
 pub(crate) fn push_submission(out: &mut Vec<u8>, submission: Submission) -> Result<(), AllocError>
     ensures { OnOk result (out.new.items
         ≡ out.old.items ++ text_after (submission_fields submission)) }
@@ -42,7 +43,7 @@ pub(crate) fn push_submission(out: &mut Vec<u8>, submission: Submission) -> Resu
     }
 }
 
-// Appends a write's options, each after a space.
+// Appends the options that a write has, each after a space.
 fn push_options(out: &mut Vec<u8>, options: WriteOptions) -> Result<(), AllocError>
     ensures { OnOk result (out.new.items ≡ out.old.items ++ text_after (option_fields options)) }
 {
@@ -51,7 +52,7 @@ fn push_options(out: &mut Vec<u8>, options: WriteOptions) -> Result<(), AllocErr
     push_option(out, options.meta, b" meta")
 }
 
-// Appends an option with the space before it, if it is given.
+// Appends `text`, which begins with a space, if the option is given.
 fn push_option(out: &mut Vec<u8>, given: bool, text: &[u8]) -> Result<(), AllocError>
     ensures { OnOk result (out.new.items ≡ out.old.items ++ option_text given text.now) }
 {
@@ -62,7 +63,7 @@ fn push_option(out: &mut Vec<u8>, given: bool, text: &[u8]) -> Result<(), AllocE
     }
 }
 
-// Appends a byte as two hexadecimal digits.
+// Appends a byte as two lower case hexadecimal digits.
 fn push_byte(out: &mut Vec<u8>, byte: u8) -> Result<(), AllocError>
     ensures { OnOk result (out.new.items ≡ out.old.items ++ byte_text byte) }
 {
@@ -71,7 +72,7 @@ fn push_byte(out: &mut Vec<u8>, byte: u8) -> Result<(), AllocError>
     Ok(())
 }
 
-// Returns the lower case hexadecimal digit of a value.
+// Returns the lower case hexadecimal digit of a value below 16.
 fn hex_digit(half: u8) -> u8
     requires { half < 16 }
     ensures { result ≡ the_hex_digit half }

@@ -1,4 +1,4 @@
-//! The values in words of a line: the picks of a crash, and a byte.
+//! Parses values in the words of a line: the picks of a crash, and a byte.
 ghost use Rattle.std.specs.Prelude.{◌≡◌, IfErr, IfOk, Some, option_copied};
 ghost use Rattle.dmlw_script.specs.inside.Readers.{HasNoPicks};
 ghost use Rattle.dmlw_script.specs.inside.LineParser.{picks_of as the_picks};
@@ -8,7 +8,8 @@ use crate::line_error::LineError;
 use refusals::{Refusal, cut, number_of};
 use std::alloc::Global;
 
-/// Parses the picks in these words, if there are any: each a number.
+/// Parses the picks of a crash; no words give no picks. Refuses a word that is no number as
+/// `BadLine`.
 pub(crate) fn picks_of(alloc: Global, words: Option<&[u8]>) -> Result<Vec<u64>, LineError>
     ensures picks { IfOk result
         (λ picks. the_picks (option_copied words.entry) ≡ Some picks.items) }
@@ -38,7 +39,7 @@ pub(crate) fn byte_of(word: &[u8]) -> Option<u8>
     }
 }
 
-// Returns the value of a lower case hexadecimal digit.
+// Returns the value of a lower case hexadecimal digit; None for any other byte.
 fn half_of(digit: u8) -> Option<u8>
     ensures { result ≡ half_of digit }
 {

@@ -49,12 +49,13 @@ abbrev pub ◌>>=◌ : {A B : Type 0} → Result A Refusal → (A → Result B R
 abbrev pub with_command : Body → Command → Body
 with_command b command = record b { body = b.body ++ command ∷ [] }
 
--- the body with the id of the next request, if no request has this id yet; `BadId` if one has
+-- The body with the id `name` for the next request. The first argument is the request that already
+-- has this id; if there is one, `BadId`.
 abbrev pub named_next : Option ℕ → Body → ScriptId → Result Body Refusal
 named_next (Some request) b name = Err BadId
 named_next None b name = Ok (record b { names = b.names ++ name ∷ [] })
 
--- as `named_next`, which gets the number of the request with this id, if there is one
+-- the body with the id `name` for the next request, or `BadId` if a request already has this id
 abbrev pub with_name : Body → ScriptId → Result Body Refusal
 with_name b name = named_next (request_of name b.names) b name
 
@@ -69,8 +70,8 @@ abbrev pub step_test : (bytes sectors moment : ℕ) → Step → Result (Unit {0
 step_test bytes sectors moment (steps.At later) = if nat_lt later moment then Err BadLine else Ok tt
 step_test bytes sectors moment step = as_refusal (step_answer bytes sectors step)
 
--- The body with the end of a request, if the request is open. If its id was never submitted (None)
--- or it has ended, `BadId`.
+-- The body with the end of a request. The first argument is the request, or None if the id was
+-- never submitted. If it is None, or the request has ended, `BadId`.
 abbrev pub ended_next : Option ℕ → Body → Result Body Refusal
 ended_next None b = Err BadId
 ended_next (Some request) b =

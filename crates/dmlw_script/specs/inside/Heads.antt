@@ -1,4 +1,4 @@
--- What the reader does with each line of a head, step by step.
+-- What the readers of both kinds of scripts do with each line of a head, step by step.
 use Rattle.std.specs.Prelude.{ℕ, Bool, true, false, ◌∷◌, [], List, Result, Ok, Err, length, nat_le}
 use Rattle.std.specs.Prelude.{nat_lt, if◌then◌else◌}
 use Rattle.bio.specs.Sizes.{bytes_of}
@@ -22,8 +22,8 @@ use Rattle.dmlw_script.specs.Plans.{is_disk_size, is_log_disk_size, is_within, l
 use Rattle.dmlw_script.specs.Plans.{top_of, Disk}
 use Rattle.dmlw_script.specs.FirstFault.{bare, with_layer}
 
--- how much was read, for a head that has come to this part, with these disks, log sectors of this
--- size, and these picks of a crash
+-- How much was read, for a head that has come to this part. The head has these disks and log
+-- sectors of this size, and the crash has these picks.
 abbrev pub stage_at : List ℕ → Disk → Disk → SectorSize → Part → Stage
 stage_at picks data_disk log_disk size parts.Nothing = heads.Empty
 stage_at picks data_disk log_disk size parts.Data = heads.Data data_disk
@@ -34,19 +34,19 @@ stage_at picks data_disk log_disk size parts.Ended = heads.Ended data_disk log_d
 abbrev pub stage_of : List ℕ → Head → Stage
 stage_of picks head = stage_at picks head.data_disk head.log_disk head.log_size head.part
 
--- the disk with one more layer, which must have at least `least` sectors
+-- the disk with one more layer; `BadLine` if the layer has fewer than `least` sectors
 abbrev pub long_layer : (least : ℕ) → Disk → LayerSpec → Result Disk Refusal
 long_layer least disk spec =
     if nat_le least spec.length then Ok (with_layer disk spec) else Err BadLine
 
--- The disk with one more layer: the one that a table line asks for. The layer must be within the
--- device below it, and have at least `least` sectors.
+-- The disk with the layer that a table line asks for. The layer must be within the device below it
+-- (otherwise `OutOfRange`), and have at least `least` sectors.
 abbrev pub asked_layer : (least : ℕ) → Disk → Result LayerSpec TableError → Result Disk Refusal
 asked_layer least disk (Err error) = Err (table_refusal error)
 asked_layer least disk (Ok spec) =
     if is_within spec (top_of disk) then long_layer least disk spec else Err OutOfRange
 
--- as `asked_layer`, but a disk that has four layers gets no more
+-- the disk with one more layer, as in `asked_layer`; `BadLine` if the disk already has four layers
 abbrev pub layer_step : (least : ℕ) → Disk → Result LayerSpec TableError → Result Disk Refusal
 layer_step least disk asked =
     if nat_lt (length disk.layers) 4 then asked_layer least disk asked else Err BadLine
@@ -59,15 +59,16 @@ with_data read log_disk size = read >>= λ data_disk. Ok (heads.Whole data_disk 
 abbrev pub with_log : Disk → Result Disk Refusal → SectorSize → Result Stage Refusal
 with_log data_disk read size = read >>= λ log_disk. Ok (heads.Whole data_disk log_disk size)
 
--- the head with one more layer over the data disk; the log disk's layers, which are the first
--- argument, must be none
+-- The head with one more layer over the data disk. The first argument is the layers of the log
+-- disk; if there are any, `BadLine`.
 abbrev pub data_layer : List LayerSpec → Disk → Disk → SectorSize → Result LayerSpec TableError
     → Result Stage Refusal
 data_layer [] data_disk log_disk size asked =
     with_data (layer_step (least_sectors disks.Data size) data_disk asked) log_disk size
 data_layer (layer ∷ layers) data_disk log_disk size asked = Err BadLine
 
--- the head with one more layer; the first argument says whether no layer may follow any more
+-- the head with one more layer over the disk `over`; `BadLine` if the first argument is true, so
+-- that no layer may follow
 abbrev pub layer_in : Bool → Disk → Disk → SectorSize → DiskName → Result LayerSpec TableError
     → Result Stage Refusal
 layer_in true data_disk log_disk size over asked = Err BadLine

@@ -40,8 +40,8 @@ submit name submission = parsed_lines.Body (body_lines.Submit name submission)
 abbrev pub step : Step → LineMeaning
 step it = parsed_lines.Body (body_lines.Step it)
 
--- Whether `word` is the first of the words, and the words that are left: those after `word`, or all
--- if it is not the first.
+-- Whether `word` is the first of the words, and which words are left. Those after `word` are left,
+-- or all if `word` is not the first.
 abbrev pub take_word : List ℕ → Option (List ℕ) → Bool × Option (List ℕ)
 take_word word None = (false, None)
 take_word word (Some words) =
@@ -53,8 +53,8 @@ abbrev pub found_options : Bool → Bool → Bool → Option (List ℕ) → Opti
 found_options flush fua meta None = Some (record { flush = flush; fua = fua; meta = meta })
 found_options flush fua meta (Some words) = None
 
--- The options of a write whose last words these are. None stands for no words. The options keep the
--- order flush, fua, meta.
+-- The options that the last words of a write give; None stands for no words. The options must be in
+-- the order flush, fua, meta.
 abbrev pub options_of : Option (List ℕ) → Option WriteOptions
 options_of words =
     let flush = take_word (codes "flush") words in

@@ -21,8 +21,8 @@ use Rattle.dmlw_script.specs.inside.RunLineParser.{parse_run_line}
 use Rattle.dmlw_script.specs.inside.Stages.{Stage}
 use Rattle.dmlw_script.specs.inside.Stages as heads
 
--- a run's script, as far as it was read: its head, the number of seats, if its line was read, and
--- the lines of its body
+-- A run's script, as far as it was read. `seats` is None until the line of the number of seats is
+-- read. `calls` are the lines of the body.
 pub record RunProgress : Type 0 where
   pub head : Stage
   pub seats : Option ℕ

@@ -4,7 +4,7 @@ use Rattle.std.specs.Fmt.{HasWritten, IsPlainFormatter}
 use Rattle.std.specs.List.{flat_map}
 use Rattle.dmlw_script.proofs.script_id.ScriptIdDisplay.fmt.Given as goal
 
--- the characters so far are written
+-- If the formatter is plain, the characters before the current one have been written.
 abbrev pub invariant-loop-letter : goal.invariant-loop-letter
 invariant-loop-letter g l =
     IsPlainFormatter l.initial.f

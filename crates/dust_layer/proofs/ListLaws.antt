@@ -1,4 +1,4 @@
--- What calls and messages leave of the list, the mode and the counts, by what is said that they do.
+-- How calls and messages change the list, the mode and the counts, by what the specs say of them.
 use Rattle.std.proofs.Common.{◌≡◌, ℕ, ◌+◌, ◌-◌, ◌/◌, ◌*◌, ◌<◌, ◌≤◌, Bool, true, false, Ok, Err}
 use Rattle.std.proofs.Common.{List, length, Some, None, refl, subst, inl, inr, ◌∙◌, arith}
 use Rattle.std.specs.Prelude.{Result, is_some, nat_lt}

@@ -1,5 +1,5 @@
-//! A device over any other one that has bad blocks: reading or writing there fails, until it is
-//! written well.
+//! `Dust`, a device with bad blocks over any other device. In one of its two modes, bad blocks fail
+//! calls. A write or a discard that succeeds removes its blocks from the list of bad blocks.
 #![tactic(auto)]
 
 pub use dust::Dust;

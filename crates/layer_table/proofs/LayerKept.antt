@@ -1,5 +1,4 @@
--- What messages leave of a stack's layers, and what a layer
--- that was put shows, by what is said of them.
+-- What a message keeps of a stack, by `StackAnswers`. What a new layer shows, by `IsPut`.
 use Rattle.std.proofs.Common.{◌≡◌, ℕ, ◌+◌, ◌≤◌, List, [], Ok, refl, inl, inr, arith}
 use Rattle.std.specs.Prelude.{◌↔◌, Result}
 use Rattle.blockdev.specs.Calls.{Call}

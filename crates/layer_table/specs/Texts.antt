@@ -8,7 +8,7 @@ use Rattle.layer_table.specs.declared.layer_spec.LayerSpec.{LayerSpec}
 use Rattle.fault_layers.specs.declared.target.Target.{Target}
 use Rattle.fault_layers.specs.declared.target.Target.TheVariants as targets
 
--- the words of a feature, with no count if there is none
+-- the words of a feature: the count 1 and a name, or nothing if there is no feature
 abbrev pub feature_words : Feature → List (List ℕ)
 feature_words features.None = []
 feature_words features.ErrorReads = codes "1" ∷ codes "error_reads" ∷ []

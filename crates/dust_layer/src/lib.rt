@@ -1,5 +1,6 @@
 //! `Dust`, a device with bad blocks over any other device. In one of its two modes, bad blocks fail
-//! calls. A write or a discard that succeeds removes its blocks from the list of bad blocks.
+//! calls. In that mode, a block leaves the list of bad blocks if a write or a discard of it
+//! succeeds.
 #![tactic(auto)]
 
 pub use dust::Dust;

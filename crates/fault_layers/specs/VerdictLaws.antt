@@ -102,7 +102,8 @@ ends_at_once old new (Writes first bytes fua) now end (same, past) = same
 ends_at_once old new (Discards first count) now end (same, past) = same
 ends_at_once old new Flushes now end (same, past) = cc
 
--- If a delayed call of a disk in memory ends Ok, it ends later than `now` by the delay of its kind.
+-- If a delayed call of a disk in memory ends Ok, it ends at `now` plus the delay of its kind
+-- (`later_by`).
 pub ends_later : {K : Type 0} (old new : Gated SectorDisk K) (delays : Delays) (call : Call)
     (now end : ℕ)
     → IsDecided (delay_verdict delays (kind_of call) now)

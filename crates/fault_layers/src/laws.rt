@@ -23,8 +23,8 @@ pub fn gates_drop_only_writes()
         → drops_writes (loaded_after gate kind now).target ≡ drops_writes gate.target }
 {}
 
-/// If a call of a delay layer over a disk in memory ends Ok, it ends at `now` plus its delay, at
-/// most 2^64 - 1. The disk itself ends each call at once.
+/// Let a call of a delay layer over a disk in memory end Ok. Then it ends at `now` plus its delay,
+/// at most 2^64 - 1. The disk itself ends each call at once.
 #[tactic(auto, using(crate::specs::VerdictLaws::ends_later))]
 pub fn delayed_calls_of_a_disk_end_just_later()
     ensures { (old new : Gated SectorDisk AsDelay) (delays : Delays) (call : Call) (now end : ℕ)

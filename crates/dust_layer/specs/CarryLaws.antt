@@ -16,8 +16,8 @@ use Rattle.dust_layer.specs.Walk.{begin_of, blocks_of, part_of, ByBlock, DoesPar
 abbrev pub Doing : Type 0 → Type 1
 Doing D = D → Call → ℕ → Result ℕ DevError → D → Type 0
 
--- Let `fine` hold for `old`. Then each call from `old` to `new` is also a call from `f old` to `f
--- new`, and `fine` holds for `new`.
+-- Each call from `old` to `new` is a call from `f old` to `f new`, if `fine` holds for `old`. In
+-- that case `fine` holds for `new` too.
 abbrev pub IsCarried : {D E : Type 0} → Doing D → Doing E → (D → Type 0) → (D → E) → Type 0
 IsCarried {D} {E} does other fine f =
     (old : D) (call : Call) (now : ℕ) (result : Result ℕ DevError) (new : D) → fine old

@@ -1,5 +1,5 @@
--- The orders that a device with bad blocks takes as messages: the words that ask for each, its
--- answers, and the state after it.
+-- The orders that a device with bad blocks takes as messages. For each order: the words that ask
+-- for it, the answers, and the state after it.
 use Rattle.std.specs.Prelude.{◌≡◌, ℕ, ◌*◌, ◌<◌, ◌≤◌, Bool, true, false, List, [], ◌∷◌, Some, None}
 use Rattle.std.specs.Prelude.{Result, Ok, Err, codes, is_some}
 use Rattle.std.specs.List.{join_with_byte}

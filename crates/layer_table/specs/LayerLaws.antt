@@ -25,7 +25,8 @@ use Rattle.layer_table.specs.SlotLaws.{decided_keeps, dusted_keeps, slot_kept, I
 
 -- ---- views
 
--- the view of a slot is that of its layer over the view of the device below
+-- The view of a slot is the view of its layers over the base's view, given the same for the device
+-- below.
 pub shown_with : {D : Type 0} {g : Ghosts D} (layers : D → List Layer) (base : D → View)
     → ((device : D) → g.shown device ≡ layers_over (layers device) (base device))
     → (slot : Slot D g) → slot_shown slot

@@ -5,7 +5,7 @@ use Rattle.layer_table.specs.declared.layer_spec.LayerSpec.{LayerSpec}
 use Rattle.fault_layers.specs.Verdicts.{drops_writes}
 use Rattle.layer_table.specs.Ranges.{IsLayerSpec}
 
--- the sectors of the top of these layers, over a device of `sectors` sectors
+-- the number of sectors of the top layer, or `sectors` if there is no layer
 abbrev pub top_sectors : ℕ → List LayerSpec → ℕ
 top_sectors sectors [] = sectors
 top_sectors sectors (layer ∷ layers) = top_sectors layer.length layers

@@ -185,7 +185,7 @@ pub record IsPartOf (v w : View) : Type 0 where
   pub crash : (left : Content) → v.crash left
       → (seen : Content) × w.crash seen
       × ((sector : ℕ) → seen sector ≡ left (w.place.origin + sector))
-  -- the two clocks have the same reading
+  -- the clocks of `v` and `w` have the same reading
   pub moment : w.moment ≡ v.moment
   -- For each content of the disk that a crash since a reading of the clock may leave, `w` may be
   -- left with its part. `w` may be left with no other contents.
@@ -267,8 +267,8 @@ DoesAtTop does (layer ∷ layers) disk call now result (after ∷ others) new =
     (record { layers = others; disk = new }) layer after
     × (after.offset ≡ layer.offset) × (after.length ≡ layer.length)
 
--- The effect of a call on `count` layers over a disk: at the top, then below it shifted by its
--- offset, and so on down to the disk.
+-- The effect of a call on `count` layers over a disk. The top layer does the call by its rule.
+-- Calls to the layers below are shifted by the top's offset.
 abbrev pub CountedLayersDo : ℕ → Under → Call → ℕ → Result ℕ DevError → Under → Type 0
 CountedLayersDo zero old call now result new =
     (old.layers ≡ []) × (new.layers ≡ []) × Does old.disk call now result new.disk

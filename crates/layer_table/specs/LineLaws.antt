@@ -155,7 +155,7 @@ feature_are features.ErrorReads = (refl, (refl, tt))
 feature_are features.ErrorWrites = (refl, (refl, tt))
 feature_are features.DropWrites = (refl, (refl, tt))
 
--- the words of the sets of a delay line
+-- the words of a delay target after its name are words
 sets_are : (offset read write flush : ℕ) (t u : Bool) → offset < 2 ^ 64
     → AreDelays read write flush
     → AreWords (set_words offset read
@@ -206,8 +206,8 @@ flakey_asked sectors offset up down features.ErrorReads a b c d e f = rw (a, b, 
 flakey_asked sectors offset up down features.ErrorWrites a b c d e f = rw (a, b, c, d, e, f) refl
 flakey_asked sectors offset up down features.DropWrites a b c d e f = rw (a, b, c, d, e, f) refl
 
--- The words of a delay target ask for it. If `t` is true, the read and write delays are equal; if
--- `u` is true, the write and flush delays are.
+-- The words of a delay target ask for it. If `t` is true, the read and write delays are equal. If
+-- `u` is true, the write and flush delays are equal.
 delay_asked : (sectors offset read write flush : ℕ) (t u : Bool) → IsRead sectors → IsRead offset
     → IsRead read → IsRead write → IsRead flush → is_length sectors ≡ true
     → AreDelays read write flush → (t ≡ true → read ≡ write) → (u ≡ true → write ≡ flush)

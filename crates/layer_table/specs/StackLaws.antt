@@ -123,7 +123,7 @@ pub done_by_layers : (old : Stack) (call : Call) (now : ℕ) (result : Result �
 done_by_layers old call now result new does =
     does_with layers_three disk_three three_count three_done old.top call now result new.top does
 
--- equal views have equal parts
+-- if two views are equal, they look the same (`IsSeenAs`)
 pub seen_as : (v w : View) → w ≡ v → IsSeenAs v w
 seen_as v w same = subst (λ (x : View). IsSeenAs x w) same (record {
   size = refl;

@@ -35,7 +35,7 @@ value_in words place = unwrap_or (number_of (word_in words place)) 0
 
 -- ---- the words after a flakey line's seconds
 
--- the feature of this name
+-- the feature with the name `name`, or None
 abbrev pub feature_named : List ℕ → Option Feature
 feature_named name =
     if bytes_eq name (codes "error_reads") then Some features.ErrorReads
@@ -53,22 +53,22 @@ feature_of (Some count) (Some name) =
 abbrev pub feature_in : List (List ℕ) → Option Feature
 feature_in words = feature_of (slice_get words 7) (slice_get words 8)
 
--- ---- the sets of a delay line: a device, a sector of it, and a delay
+-- ---- the groups of a delay line: a device, an offset on it, and a delay
 
--- the delay of the set from `place` on, or `before` if there is no such set
+-- the delay of the group from word `place` on, or `before` if there is no word at `place`
 abbrev pub later_delay : List (List ℕ) → ℕ → ℕ → ℕ
 later_delay words place before =
     if is_none (slice_get words place) then before else value_in words (place + 2)
 
--- The first set's delay is for reads, the second's for writes, and the third's for flushes. A
--- missing set has the delay of the set before it.
+-- The first group's delay is for reads, the second's for writes, and the third's for flushes. A
+-- missing group has the delay of the group before it.
 abbrev pub delay_in : List (List ℕ) → Target
 delay_in words =
     let read = value_in words 5 in
     let write = later_delay words 6 read in
     targets.Delay read write (later_delay words 9 write)
 
--- the set from `place` on has the first set's device and sector, or is missing
+-- the group from word `place` on has the first group's device and offset, or is missing
 abbrev pub is_same_place : List (List ℕ) → ℕ → Bool
 is_same_place words place =
     is_none (slice_get words place)
@@ -139,7 +139,7 @@ abbrev pub offset_in : Name → List (List ℕ) → ℕ
 offset_in names.Error words = 0
 offset_in name words = value_in words 4
 
--- All sets of a delay line have the same device and sector. Other lines pass.
+-- All groups of a delay line have the same device and offset. Other lines pass.
 abbrev pub has_one_place : Name → List (List ℕ) → Bool
 has_one_place names.Delay words = is_same_place words 6 && is_same_place words 9
 has_one_place name words = true
@@ -183,7 +183,7 @@ layer_of name words target =
     record { length = value_in words 1; offset = offset_in name words; target = target }
 
 -- The start is 0, the layer's values are in their ranges, and a delay line has only one device and
--- sector.
+-- offset.
 abbrev pub has_ranges : Name → List (List ℕ) → LayerSpec → Bool
 has_ranges name words spec =
     nat_eq (value_in words 0) 0 && (is_in_range spec && has_one_place name words)

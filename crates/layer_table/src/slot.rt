@@ -141,7 +141,7 @@ impl<D: Message + Drop> Slot<D> {
 impl<D: Message + Drop> Message for Slot<D> {
     ghost use Rattle.layer_table.specs.SlotMessages.{SlotAnswers};
 
-    // The slot is layer 1, and the layers below it count on from 2.
+    // The slot's own layer is layer 1. The layers of the device below are numbered from 2 on.
     ghost answers = { λ old layer text result new. SlotAnswers D.answers old layer text result
         new };
 

@@ -1,4 +1,4 @@
--- How far a call got over the blocks of a device.
+-- What holds after some blocks of a call were done, and after the last.
 use Rattle.std.proofs.Common.{◌≡◌, ℕ, suc, ◌+◌, ◌-◌, ◌*◌, ◌/◌, ◌<◌, ◌≤◌, Bool, true, false}
 use Rattle.std.proofs.Common.{◌&&◌, Option, None, Ok, Err, length, take, drop}
 use Rattle.std.proofs.Common.{replicate, refl, ap, sym, subst, ◌∙◌, inl, inr, arith}

@@ -1,4 +1,5 @@
--- What the records of a walk over blocks refuse: each of these breaks one clause.
+-- `IsStopped` refuses a stop after the last block, and a stop at a block that doesn't stop the
+-- call.
 use Rattle.std.proofs.Common.{◌≡◌, ℕ, ◌+◌, true, false, sym, ◌∙◌, arith}
 use Rattle.std.specs.Prelude.{Result}
 use Rattle.bio.specs.declared.outcome.DevError.{DevError}
@@ -6,14 +7,14 @@ use Rattle.blockdev.specs.Calls.{Call}
 use Rattle.dust_layer.specs.BadBlocks.{Bad}
 use Rattle.dust_layer.specs.Walk.{IsStopped, begin_of, blocks_of, stops}
 
--- a call isn't stopped behind its last block
+-- No call is stopped after its last block.
 never_stopped_behind : {D : Type 0} (does : D → Call → ℕ → Result ℕ DevError → D → Type 0)
     (block : ℕ) (call : Call) (bad after : Bad) (old : D) (now : ℕ) (new : D)
     → (is : IsStopped does block call bad after old now new) → is.count ≡ blocks_of block call → ⊥
 never_stopped_behind does block call bad after old now new is behind =
     let within = is.within in omega (arith, within, behind)
 
--- a block that doesn't stop a call stops none
+-- No call is stopped at a block that doesn't stop it.
 never_stopped_freely : {D : Type 0} (does : D → Call → ℕ → Result ℕ DevError → D → Type 0)
     (block : ℕ) (call : Call) (bad after : Bad) (old : D) (now : ℕ) (new : D)
     → (is : IsStopped does block call bad after old now new)

@@ -1,4 +1,4 @@
--- Blocks of so many sectors that begin within a layer of so many, and blocks that don't.
+-- Examples of `IsWithin`: blocks that begin within a layer, and blocks that don't.
 use Rattle.std.proofs.Common.{arith}
 use Rattle.dust_layer.specs.Orders.{IsWithin}
 

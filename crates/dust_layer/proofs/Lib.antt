@@ -1,4 +1,4 @@
--- The lemmas of `dust_layer`; the proof of a function stands in the folder of its source file.
+-- The lemmas of `dust_layer`. The proof of a function is in the folder named after its source file.
 mod BlockWalk
 mod ReadParts
 mod OrderLaws

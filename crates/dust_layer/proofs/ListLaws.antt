@@ -1,4 +1,4 @@
--- What calls and messages leave of the list, the mode and the counts, by what is said that they do.
+-- How calls and messages change the list, the mode and the counts, by what the specs say of them.
 use Rattle.std.proofs.Common.{◌≡◌, ℕ, ◌+◌, ◌-◌, ◌/◌, ◌*◌, ◌<◌, ◌≤◌, Bool, true, false, Ok, Err}
 use Rattle.std.proofs.Common.{List, length, Some, None, refl, subst, inl, inr, ◌∙◌, arith}
 use Rattle.std.specs.Prelude.{Result, is_some, nat_lt}
@@ -21,11 +21,11 @@ use Rattle.dust_layer.proofs.BlockWalk.{without-in}
 
 -- ---- calls
 
--- what the device beneath does
+-- whether a call can change a device so: device before, call, time, result, device after
 abbrev Doing : Type 0 → Type 1
 Doing D = D → Call → ℕ → Result ℕ DevError → D → Type 0
 
--- in bypass the device beneath does the call, and the list and the own faults stay
+-- In bypass the lower device does the call. The list and this device's own count of faults stay.
 bypass-keeps : {D : Type 0} (does : Doing D) (call : Call) (now : ℕ) (result : Result ℕ DevError)
     (old new : Dust D) → old.mode ≡ Bypass
     → IsDusted does call now result old new
@@ -37,13 +37,13 @@ bypass-keeps does call now result old new mode dusted =
     dusted.done in
     (passed.below, passed.list, passed.faults)
 
--- no call changes the mode, or the blocks' size
+-- No call changes the mode or the block size.
 mode-stays : {D : Type 0} (does : Doing D) (call : Call) (now : ℕ) (result : Result ℕ DevError)
     (old new : Dust D)
     → IsDusted does call now result old new → (new.mode ≡ old.mode) × (new.block ≡ old.block)
 mode-stays does call now result old new dusted = (dusted.mode, dusted.block)
 
--- one part is done at the moment at which the call came
+-- If a call has one part, the part is done at the time at which the call begins.
 one-part : {D : Type 0} (does : Doing D) (part : ℕ → Call) (begin : ℕ) (old : D) (now : ℕ) (new : D)
     (end : ℕ) → DoesParts does part begin 1 old now new end
     → does old (part (begin + 0)) now (Ok end) new
@@ -51,7 +51,8 @@ one-part {D} does part begin old now new end (mid, at, (is, same), last) =
     subst (λ (d : D). does d (part (begin + 0)) now (Ok end) new) is
     (subst (λ (m : ℕ). does mid (part (begin + 0)) m (Ok end) new) same last)
 
--- a write that ended well leaves none of its blocks in the list, and a read leaves the list
+-- If a write ends Ok, none of its blocks is listed after it. A read that ends Ok doesn't change the
+-- list.
 write-mends : {D : Type 0} (does : Doing D) (block first : ℕ) (bytes : List ℕ) (fua : Bool)
     (bad after : Bad) (old : D) (now : ℕ) (new : D) (end place : ℕ)
     → ByBlock does block (Writes first bytes fua) bad after old now new (Ok end)
@@ -66,12 +67,12 @@ read-leaves : {D : Type 0} (does : Doing D) (block first : ℕ) (before bytes : 
     → IsList after bad
 read-leaves does block first before bytes bad after old now new end is = is.list
 
--- the list without the blocks of a call before the one at which it stopped
+-- the list without `count` blocks from block `begin` on
 abbrev behind : ℕ → ℕ → Bad → Bad
 behind begin count bad = without begin (begin + count) bad
 
--- a write is stopped by a block with a count above 0, which
--- is then one less; the blocks before it have left the list
+-- A write is stopped by a block with a count above 0, and the count is lowered by one. The blocks
+-- before that block have left the list.
 write-stopped : {D : Type 0} (does : Doing D) (block first : ℕ) (bytes : List ℕ) (fua : Bool)
     (bad after : Bad) (old : D) (now : ℕ) (new : D)
     → ByBlock does block (Writes first bytes fua) bad after old now new (Err Struck)
@@ -81,7 +82,7 @@ write-stopped : {D : Type 0} (does : Doing D) (block first : ℕ) (bytes : List 
     (behind (first / block) count bad))
 write-stopped does block first bytes fua bad after old now new is = (is.count, is.stopped, is.list)
 
--- a read is stopped by a listed block, and leaves the list
+-- A read is stopped by a listed block, and doesn't change the list.
 read-stopped : {D : Type 0} (does : Doing D) (block first : ℕ) (before bytes : List ℕ)
     (bad after : Bad) (old : D) (now : ℕ) (new : D)
     → ByBlock does block (Reads first before bytes) bad after old now new (Err Struck)
@@ -89,7 +90,8 @@ read-stopped : {D : Type 0} (does : Doing D) (block first : ℕ) (before bytes :
 read-stopped does block first before bytes bad after old now new is =
     (is.count, is.stopped, is.list)
 
--- an error beneath comes at a block that doesn't stop the write, which stays listed
+-- If the lower device fails a part of a write, the part's block doesn't stop the write. Only the
+-- blocks before that block leave the list.
 write-failed : {D : Type 0} (does : Doing D) (block first : ℕ) (bytes : List ℕ) (fua : Bool)
     (bad after : Bad) (old : D) (now : ℕ) (new : D) (error : DevError)
     → ByBlock does block (Writes first bytes fua) bad after old now new (Err (Below error))
@@ -100,15 +102,15 @@ write-failed does block first bytes fua bad after old now new error is =
 
 -- ---- messages
 
--- a refused order leaves the list and the mode
+-- A refused order changes neither the list nor the mode.
 refused-stays : (size sectors : ℕ) (order : Order) (error : MessageError) (old : Bad) (was : Bool)
     (new : Bad) (enabled : Bool)
     → IsAnswered size sectors order (Err error) old was new enabled
     → IsList new old × (enabled ≡ was)
 refused-stays size sectors order error old was new enabled (refused, list, mode) = (list, mode)
 
--- a block is added that is within the layer and isn't
--- listed, and one is removed that is within it and is listed
+-- An added block is within the layer and wasn't listed. A removed block is within the layer and was
+-- listed.
 added : (size sectors block count : ℕ) (done : Unit {0}) (old : Bad) (was : Bool) (new : Bad)
     (enabled : Bool)
     → IsAnswered size sectors (orders.Add block count) (Ok done) old was new enabled
@@ -125,7 +127,8 @@ removed : (size sectors block : ℕ) (done : Unit {0}) (old : Bad) (was : Bool) 
 removed size sectors block done old was new enabled ((within, there), list, mode) =
     (within, there, list, mode)
 
--- memory refuses a block alone that could be added, and one past the end is refused as such
+-- If Add fails with Memory, its block could be added. If Add fails with BadMessage, its block is
+-- past the end.
 no-memory : (size sectors block count : ℕ) (old : Bad) (was : Bool) (new : Bad) (enabled : Bool)
     → IsAnswered size sectors (orders.Add block count) (Err errors.Memory) old was new enabled
     → (block * size < sectors) × (is_some (old block) ≡ false)
@@ -146,13 +149,13 @@ not-bad : (size sectors block : ℕ) (old : Bad) (was : Bool) (new : Bad) (enabl
     → (block * size < sectors) × (is_some (old block) ≡ false)
 not-bad size sectors block old was new enabled (is, list, mode) = is
 
--- what asks for an order isn't told as none
+-- If a text asks for an order, `IsNoOrder` refuses it for layer 1.
 no-order : {D : Type 0} (text : List ℕ) (result : Result (Unit {0}) MessageError) (old new : Dust D)
     (order : Order) → AsksFor text order
     → IsNoOrder 1 text result old new → ⊥
 no-order text result old new order asked is = is.none order refl asked
 
--- a message to a layer above is refused, and leaves the list and the mode
+-- A message to layer 2 is refused, and changes neither the list nor the mode.
 to-no-layer : {D : Type 0} (sectors : ℕ) (text : List ℕ) (result : Result (Unit {0}) MessageError)
     (old new : Dust D)
     → IsMessageDone sectors 2 text result old new
@@ -163,7 +166,7 @@ to-no-layer sectors text result old new done = elim done.answer [
   | inr none ↦ (none.refused, none.list, none.mode)
 ]
 
--- no message changes the device beneath, the blocks' size or the own faults
+-- No message changes the lower device, the block size or the device's own faults.
 rest-stays : {D : Type 0} (sectors layer : ℕ) (text : List ℕ)
     (result : Result (Unit {0}) MessageError) (old new : Dust D)
     → IsMessageDone sectors layer text result old new

@@ -1,4 +1,4 @@
--- What ended well touched no block that fails it.
+-- If bad blocks fail calls and a call ends Ok, the call touched no block that fails it.
 use Rattle.std.proofs.Common.{◌≡◌, ℕ, ◌/◌, Bool, false, Ok, Err, List, length, Option, Some, None}
 use Rattle.std.proofs.Common.{refl, subst, inl, inr, arith}
 use Rattle.std.proofs.lemmas.Bool.{cases_lt, lt-ltb}

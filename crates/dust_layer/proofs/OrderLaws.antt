@@ -1,4 +1,4 @@
--- What the reader finds is what the orders' words say.
+-- The parser finds an order in a text exactly if the text asks for that order (`AsksFor`).
 use Rattle.std.proofs.Common.{◌≡◌, ℕ, ◌<◌, ◌≤◌, Bool, true, false, cond, List, [], ◌∷◌, ◌++◌}
 use Rattle.std.proofs.Common.{Option, Some, None, ◌⊎◌, inl, inr, ⊎_elim, refl, ap, subst, ◌∙◌, sym}
 use Rattle.std.proofs.Common.{arith}

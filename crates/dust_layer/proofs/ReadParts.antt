@@ -1,4 +1,4 @@
--- How far a read over the blocks of a device got, and which bytes it has put into the buffer.
+-- What holds after some blocks of a read were done, and which bytes its buffer then has.
 use Rattle.std.proofs.Common.{◌≡◌, ℕ, zero, suc, ◌+◌, ◌-◌, ◌*◌, ◌/◌, ◌<◌, ◌≤◌, false}
 use Rattle.std.proofs.Common.{◌++◌, Ok, Err, List, length, take, drop}
 use Rattle.std.proofs.Common.{refl, ap, sym, subst, ◌∙◌, inl, inr, arith}

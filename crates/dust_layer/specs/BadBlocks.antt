@@ -9,7 +9,7 @@ use Rattle.dust_layer.specs.declared.bad_blocks.BadBlocks.{BadBlocks}
 abbrev pub Bad : Type 0
 Bad = ℕ → Option ℕ
 
--- the bad blocks of this list, each with its count
+-- the counts of the blocks that `blocks` lists
 abbrev pub listed : BadBlocks → Bad
 listed blocks = get nat_cmp blocks.counts
 
@@ -25,10 +25,10 @@ IsNoList bad = (block : ℕ) → bad block ≡ None
 abbrev pub left_at : Bad → ℕ → ℕ
 left_at bad block = unwrap_or (bad block) 0
 
--- the list with another entry for this block
+-- the list `bad`, but with `entry` as the entry of block `place`
 abbrev pub with_entry : ℕ → Option ℕ → Bad → Bad
 with_entry place entry bad block = if place == block then entry else bad block
 
--- the list without the blocks from `from` to before `to`
+-- the list `bad` without the blocks from `from` to before `to`
 abbrev pub without : ℕ → ℕ → Bad → Bad
 without from to bad block = if nat_le from block && nat_lt block to then None else bad block

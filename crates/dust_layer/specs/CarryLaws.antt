@@ -1,6 +1,5 @@
--- The calls of a device with bad blocks, over a lower device that a function `f` maps to another
--- one. If `f` carries over each call of the lower device, it carries over a call that goes block by
--- block.
+-- Let `f` map the lower device to another device. If `f` carries over each call of the lower device
+-- (`IsCarried`), it carries over each call of a device with bad blocks.
 use Rattle.std.proofs.Common.{ℕ, zero, suc, ◌+◌, Ok, Err, ap, subst, sym}
 use Rattle.std.specs.Prelude.{Result}
 use Rattle.bio.specs.declared.outcome.DevError.{DevError}
@@ -13,22 +12,22 @@ use Rattle.dust_layer.specs.BadBlocks.{Bad}
 use Rattle.dust_layer.specs.DustRule.{Held, IsChecked, IsDoneBy, IsPassed}
 use Rattle.dust_layer.specs.Walk.{begin_of, blocks_of, part_of, ByBlock, DoesParts, Passes}
 
--- what a device's calls do
+-- whether a call can change a device so: device before, call, time, result, device after
 abbrev pub Doing : Type 0 → Type 1
 Doing D = D → Call → ℕ → Result ℕ DevError → D → Type 0
 
--- If `fine` holds for a device, each of its calls is also a call of `f` of that device. `fine` then
--- holds for the new device too.
+-- Each call from `old` to `new` is a call from `f old` to `f new`, if `fine` holds for `old`. In
+-- that case `fine` holds for `new` too.
 abbrev pub IsCarried : {D E : Type 0} → Doing D → Doing E → (D → Type 0) → (D → E) → Type 0
 IsCarried {D} {E} does other fine f =
     (old : D) (call : Call) (now : ℕ) (result : Result ℕ DevError) (new : D) → fine old
     → does old call now result new → other (f old) call now result (f new) × fine new
 
--- the device with bad blocks whose lower device is `f` of the old one
+-- `it` with the lower device `f it.lower`; the list and the count of faults stay
 abbrev pub held_as : {D E : Type 0} → (D → E) → Held D → Held E
 held_as f it = record { lower = f it.lower; bad = it.bad; faults = it.faults }
 
--- carries over parts that are done one after another
+-- `f` carries over parts that are done one after another.
 parts_carried : {D E : Type 0} (does : Doing D) (other : Doing E) (fine : D → Type 0) (f : D → E)
     → IsCarried does other fine f
     → (part : ℕ → Call) (begin count : ℕ) (old : D) (now : ℕ) (new : D) (end : ℕ) → fine old
@@ -42,7 +41,7 @@ parts_carried does other fine f each part begin (suc count) old now new end hold
     let next = each mid (part (begin + count)) at (Ok end) new first.1 last in
     ((f mid, at, first.0, next.0), next.1)
 
--- carries over the blocks that don't stop a call
+-- `f` carries over the first `count` blocks of a call (`Passes`).
 passes_carried : {D E : Type 0} (does : Doing D) (other : Doing E) (fine : D → Type 0) (f : D → E)
     → IsCarried does other fine f
     → (block : ℕ) (call : Call) (bad : Bad) (count : ℕ) (old : D) (now : ℕ) (new : D) (end : ℕ)
@@ -55,7 +54,7 @@ passes_carried does other fine f each block call bad count old now new end holds
     (begin_of block call) count old now new end holds is.parts in
     (record { free = is.free; parts = parts.0 }, parts.1)
 
--- carries over a call that goes block by block
+-- `f` carries over a call that goes block by block (`ByBlock`).
 blocks_carried : {D E : Type 0} (does : Doing D) (other : Doing E) (fine : D → Type 0) (f : D → E)
     → IsCarried does other fine f
     → (block : ℕ) (call : Call) (bad after : Bad) (old : D) (now : ℕ) (new : D)
@@ -104,7 +103,7 @@ blocks_carried does other fine f each block call bad after old now new
       last.1,
     )
 
--- carries over a call that is passed, and one that is checked
+-- `f` carries over a call that is passed (`IsPassed`), and a call that is checked (`IsChecked`).
 passed_carried : {D E : Type 0} (does : Doing D) (other : Doing E) (fine : D → Type 0) (f : D → E)
     → IsCarried does other fine f
     → (call : Call) (now : ℕ) (result : Result ℕ DevError) (old new : Held D) → fine old.lower
@@ -125,7 +124,7 @@ checked_carried does other fine f each block call now result old new holds is =
     is.stop holds is.blocks in
     (record { stop = is.stop; blocks = blocks.0; answer = is.answer; faults = is.faults }, blocks.1)
 
--- carries over a call, whatever the mode is
+-- `f` carries over a call in each mode.
 pub done_carried : {D E : Type 0} (does : Doing D) (other : Doing E) (fine : D → Type 0) (f : D → E)
     → IsCarried does other fine f
     → (mode : Mode) (block : ℕ) (call : Call) (now : ℕ) (result : Result ℕ DevError)

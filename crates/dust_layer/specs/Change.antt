@@ -1,10 +1,10 @@
--- What a write or a discard asks for.
+-- The call that a `Change` asks for, and whether it is durable.
 use Rattle.std.specs.Prelude.{ℕ, Bool, false}
 use Rattle.blockdev.specs.Calls.{Call, Discards, Writes}
 use Rattle.dust_layer.specs.declared.parts.Change.{Change}
 use Rattle.dust_layer.specs.declared.parts.Change.TheVariants as changes
 
--- the call that it is
+-- the write from `first` on, or the discard of `count` sectors from `first` on
 abbrev pub call_of : ℕ → ℕ → Change → Call
 call_of first count (changes.Write bytes fua) = Writes first bytes.now fua
 call_of first count changes.Discard = Discards first count

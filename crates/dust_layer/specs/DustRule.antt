@@ -12,8 +12,8 @@ use Rattle.dust_layer.specs.declared.parts.Stop.TheVariants.{Below, Struck}
 use Rattle.dust_layer.specs.BadBlocks.{Bad, IsList, listed}
 use Rattle.dust_layer.specs.Walk.{ByBlock}
 
--- What a device with bad blocks holds: the lower device, the list, and how many calls a bad block
--- failed.
+-- The parts of a device with bad blocks that its calls change: the lower device, the list, and how
+-- many calls bad blocks failed.
 pub record Held (D : Type 0) : Type 0 where
   pub lower : D
   pub bad : Bad
@@ -30,7 +30,7 @@ pub record IsPassed {D : Type 0} (does : D → Call → ℕ → Result ℕ DevEr
   pub list : IsList new.bad old.bad
   pub faults : new.faults ≡ old.faults
 
--- the answer of a call that went block by block: Io if a bad block stopped it
+-- the answer to a call that went block by block: Io if a bad block stopped it
 abbrev pub answer_of : Result ℕ Stop → Result ℕ DevError
 answer_of (Ok end) = Ok end
 answer_of (Err Struck) = Err Io
@@ -65,7 +65,7 @@ IsDoneBy does FailReadOnBadBlock block (Discards first count) now result old new
 IsDoneBy does FailReadOnBadBlock block Flushes now result old new =
     IsPassed does Flushes now result old new
 
--- The call is done by the device's mode. The mode and the blocks' size stay.
+-- The device does the call as its mode says (`IsDoneBy`). The mode and the block size stay.
 pub record IsDusted {D : Type 0} (does : D → Call → ℕ → Result ℕ DevError → D → Type 0)
     (call : Call) (now : ℕ) (result : Result ℕ DevError)
     (old new : Dust D) : Type 0 where

@@ -14,7 +14,7 @@ abbrev pub is_enabled : Mode → Bool
 is_enabled Bypass = false
 is_enabled FailReadOnBadBlock = true
 
--- The message asks for an order, and the device answers it.
+-- The message is to layer 1 and asks for an order. The device answers that order (`IsAnswered`).
 pub record IsObeyed {D : Type 0} (sectors layer : ℕ) (text : List ℕ)
     (result : Result (Unit {0}) MessageError) (old new : Dust D) : Type 0 where
   pub order : Order
@@ -23,8 +23,8 @@ pub record IsObeyed {D : Type 0} (sectors layer : ℕ) (text : List ℕ)
   pub answered : IsAnswered old.block sectors order result (listed old.bad) (is_enabled old.mode)
       (listed new.bad) (is_enabled new.mode)
 
--- The message asks for no order, or goes to a layer that doesn't exist. It is refused, and nothing
--- changes.
+-- The message isn't to layer 1, or asks for no order. It is refused, and the list and the mode
+-- stay.
 pub record IsNoOrder {D : Type 0} (layer : ℕ) (text : List ℕ)
     (result : Result (Unit {0}) MessageError) (old new : Dust D) : Type 0 where
   pub none : (order : Order) → layer ≡ 1 → AsksFor text order → ⊥
@@ -32,7 +32,8 @@ pub record IsNoOrder {D : Type 0} (layer : ℕ) (text : List ℕ)
   pub list : IsList (listed new.bad) (listed old.bad)
   pub mode : new.mode ≡ old.mode
 
--- One of the two holds. Everything but the list and the mode stays.
+-- The message is answered (`IsObeyed`) or refused (`IsNoOrder`). Everything but the list and the
+-- mode stays.
 pub record IsMessageDone {D : Type 0} (sectors layer : ℕ) (text : List ℕ)
     (result : Result (Unit {0}) MessageError) (old new : Dust D) : Type 0 where
   pub answer : IsObeyed sectors layer text result old new ⊎ IsNoOrder layer text result old new

@@ -1,5 +1,5 @@
--- The orders that a device with bad blocks takes as messages: the words that ask for each, its
--- answers, and the state after it.
+-- The orders that a device with bad blocks takes as messages. For each order: the words that ask
+-- for it, the answers, and the state after it.
 use Rattle.std.specs.Prelude.{◌≡◌, ℕ, ◌*◌, ◌<◌, ◌≤◌, Bool, true, false, List, [], ◌∷◌, Some, None}
 use Rattle.std.specs.Prelude.{Result, Ok, Err, codes, is_some}
 use Rattle.std.specs.List.{join_with_byte}
@@ -22,7 +22,7 @@ IsCount [] count = count ≡ 0
 IsCount (word ∷ []) count = IsNumber word count × (count ≤ 255)
 IsCount (word ∷ more ∷ words) count = ⊥
 
--- the text lists a block: the order's word, the block's number, and its count or none
+-- The text asks to list a block: it is the order's word, the block's number, and a count or none.
 pub record AsksToAdd (text : List ℕ) (block count : ℕ) : Type 0 where
   pub block_word : List ℕ
   pub count_words : List (List ℕ)
@@ -30,7 +30,7 @@ pub record AsksToAdd (text : List ℕ) (block count : ℕ) : Type 0 where
   pub counted : IsCount count_words count
   pub spelled : text ≡ spaced (codes "addbadblock" ∷ block_word ∷ count_words)
 
--- the text takes a block from the list: the order's word, and the block's number
+-- The text asks to remove a block from the list: it is the order's word and the block's number.
 pub record AsksToRemove (text : List ℕ) (block : ℕ) : Type 0 where
   pub block_word : List ℕ
   pub number : IsNumber block_word block
@@ -46,7 +46,8 @@ AsksFor text orders.Disable = text ≡ codes "disable"
 
 -- ---- answers
 
--- the first sector of a block of `size` sectors is within a layer of `sectors`
+-- The first sector of a block is within a layer. A block has `size` sectors, and the layer has
+-- `sectors`.
 abbrev pub IsWithin : ℕ → ℕ → ℕ → Type 0
 IsWithin block size sectors = block * size < sectors
 
@@ -57,7 +58,8 @@ IsListed bad block = is_some (bad block) ≡ true
 abbrev pub IsUnlisted : Bad → ℕ → Type 0
 IsUnlisted bad block = is_some (bad block) ≡ false
 
--- nothing but a lack of memory refuses the order
+-- The order can be done if memory suffices. The block of Add or Remove must be within the layer,
+-- unlisted for Add, and listed for Remove.
 abbrev pub CanBeDone : ℕ → ℕ → Order → Bad → Type 0
 CanBeDone size sectors (orders.Add block count) bad =
     IsWithin block size sectors × IsUnlisted bad block
@@ -66,9 +68,9 @@ CanBeDone size sectors orders.Clear bad = Unit {0}
 CanBeDone size sectors orders.Enable bad = Unit {0}
 CanBeDone size sectors orders.Disable bad = Unit {0}
 
--- Why an order is refused. It fails with BadMessage if the block isn't within the layer. If it is,
--- adding a listed block fails with AlreadyBad, and removing an unlisted one with NotBad. A lack of
--- memory refuses only adding an unlisted block. No other order is refused.
+-- Why an order is refused. Add and Remove fail with BadMessage if the block isn't within the layer.
+-- If the block is within the layer, Add fails with AlreadyBad if it is listed, and otherwise only
+-- with Memory. Remove fails with NotBad if the block is unlisted. No other order is refused.
 abbrev pub IsRefused : ℕ → ℕ → Order → Bad → MessageError → Type 0
 IsRefused size sectors (orders.Add block count) bad errors.BadMessage = sectors ≤ block * size
 IsRefused size sectors (orders.Add block count) bad errors.AlreadyBad =

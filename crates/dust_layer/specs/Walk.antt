@@ -47,11 +47,11 @@ blocks_of block call =
 abbrev pub begin_of : ℕ → Call → ℕ
 begin_of block call = block_of_first block (first_of call)
 
--- the sector at which a range's part before this block ends
+-- the first sector of block `place`, but at least `first` and at most `first + count`
 abbrev pub reach : ℕ → ℕ → ℕ → ℕ → ℕ
 reach block first count place = min (first + count) (max first (place * block))
 
--- the bytes of a call's sectors from `from` to before `to`
+-- the bytes of the sectors from `from` to before `to`; `bytes` begins at sector `first`
 abbrev pub bytes_within : ℕ → ℕ → ℕ → List ℕ → List ℕ
 bytes_within first from to bytes = take (512 * (to - from)) (drop (512 * (from - first)) bytes)
 
@@ -69,8 +69,8 @@ part_of block call place =
     part_within (reach block (first_of call) (count_of call) place)
     (reach block (first_of call) (count_of call) (suc place)) call
 
--- The parts of `count` blocks, from block `begin` on, are done one after another. Each ends Ok, and
--- starts at the time at which the one before ended. `does` describes the lower device.
+-- The parts of `count` blocks, from block `begin` on, are done one after another. Each part ends
+-- Ok, and starts at the time at which the part before it ended. `does` describes the lower device.
 abbrev pub DoesParts : {D : Type 0} → (D → Call → ℕ → Result ℕ DevError → D → Type 0) → (ℕ → Call)
     → ℕ → ℕ → D → ℕ → D → ℕ → Type 0
 DoesParts does part begin zero old now new end = (new ≡ old) × (end ≡ now)
@@ -78,24 +78,24 @@ DoesParts {D} does part begin (suc count) old now new end =
     (mid : D) × (at : ℕ) × DoesParts does part begin count old now mid at
     × does mid (part (begin + count)) at (Ok end) new
 
--- Whether a bad block stops a call. A listed block stops a read, and one with a count above 0 stops
--- a write or a discard.
+-- Whether the block `place` stops a call. A listed block stops a read. A block with a count above 0
+-- stops a write or a discard.
 abbrev pub stops : Call → Bad → ℕ → Bool
 stops (Reads first before after) bad place = is_some (bad place)
 stops (Writes first bytes fua) bad place = nat_lt 0 (left_at bad place)
 stops (Discards first count) bad place = nat_lt 0 (left_at bad place)
 stops Flushes bad place = false
 
--- The list after the parts of `count` blocks, from block `begin` on, were done. A read leaves the
--- list, and a block that was written or discarded leaves it.
+-- The list after the parts of `count` blocks, from block `begin` on, were done. A read doesn't
+-- change the list. A write or a discard removes these blocks from it.
 abbrev pub list_passed : Call → ℕ → ℕ → Bad → Bad
 list_passed (Reads first before after) begin count bad = bad
 list_passed (Writes first bytes fua) begin count bad = without begin (begin + count) bad
 list_passed (Discards first count) begin blocks bad = without begin (begin + blocks) bad
 list_passed Flushes begin count bad = bad
 
--- The list after a block stopped a call. A read leaves the list, and a write or a discard lowers
--- the block's count by one.
+-- The list after the block `place` stopped a call. A read doesn't change the list. A write or a
+-- discard lowers the block's count by one.
 abbrev pub list_struck : Call → ℕ → Bad → Bad
 list_struck (Reads first before after) place bad = bad
 list_struck (Writes first bytes fua) place bad = with_entry place (Some (left_at bad place - 1)) bad
@@ -117,8 +117,7 @@ pub record IsDone {D : Type 0} (does : D → Call → ℕ → Result ℕ DevErro
   pub passes : Passes does block call bad (blocks_of block call) old now new end
   pub list : IsList after (list_passed call (begin_of block call) (blocks_of block call) bad)
 
--- The bytes of a read's buffer after the sectors of its first `count` blocks don't change. Another
--- call has no buffer.
+-- If the call is a read, the bytes of its buffer after its first `count` blocks don't change.
 abbrev pub KeepsRest : ℕ → Call → ℕ → Type 0
 KeepsRest block (Reads first before after) count =
     drop (512 * (reach block first (length before / 512)
@@ -129,22 +128,23 @@ KeepsRest block (Writes first bytes fua) count = Unit {0}
 KeepsRest block (Discards first sectors) count = Unit {0}
 KeepsRest block Flushes count = Unit {0}
 
--- A bad block stops the call. The parts before it are done, and no others. A read leaves the rest
--- of its buffer.
+-- A bad block stops the call. The parts of the `count` blocks before it are done, and no others. A
+-- read doesn't change the rest of its buffer.
 pub record IsStopped {D : Type 0} (does : D → Call → ℕ → Result ℕ DevError → D → Type 0) (block : ℕ)
     (call : Call) (bad after : Bad)
     (old : D) (now : ℕ) (new : D) : Type 0 where
   pub count : ℕ
   pub end : ℕ
   pub passes : Passes does block call bad count old now new end
-  -- this is the block that stops it
+  -- the block after the first `count` blocks stops the call
   pub within : count < blocks_of block call
   pub stopped : stops call bad (begin_of block call + count) ≡ true
   pub rest : KeepsRest block call count
   pub list : IsList after (list_struck call (begin_of block call + count)
       (list_passed call (begin_of block call) count bad))
 
--- The lower device fails a part of the call. The parts before it are done, and no part after it.
+-- The lower device fails a part of the call. The parts of the `count` blocks before it are done,
+-- and no part after it.
 pub record FailsBelow {D : Type 0} (does : D → Call → ℕ → Result ℕ DevError → D → Type 0)
     (block : ℕ) (call : Call) (bad after : Bad)
     (old : D) (now : ℕ) (new : D) (error : DevError) : Type 0 where
@@ -152,11 +152,11 @@ pub record FailsBelow {D : Type 0} (does : D → Call → ℕ → Result ℕ Dev
   pub mid : D
   pub end : ℕ
   pub passes : Passes does block call bad count old now mid end
-  -- this is the block: it doesn't stop the call, and stays in the list
+  -- the block after the first `count` blocks doesn't stop the call, but its part fails
   pub within : count < blocks_of block call
   pub free : stops call bad (begin_of block call + count) ≡ false
   pub fails : does mid (part_of block call (begin_of block call + count)) end (Err error) new
-  -- a read leaves the rest of its buffer, after the part that failed
+  -- a read doesn't change its buffer after the part that failed
   pub rest : KeepsRest block call (suc count)
   pub list : IsList after (list_passed call (begin_of block call) count bad)
 
@@ -170,13 +170,13 @@ ByBlock does block call bad after old now new (Err Struck) =
 ByBlock does block call bad after old now new (Err (Below error)) =
     FailsBelow does block call bad after old now new error
 
--- If a part of the call failed in the lower device, that device has a cause for it.
+-- Unless a bad block stopped the call, `HasCause` holds for the lower device and the result.
 abbrev pub HasCauseBelow : ℕ → View → View → Result ℕ Stop → Type 0
 HasCauseBelow now v w (Ok end) = HasCause now v w (Ok end)
 HasCauseBelow now v w (Err Struck) = Unit {0}
 HasCauseBelow now v w (Err (Below error)) = HasCause now v w (Err error)
 
--- the block has sectors among the `count` sectors from `first` on
+-- block `place` has sectors among the `count` sectors from `first` on
 pub record IsTouched (block first count place : ℕ) : Type 0 where
   pub low : block_of_first block first ≤ place
   pub high : place < block_behind block first count

@@ -17,10 +17,10 @@ pub(crate) fn is_within(block: u64, size: u64, sectors: u64) -> bool
     sectors > 0 && block <= (sectors - 1) / size
 }
 
-/// Does an order over blocks of `size` sectors, in a layer of `sectors`. A block that isn't within
-/// the layer fails with BadMessage. Listing a listed block fails with AlreadyBad, and listing
-/// another one with Memory if memory lacks. Removing an unlisted block fails with NotBad. After an
-/// error the list and the mode are unchanged.
+/// Does an order over blocks of `size` sectors, in a layer of `sectors` sectors. If the order's
+/// block isn't within the layer, it fails with BadMessage. Adding a listed block fails with
+/// AlreadyBad. Adding an unlisted block fails with Memory if an allocation fails. Removing an
+/// unlisted block fails with NotBad. After an error the list and the mode are unchanged.
 pub(crate) fn apply(
     bad: &mut BadBlocks,
     enabled: &mut bool,

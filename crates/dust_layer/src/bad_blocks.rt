@@ -1,5 +1,5 @@
-//! The list of bad blocks of a device, each with the count of writes and discards that it fails.
-//! Calls change it block by block (`blocks`), and messages do (`apply`).
+//! The list of a device's bad blocks. A block's count is how many writes and discards it still
+//! fails. Calls (`blocks`) and messages (`apply`) change the list.
 ghost use Rattle.std.specs.Prelude.{◌≡◌, ◌-◌, IfErr, Err, Ok, OnErr, OnOk, Some, None, false};
 ghost use Rattle.std.specs.Prelude.{is_some, nat_lt, true};
 ghost use Rattle.blockdev.specs.declared.message.MessageError.TheVariants.{AlreadyBad, Memory};
@@ -33,8 +33,8 @@ impl BadBlocks {
         self.counts.contains_key(&block)
     }
 
-    /// Returns whether a block fails a write or a discard. It does if it is listed with a count
-    /// above 0, and its count is then lowered by one.
+    /// Returns whether `block` fails a write or a discard: whether it is listed with a count above
+    /// 0. If so, lowers the count by one.
     pub(crate) fn strike(&mut self, block: u64) -> bool
         ensures struck { result ≡ nat_lt 0 (left_at (listed self.old) block) }
         ensures less { result ≡ true
@@ -58,7 +58,8 @@ impl BadBlocks {
         let _count = self.counts.remove(&block);
     }
 
-    /// Lists a block with its count. If memory lacks, it is refused, and the list stays.
+    /// Lists `block` with the count `count`, which replaces its old count. If an allocation fails,
+    /// returns the error, and the list stays.
     pub(crate) fn add(&mut self, block: u64, count: u8) -> Result<(), AllocError>
         ensures added { OnOk result
             (IsList (listed self.new) (with_entry block (Some count) (listed self.old))) }
@@ -75,8 +76,9 @@ impl BadBlocks {
         self.counts.clear();
     }
 
-    /// Lists a block with its count, if it isn't listed yet. Fails with AlreadyBad if the block is
-    /// listed, and with Memory if memory lacks. After an error the list is unchanged.
+    /// Lists `block` with the count `count`, if it isn't listed yet. Fails with AlreadyBad if the
+    /// block is listed, and with Memory if an allocation fails. After an error the list is
+    /// unchanged.
     pub(crate) fn list(&mut self, block: u64, count: u8) -> Result<(), MessageError>
         ensures added { OnOk result
             (IsList (listed self.new) (with_entry block (Some count) (listed self.old))) }
@@ -94,7 +96,8 @@ impl BadBlocks {
         }
     }
 
-    /// Removes a block from the list. Fails with NotBad if it isn't listed; then the list stays.
+    /// Removes a block from the list. If the block isn't listed, fails with NotBad, and the list
+    /// stays.
     pub(crate) fn unlist(&mut self, block: u64) -> Result<(), MessageError>
         ensures removed { is_some (listed self.old block) ≡ true →
             (result ≡ Ok tt) × IsList (listed self.new) (with_entry block None (listed self.old)) }

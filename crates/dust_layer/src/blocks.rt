@@ -1,5 +1,5 @@
-//! Writes, discards and reads that go block by block, up to the first block that fails them. `Dust`
-//! does its calls by them when bad blocks fail calls.
+//! Does writes, discards and reads block by block, up to the first part that isn't done. `Dust`
+//! uses these functions in the mode in which bad blocks fail calls.
 ghost use Rattle.std.specs.Prelude.{◌≡◌, ◌<◌, ◌≤◌, ◌/◌, OnOk, length};
 ghost use Rattle.blockdev.specs.Calls.{IsByteRange, IsRange, Reads};
 ghost use Rattle.blockdev.specs.Law.{DeviceFrame, WriteDone, NoLie, CrashSetKept};
@@ -13,9 +13,10 @@ use crate::parts::{Change, Stop, change_part, reach, read_part};
 use bio::{Ms, SECTOR_BYTES};
 use blockdev::BlockDev;
 
-/// Does a write or a discard block by block. Each part starts at the time at which the one before
-/// ended. A block with a count above 0 stops the call, and its count is lowered by one. Any other
-/// listed block leaves the list when its part is done.
+/// Does a write or a discard block by block. Each part starts at the time at which the part before
+/// it ended. A block with a count above 0 stops the call, and its count is lowered by one. If the
+/// part of a listed block ends Ok, the block leaves the list. An error of the lower device stops
+/// the call too.
 pub(crate) fn change_blocks<D: BlockDev>(
     lower: &mut D,
     bad: &mut BadBlocks,
@@ -58,8 +59,8 @@ pub(crate) fn change_blocks<D: BlockDev>(
     Ok(end)
 }
 
-/// Does a read block by block. Each part starts at the time at which the one before ended. The
-/// first listed block stops the read. The list stays.
+/// Does a read block by block. Each part starts at the time at which the part before it ended. A
+/// listed block or an error of the lower device stops the read. The list stays.
 pub(crate) fn read_blocks<D: BlockDev>(
     lower: &mut D,
     bad: &BadBlocks,

@@ -1,5 +1,5 @@
-//! The layer with bad blocks, as Linux's dm-dust has them: `Dust`, a block device over another one.
-//! In bypass it passes every call. In the other mode reads, writes and discards go block by block.
+//! `Dust`: the layer with bad blocks, like Linux's dm-dust. In bypass it passes every call. In the
+//! other mode it does reads, writes and discards block by block.
 ghost use Rattle.std.proofs.Props.{props};
 ghost use Rattle.dust_layer.specs.Sizes.{IsBlock, IsBlockSize};
 
@@ -65,8 +65,8 @@ impl<D: BlockDev + Drop> Dust<D> {
         self.lower
     }
 
-    // Returns the answer to a call that went block by block, and counts the fault if a bad block
-    // stopped it.
+    // Returns the answer to a call that went block by block. If a bad block stopped the call,
+    // counts a fault.
     fn answer(&mut self, end: Result<Ms, Stop>) -> Result<Ms, DevError>
         ensures answer { result ≡ answer_of end }
         ensures faults { self.new.faults ≡ faults_after end self.old.faults }
@@ -93,7 +93,7 @@ impl<D: BlockDev + Drop> BlockDev for Dust<D> {
 
     ghost shown = { λ device. counted (D.shown device.lower) device.faults 0 false };
 
-    // What the device does, by its mode.
+    // `IsDusted` says what the device does in each mode.
     ghost does = { λ old call now result new. IsDusted D.does call now result old new };
 
     fn sectors(&self) -> u64 {
@@ -168,8 +168,8 @@ impl<D: Message + Drop> Dust<D> {
     ghost use Rattle.std.specs.Prelude.{◌≡◌};
     ghost use Rattle.blockdev.specs.Messages.{Unchanged};
 
-    /// Passes a message to the lower device, whose layers count from 1. The bad blocks stay. It is
-    /// refused if the lower device refuses it.
+    /// Passes the message to the lower device, for its layer `layer`, and returns the answer. The
+    /// bad blocks, the mode and the faults of this device stay.
     pub fn message_below(&mut self, layer: u64, text: &str) -> Result<(), MessageError>
         ensures same { Unchanged (D.shown self.old.lower) (D.shown self.new.lower) }
         ensures answers { D.answers self.old.lower layer text.now result self.new.lower }

@@ -1,5 +1,5 @@
-//! The law of a device with bad blocks, apart from the code: the function does nothing. If bad
-//! blocks fail calls, a call that ended Ok touched no block that fails it.
+//! A law of the device with bad blocks. The function does nothing, and its `ensures` clauses are
+//! the law.
 ghost use Rattle.std.specs.Prelude.{◌≡◌, ◌/◌, Bool, List, None, Ok, length, ℕ};
 ghost use Rattle.blockdev.specs.Calls.{Discards, Reads, Writes};
 ghost use Rattle.dust_layer.specs.declared.dust.Dust.{Dust};

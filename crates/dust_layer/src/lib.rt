@@ -1,5 +1,6 @@
-//! A device over any other one that has bad blocks: reading or writing there fails, until it is
-//! written well.
+//! `Dust`, a device with bad blocks over any other device. In one of its two modes, bad blocks fail
+//! calls. In that mode, a block leaves the list of bad blocks if a write or a discard of it
+//! succeeds.
 #![tactic(auto)]
 
 pub use dust::Dust;

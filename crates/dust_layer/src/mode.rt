@@ -6,7 +6,7 @@ ghost use Rattle.dust_layer.specs.Sizes.{mode_text};
 /// What a device does with calls at its bad blocks.
 #[derive(Clone, Copy, Debug, PartialEq, Eq)]
 pub enum Mode {
-    /// Every call is passed.
+    /// Every call is passed to the lower device.
     Bypass,
     /// Calls at bad blocks fail.
     FailReadOnBadBlock,
@@ -25,7 +25,7 @@ impl Mode {
         }
     }
 
-    // Returns the mode in which bad blocks fail calls, or the other one.
+    // Returns FailReadOnBadBlock if `enabled`, and otherwise Bypass.
     pub(crate) fn of(enabled: bool) -> Mode
         ensures { is_enabled result ≡ enabled }
     {

@@ -1,5 +1,5 @@
-//! Parses the order that a message to a device with bad blocks gives, in dm-dust's words. `Dust`
-//! passes the order to `apply`, and refuses a message that gives none.
+//! Parses a message to a device with bad blocks, written as for dm-dust. `Dust` passes the order to
+//! `apply`, and refuses a message that asks for none.
 ghost use Rattle.std.specs.Prelude.{◌≡◌, ◌↔◌, ◌<◌, Some, option_copied};
 ghost use Rattle.dust_layer.specs.declared.order.Order.{Order};
 ghost use Rattle.dust_layer.specs.Orders.{AsksFor};
@@ -26,9 +26,9 @@ pub enum Order {
     Disable,
 }
 
-/// Returns the order that a message asks for, if it asks for one, by the grammar of dm-dust's
-/// messages. One space is between each two words. Numbers have 1 to 20 decimal digits and are below
-/// 2^64. A count is 0 to 255, or 0 if none is given.
+/// Returns the order that the message `text` asks for, or None if it asks for none. Exactly one
+/// space separates two words. A number has 1 to 20 decimal digits and is below 2^64. A count is 0
+/// to 255, and 0 if none is given.
 pub fn order_of(text: &[u8]) -> Option<Order>
     ensures { (order : Order) → (result ≡ Some order) ↔ AsksFor text.now order }
 {
@@ -45,7 +45,7 @@ fn read_order(text: &[u8]) -> Option<Order>
     }
 }
 
-// Returns the order of one word.
+// Returns the order whose only word is `verb`, or None.
 fn lone_order(verb: &[u8]) -> Option<Order>
     ensures { result ≡ the_lone_order verb.now }
 {
@@ -60,7 +60,7 @@ fn lone_order(verb: &[u8]) -> Option<Order>
     }
 }
 
-// Returns the order with this first word and these other words.
+// Returns the order with the first word `verb` and the other words `words`, or None.
 fn order_with(verb: &[u8], words: &[u8]) -> Option<Order>
     ensures { result ≡ the_order_with verb.now words.now }
 {
@@ -75,7 +75,7 @@ fn order_with(verb: &[u8], words: &[u8]) -> Option<Order>
     }
 }
 
-// Returns the order to list a block that these words ask for, with its count.
+// Returns the order to list a block, given the words after `addbadblock`, or None.
 fn add_of(words: &[u8]) -> Option<Order>
     ensures { result ≡ the_add words.now }
 {
@@ -86,7 +86,7 @@ fn add_of(words: &[u8]) -> Option<Order>
     })
 }
 
-// Returns the count that a word is, if it is one; no word means count 0.
+// Returns the count that `word` gives, or None if it gives none. No word means count 0.
 fn count_of(word: Option<&[u8]>) -> Option<u8>
     ensures { result ≡ the_count (option_copied word.entry) }
 {

@@ -1,5 +1,5 @@
-//! The part of a call that covers some of its sectors, done on the lower device. `blocks` calls it
-//! for each block that a write, a discard or a read touches.
+//! Does a part of a call, on some of its sectors, on the lower device. `blocks` does a write, a
+//! discard or a read by such parts, one for each block.
 ghost use Rattle.std.specs.Prelude.{◌≡◌, ◌<◌, ◌≤◌, ◌+◌, ◌-◌, ◌*◌, ◌/◌, OnOk, drop, length};
 ghost use Rattle.std.specs.Prelude.{take};
 ghost use Rattle.blockdev.specs.Calls.{IsByteRange, IsRange, Reads};
@@ -28,7 +28,8 @@ pub(crate) enum Change<'a> {
     Discard,
 }
 
-/// Returns the sector at which a call's part before this block ends. A block has `block` sectors.
+/// Returns the first sector of block `place`, but at least `first` and at most `first + count`. A
+/// block has `block` sectors.
 pub(crate) fn reach(block: u64, first: u64, count: u64, place: u64) -> u64
     requires block { place * block < 18446744073709551616 }
     requires end { first + count < 18446744073709551616 }
@@ -37,7 +38,7 @@ pub(crate) fn reach(block: u64, first: u64, count: u64, place: u64) -> u64
     (first + count).min(first.max(place * block))
 }
 
-// Returns the bytes of a write's sectors from `from` to before `to`.
+// Returns the bytes of the sectors from `from` to before `to`. `bytes` begins at sector `first`.
 fn bytes_within(bytes: &[u8], first: u64, from: u64, to: u64) -> &[u8]
     requires from { first ≤ from }
     requires order { from ≤ to }

@@ -1,5 +1,5 @@
--- For each clause of what becomes of a call that a gate decides about, devices that break it and
--- nothing else, and are refused by it.
+-- A device that breaks the clause `passes` of `IsDecided`, and a content that breaks `SeenFrom`.
+-- The delay of each kind, by computation.
 use Rattle.std.proofs.Common.{◌≡◌, ℕ, ◌+◌, List, [], ◌∷◌, Ok, slice_index_or, refl, ap, ◌∙◌}
 use Rattle.std.proofs.Common.{arith}
 use Rattle.blockdev.specs.Calls.{Flushes}
@@ -12,7 +12,7 @@ use Rattle.fault_layers.specs.Decision.{IsDecided}
 use Rattle.fault_layers.specs.declared.target.Target.TheVariants.{Linear}
 use Rattle.fault_layers.specs.Verdicts.{delay_of, delay_verdict, Delays}
 
--- a device over one that is a number, with so many faults and lies
+-- A `Gated` over a lower device that is a number, with these counts of faults and lies.
 gated : ℕ → ℕ → ℕ → Gated ℕ ℕ
 gated lower faults lies =
     record {
@@ -23,12 +23,11 @@ gated lower faults lies =
       kind = 0;
     }
 
--- a call that passes and that the device beneath doesn't
--- do, one that is a fault, and one that is a lie
+-- If a call passes and the lower device doesn't do it, `IsDecided` refuses it.
 pass_below : IsDecided Pass (λ begun. ⊥) Flushes 5 (Ok 5) (gated 0 0 0) (gated 1 0 0) → ⊥
 pass_below told = (told.passes refl).0
 
--- delays of reads, writes and flushes: each kind has its own, and a discard that of a write
+-- Each kind of call has its own delay, but a discard has the delay of a write.
 abbrev delaying : Delays
 delaying = record { read = 1; write = 2; flush = 3 }
 
@@ -36,11 +35,11 @@ delays_of_kinds : (delay_of delaying Read ≡ 1) × (delay_of delaying Write ≡
     × (delay_of delaying Discard ≡ 2) × (delay_of delaying Flush ≡ 3)
 delays_of_kinds = (refl, refl, refl, refl)
 
--- and no moment matters to it
+-- The delay doesn't depend on the time.
 delayed_at_any : (now : ℕ) → delay_verdict delaying Flush now ≡ Delay 3
 delayed_at_any now = refl
 
--- a range that has what stands beneath it elsewhere
+-- If a range has other sectors than those from its offset on, `SeenFrom` refuses it.
 Numbered : Content → Type 0
 Numbered below = (sector : ℕ) → below sector ≡ sector ∷ []
 

@@ -1,4 +1,4 @@
--- Worked decisions, by computation.
+-- Examples of verdicts, shifted calls and ranges, proved by computation.
 use Rattle.std.proofs.Common.{◌≡◌, ◌||◌, ℕ, true, false, [], ◌∷◌, refl}
 use Rattle.std.specs.Prelude.{◌-◌, ◌^◌}
 use Rattle.blockdev.specs.Calls.{Discards, Flushes}
@@ -12,7 +12,7 @@ use Rattle.fault_layers.specs.declared.target.Target.TheVariants as targets
 use Rattle.fault_layers.specs.Verdicts.{drops_writes, flakey_verdict, fuse_after, fuse_verdict}
 use Rattle.fault_layers.specs.Verdicts.{is_up, loaded_after, verdict_of, Cycle, Loaded}
 
--- up for 10 seconds and down for 5, from this moment on
+-- Up for 10 seconds and down for 5, from the time `load` on.
 ten_and_five : ℕ → Cycle
 ten_and_five load = record { up = 10; down = 5; feature = features.None; load = load }
 
@@ -43,7 +43,7 @@ up-again : is_up (ten_and_five 0) 15000 ≡ true
 unfolding ten_and_five
 up-again = refl
 
--- before the load it is as at the load
+-- A time before the load counts as the load.
 up-before : is_up (ten_and_five 3000) 1000 ≡ true
 unfolding ten_and_five
 up-before = refl
@@ -64,8 +64,8 @@ always-up : is_up always 5000 ≡ true
 unfolding always
 always-up = refl
 
--- at the last moment, 2^64 - 1, 6.615 seconds of a cycle have
--- gone by; and none where that is the moment of the load
+-- At the time 2^64 - 1, 6.615 seconds of a cycle have passed. If the target is loaded at that time,
+-- no time has passed.
 last-up : is_up (ten_and_five 0) last ≡ true
 unfolding ten_and_five last
 last-up = refl
@@ -78,7 +78,7 @@ last-never : is_up never last ≡ false
 unfolding never last
 last-never = refl
 
--- what it does while it is down, by its feature
+-- The verdict of each feature while the target is down.
 down-none-read : flakey_verdict (record never { feature = features.None }) Read 7 ≡ Fail
 unfolding never
 down-none-read = refl
@@ -107,40 +107,41 @@ down-drops-flush : flakey_verdict (record never { feature = features.DropWrites 
 unfolding never
 down-drops-flush = refl
 
--- and while it is up all passes
+-- While the target is up, every call passes.
 up-passes : flakey_verdict (record always { feature = features.DropWrites }) Write 7 ≡ Pass
 unfolding always
 up-passes = refl
 
--- a fuse of none: writes fail, reads pass
+-- A fuse with no call left: writes fail, reads pass.
 fuse-none : fuse_verdict 0 Write 7 ≡ Fail
 fuse-none = refl
 
 fuse-reads : fuse_verdict 0 Read 7 ≡ Pass
 fuse-reads = refl
 
--- a fuse of one: a read isn't counted, the first flush passes, and the discard after it fails
+-- A fuse with one call left: a read takes none, the first flush passes, and the discard after it
+-- fails.
 fuse-one : fuse_verdict (fuse_after 1 Read 7) Flush 7 ≡ Pass
 fuse-one = refl
 
 fuse-one-after : fuse_verdict (fuse_after 1 Flush 7) Discard 7 ≡ Fail
 fuse-one-after = refl
 
--- a fuse of two: the second write passes, and the third fails
+-- A fuse with two calls left: the second write passes, and the third fails.
 fuse-two : fuse_verdict (fuse_after 2 Write 7) Write 8 ≡ Pass
 fuse-two = refl
 
 fuse-two-after : fuse_verdict (fuse_after (fuse_after 2 Write 7) Discard 8) Write 9 ≡ Fail
 fuse-two-after = refl
 
--- a call four sectors further on; a flush has no sectors
+-- Calls shifted by four sectors. A flush has no sectors.
 four-on : call_from 4 (Discards 3 2) ≡ Discards 7 2
 four-on = refl
 
 flush-on : call_from 4 Flushes ≡ Flushes
 flush-on = refl
 
--- what a range has in its sector 0 stands beneath at its offset
+-- Sector 0 of a range is the lower device's sector at the range's offset.
 numbered : Content
 numbered sector = sector ∷ []
 
@@ -153,7 +154,7 @@ range-first = refl
 abbrev gate : Target → Loaded
 gate target = record { target = target; load = 3000 }
 
--- up for 10 seconds from the moment 3000 on, then down for 5, while it drops what is written
+-- Up for 10 seconds from the time 3000 on, then down for 5; it drops writes while it is down.
 abbrev dropping : Loaded
 dropping = gate (targets.Flakey 10 5 features.DropWrites)
 
@@ -163,7 +164,8 @@ last-up-write = refl
 first-down-write : verdict_of dropping Write 13000 ≡ Drop
 first-down-write = refl
 
--- a fuse has one call less after a write, and as many after a read; every other gate stays
+-- After a write a fuse has one call fewer left; after a read it has as many as before. Other gates
+-- stay.
 written : loaded_after (gate (targets.Fuse 2)) Write 7 ≡ gate (targets.Fuse 1)
 written = refl
 
@@ -179,14 +181,14 @@ delays-stay = refl
 fails : verdict_of (gate targets.Error) Read 7 ≡ Fail
 fails = refl
 
--- a discard is delayed as a write is
+-- A discard is delayed like a write.
 discarded-later : verdict_of (gate (targets.Delay 1 2 3)) Discard 7 ≡ Delay 2
 discarded-later = refl
 
 flushed-later : verdict_of (gate (targets.Delay 1 2 3)) Flush 7 ≡ Delay 3
 flushed-later = refl
 
--- a linear gate passes all, and so does that of a layer with bad blocks
+-- A gate with a linear or a dust target passes every call.
 all-passes : verdict_of (gate targets.Linear) Write 7 ≡ Pass
 all-passes = refl
 

@@ -1,3 +1,4 @@
--- The lemmas of `fault_layers`; the proof of a function stands in the folder of its source file.
+-- The lemmas of `fault_layers`. The proof of a function is in the folder named after its source
+-- file.
 pub mod Examples
 mod Counterexamples

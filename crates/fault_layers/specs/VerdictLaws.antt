@@ -1,4 +1,4 @@
--- No layer drops a read, or a call that it may not drop; and a delayed call ends later.
+-- Which calls a gate never drops, and when a delayed call of a disk in memory ends.
 use Rattle.std.proofs.Common.{◌≡◌, ◌∙◌, ℕ, Bool, Ok, zero, suc, true, false, true≢false, refl, sym}
 use Rattle.bio.specs.Moments.{later_by}
 use Rattle.blockdev.specs.Calls.{Call, Discards, Flushes, Reads, Writes}
@@ -20,7 +20,8 @@ use Rattle.fault_layers.specs.Verdicts.{Delays, Loaded}
 
 -- ---- drops
 
--- a flakey layer that is down drops no read, and it drops only with that feature
+-- If a flakey target that is down drops a call, its feature is DropWrites, and the call isn't a
+-- read.
 down_drops : (feature : Feature) (kind : Kind) → down_verdict feature kind ≡ Drop
     → (is_drop_writes feature ≡ true) × (kind ≡ Read → ⊥)
 down_drops features.None kind is = absurd (cc)
@@ -42,7 +43,7 @@ flakey_drops : (up : Bool) (feature : Feature) (kind : Kind) → verdict_if up f
 flakey_drops true feature kind is = absurd (cc)
 flakey_drops false feature kind is = down_drops feature kind is
 
--- a fuse drops nothing
+-- A fuse drops no call.
 while_drops : (calls : ℕ) → while_left calls ≡ Drop → ⊥
 while_drops zero is = cc
 while_drops (suc calls) is = cc
@@ -53,7 +54,7 @@ fuse_drops calls Write now is = while_drops calls is
 fuse_drops calls Discard now is = while_drops calls is
 fuse_drops calls Flush now is = while_drops calls is
 
--- what is dropped is no read, and the target may drop writes
+-- If a target drops a call, it may drop writes (`drops_writes`), and the call isn't a read.
 target_drops : (target : Target) (load : ℕ) (kind : Kind) (now : ℕ)
     → target_verdict target load kind now ≡ Drop
     → (drops_writes target ≡ true) × (kind ≡ Read → ⊥)
@@ -66,17 +67,17 @@ target_drops (targets.Fuse calls) load kind now is = absurd (fuse_drops calls ki
 target_drops (targets.Dust bytes) load kind now is = absurd (cc)
 target_drops (targets.Delay read write flush) load kind now is = absurd (cc)
 
--- a gate that may not drop calls drops none
+-- If a gate's target may not drop writes, the gate drops no call.
 pub gate_honest : (loaded : Loaded) (kind : Kind) (now : ℕ) → drops_writes loaded.target ≡ false
     → verdict_of loaded kind now ≡ Drop → ⊥
 gate_honest loaded kind now none is =
     true≢false (sym (target_drops loaded.target loaded.load kind now is).0 ∙ none)
 
--- a read can't be dropped: there would be no bytes to answer
+-- No gate drops a read.
 pub gate_keeps_reads : (loaded : Loaded) (now : ℕ) → verdict_of loaded Read now ≡ Drop → ⊥
 gate_keeps_reads loaded now is = (target_drops loaded.target loaded.load Read now is).1 refl
 
--- a decision doesn't change whether it may
+-- A decision doesn't change whether a target may drop writes.
 target_stays : (target : Target) (load : ℕ) (kind : Kind) (now : ℕ)
     → drops_writes (loaded_after (record { target = target; load = load }) kind now).target
     ≡ drops_writes target
@@ -93,7 +94,7 @@ gate_stays loaded kind now = target_stays loaded.target loaded.load kind now
 
 -- ---- delays
 
--- a call of a disk in memory that ends well ends at once
+-- If a call of a disk in memory ends Ok, it ends at the time at which it began.
 pub ends_at_once : (old new : SectorDisk) (call : Call) (now end : ℕ)
     → Does old call now (Ok end) new → end ≡ now
 ends_at_once old new (Reads first before after) now end (same, past, read) = cc
@@ -101,7 +102,8 @@ ends_at_once old new (Writes first bytes fua) now end (same, past) = same
 ends_at_once old new (Discards first count) now end (same, past) = same
 ends_at_once old new Flushes now end (same, past) = cc
 
--- so one that begins so much later ends so much later
+-- If a delayed call of a disk in memory ends Ok, it ends at `now` plus the delay of its kind
+-- (`later_by`).
 pub ends_later : {K : Type 0} (old new : Gated SectorDisk K) (delays : Delays) (call : Call)
     (now end : ℕ)
     → IsDecided (delay_verdict delays (kind_of call) now)

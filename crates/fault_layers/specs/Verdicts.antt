@@ -1,4 +1,4 @@
--- What a layer does with a call, by its target.
+-- The verdict about a call by a layer's target, and the target after the call.
 use Rattle.std.specs.Prelude.{ℕ, zero, suc, ◌+◌, ◌-◌, ◌*◌, ◌%◌, ◌≤◌, Bool, true, false, nat_lt}
 use Rattle.fault_layers.specs.declared.feature.Feature.{Feature}
 use Rattle.fault_layers.specs.declared.feature.Feature.TheVariants as features
@@ -11,25 +11,26 @@ use Rattle.fault_layers.specs.declared.target.Target.TheVariants as targets
 
 -- ---- flakey
 
--- how long a flakey device is up and down, in seconds: together at least one, and within 32 bits
+-- A flakey target may be up for `up` seconds and down for `down` seconds: the sum is 1 to
+-- 4294967295.
 pub record IsCycle (up down : ℕ) : Type 0 where
   pub some : 1 ≤ up + down
   pub few : up + down ≤ 4294967295
 
--- what a flakey device looks at: seconds up and down, what it does while down, and the moment of
--- its load
+-- The parameters of a flakey target: its seconds up and down, its feature, and the time of its load
+-- in milliseconds.
 pub record Cycle : Type 0 where
   pub up : ℕ
   pub down : ℕ
   pub feature : Feature
   pub load : ℕ
 
--- it is up for the first seconds of each cycle since its
--- load; a moment before the load counts as the load
+-- Whether a flakey target is up at a time: it is in the first `up` seconds of each cycle since its
+-- load. A time before the load counts as the load.
 abbrev pub is_up : Cycle → ℕ → Bool
 is_up cycle now = nat_lt ((now - cycle.load) % (1000 * (cycle.up + cycle.down))) (1000 * cycle.up)
 
--- what it does with a call while it is down
+-- The verdict of a flakey target that is down.
 abbrev pub down_verdict : Feature → Kind → Verdict
 down_verdict features.None kind = Fail
 down_verdict features.ErrorReads Read = Fail
@@ -45,7 +46,7 @@ down_verdict features.DropWrites Write = Drop
 down_verdict features.DropWrites Discard = Drop
 down_verdict features.DropWrites Flush = Drop
 
--- while it is up every call passes
+-- The verdict of a flakey target; the first argument says whether it is up.
 abbrev pub verdict_if : Bool → Feature → Kind → Verdict
 verdict_if true feature kind = Pass
 verdict_if false feature kind = down_verdict feature kind
@@ -53,8 +54,7 @@ verdict_if false feature kind = down_verdict feature kind
 abbrev pub flakey_verdict : Cycle → Kind → ℕ → Verdict
 flakey_verdict cycle kind now = verdict_if (is_up cycle now) cycle.feature kind
 
--- with this feature a flakey layer that is down answers Ok to writes, discards and flushes, and
--- drops them
+-- Whether a flakey target with this feature drops writes, discards and flushes while it is down.
 abbrev pub is_drop_writes : Feature → Bool
 is_drop_writes features.None = false
 is_drop_writes features.ErrorReads = false
@@ -63,19 +63,19 @@ is_drop_writes features.DropWrites = true
 
 -- ---- fuse
 
--- a call that is counted passes while there is one left
+-- A fuse's verdict about a write, a discard or a flush, given how many calls are left.
 abbrev pub while_left : ℕ → Verdict
 while_left zero = Fail
 while_left (suc calls) = Pass
 
--- reads pass; writes, discards and flushes do while there are calls left
+-- The verdict of a fuse that has `calls` calls left. Reads always pass.
 abbrev pub fuse_verdict : ℕ → Kind → ℕ → Verdict
 fuse_verdict calls Read now = Pass
 fuse_verdict calls Write now = while_left calls
 fuse_verdict calls Discard now = while_left calls
 fuse_verdict calls Flush now = while_left calls
 
--- each of these is one call less
+-- The number of calls left after a call. A write, a discard or a flush uses one up, if one is left.
 abbrev pub fuse_after : ℕ → Kind → ℕ → ℕ
 fuse_after calls Read now = calls
 fuse_after calls Write now = calls - 1
@@ -84,32 +84,32 @@ fuse_after calls Flush now = calls - 1
 
 -- ---- delay
 
--- how much later a delay device's calls begin, in milliseconds
+-- The delays of a delay target, in milliseconds.
 pub record Delays : Type 0 where
   pub read : ℕ
   pub write : ℕ
   pub flush : ℕ
 
--- how much later a call of this kind begins; a discard is delayed as a write is
+-- The delay of a call of this kind. A discard is delayed like a write.
 abbrev pub delay_of : Delays → Kind → ℕ
 delay_of delays Read = delays.read
 delay_of delays Write = delays.write
 delay_of delays Discard = delays.write
 delay_of delays Flush = delays.flush
 
--- every call passes, so much later
+-- Every call is delayed by the delay of its kind.
 abbrev pub delay_verdict : Delays → Kind → ℕ → Verdict
 delay_verdict delays kind now = Delay (delay_of delays kind)
 
 -- ---- all targets
 
--- What decides about the calls of a layer: its target, and the moment of its load.
+-- A target, and the time of its load in milliseconds: a gate, as contracts see it.
 pub record Loaded : Type 0 where
   pub target : Target
   pub load : ℕ
 
--- The verdict about a call. A linear layer passes each, and so does one with bad blocks, which goes
--- block by block in place of a gate.
+-- The verdict of a target that was loaded at `load`. A dust target passes every call here: its
+-- layer has no gate, and goes block by block.
 abbrev pub target_verdict : Target → ℕ → Kind → ℕ → Verdict
 target_verdict targets.Linear load kind now = Pass
 target_verdict targets.Error load kind now = Fail
@@ -123,7 +123,7 @@ target_verdict (targets.Delay read write flush) load kind now =
 abbrev pub verdict_of : Loaded → Kind → ℕ → Verdict
 verdict_of gate kind now = target_verdict gate.target gate.load kind now
 
--- the target after a call: only a fuse changes
+-- The target after a call. Only a fuse changes.
 abbrev pub target_after : Target → Kind → ℕ → Target
 target_after (targets.Fuse calls) kind now = targets.Fuse (fuse_after calls kind now)
 target_after target kind now = target
@@ -132,12 +132,12 @@ abbrev pub loaded_after : Loaded → Kind → ℕ → Loaded
 loaded_after gate kind now =
     record { target = target_after gate.target kind now; load = gate.load }
 
--- whether the layer may report writes as done, and drop them
+-- Whether the target may drop writes, discards and flushes, and report them as done.
 abbrev pub drops_writes : Target → Bool
 drops_writes (targets.Flakey up down feature) = is_drop_writes feature
 drops_writes target = false
 
--- a flakey target's seconds are in their range
+-- If the target is flakey, its seconds are in their range (`IsCycle`).
 abbrev pub HasCycle : Target → Type 0
 HasCycle (targets.Flakey up down feature) = IsCycle up down
 HasCycle target = Unit {0}

@@ -1,4 +1,4 @@
--- A device that is a range of another one's sectors.
+-- The view and the calls of a device that is a range of another device's sectors.
 use Rattle.std.specs.Prelude.{◌≡◌, ℕ, ◌+◌}
 use Rattle.blockdev.specs.Calls.{Call, Discards, Flushes, Reads, Writes}
 use Rattle.blockdev.specs.View.{View}
@@ -11,13 +11,13 @@ call_from offset (Writes first bytes fua) = Writes (offset + first) bytes fua
 call_from offset (Discards first count) = Discards (offset + first) count
 call_from offset Flushes = Flushes
 
--- one of these contents, seen from its sector `offset` on
+-- `set` has a content whose sectors from `offset` on are the sectors of `left`.
 abbrev pub SeenFrom : ℕ → (Content → Type 0) → Content → Type 0
 SeenFrom offset set left =
     (below : Content) × set below × ((sector : ℕ) → left sector ≡ moved offset below sector)
 
--- the view of a device's `length` sectors from `offset` on:
--- what it has there, and what a crash leaves there
+-- The view of a device's `length` sectors from `offset` on. Its contents, also those that a crash
+-- may leave, are the device's contents from `offset` on.
 abbrev pub window : View → ℕ → ℕ → View
 window v offset length = record {
   size = length;

@@ -1,4 +1,4 @@
--- A range of a lawful device is lawful, and keeps each clause of the law.
+-- A range of a lawful device is lawful, and the device law holds for the range's calls.
 use Rattle.std.proofs.Common.{◌≡◌, ℕ, ◌+◌, Bool, List, length, refl, ap, ◌∙◌, inl, inr, arith}
 use Rattle.std.specs.Prelude.{◌/◌, Option, replicate, unwrap_or}
 use Rattle.blockdev.specs.Calls.{IsRange}
@@ -10,11 +10,11 @@ use Rattle.bio.specs.Content.{sector_of, writes}
 use Rattle.bio.specs.ContentLaws.{over-shift}
 use Rattle.fault_layers.specs.Window.{SeenFrom, window}
 
--- a patch of the lower device has the values of a patch of the range, in the same sectors
+-- `below` has at sector `offset + sector` what `patch` has at `sector`.
 abbrev IsShifted : ℕ → Patch → Patch → Type 0
 IsShifted offset below patch = (sector : ℕ) → below (offset + sector) ≡ patch sector
 
--- so it is with the values of each call
+-- The patch of a call shifted by `offset` sectors is the patch of the call, shifted.
 writes-shifted : (offset first : ℕ) (bytes : List ℕ)
     → IsShifted offset (writes (offset + first) bytes) (writes first bytes)
 writes-shifted offset first bytes = over-shift offset first (length bytes / 512) (sector_of bytes)
@@ -23,13 +23,14 @@ discards-shifted : (offset first count : ℕ)
     → IsShifted offset (discards (offset + first) count) (discards first count)
 discards-shifted offset first count = over-shift offset first count (λ _. replicate 512 0)
 
--- what is put below is put in the range
+-- If `below` is put into a content, its sectors from `offset` on are as if `patch` were put into
+-- them.
 put-shifted : (offset : ℕ) (below patch : Patch) (content : Content) → IsShifted offset below patch
     → (sector : ℕ) → put below content (offset + sector) ≡ put patch (moved offset content) sector
 put-shifted offset below patch content shifted sector =
     ap (λ (o : Option (List ℕ)). unwrap_or o (content (offset + sector))) (shifted sector)
 
--- what is patched below is patched in the range
+-- If `new` is `old` patched by `below`, then from `offset` on `new` is `old` patched by `patch`.
 patched-shifted : (offset : ℕ) (below patch : Patch) (old new : Content)
     → IsShifted offset below patch → Patched below old new
     → Patched patch (moved offset old) (moved offset new)
@@ -39,7 +40,8 @@ patched-shifted offset below patch old new shifted patched =
       | inr has ↦ inr (has ∙ put-shifted offset below patch old shifted sector)
     ]
 
--- so it is with what a crash leaves
+-- If a crash may leave `low` after `below`, a crash of the range may leave `left` after `patch`.
+-- `left` is `low` from `offset` on.
 after-shifted : (offset : ℕ) (below patch : Patch) (set : Content → Type 0) (left low : Content)
     → IsShifted offset below patch
     → ((sector : ℕ) → left sector ≡ moved offset low sector) → AfterPatch below set low
@@ -53,7 +55,7 @@ after-shifted offset below patch set left low shifted seen after = (
   ],
 )
 
--- if nothing is changed below, nothing is in a range
+-- If a device is unchanged, a range of it is unchanged.
 pub unchanged_window : (v w : View) (offset length : ℕ) → Unchanged v w
     → Unchanged (window v offset length) (window w offset length)
 unchanged_window v w offset length same = record {
@@ -90,7 +92,7 @@ lawful_window v offset length fits lawful = record {
   lies = lawful.lies;
 }
 
--- if the lower device goes by the shifted call, the range goes by the call
+-- If the lower device satisfies the frame of `below`, the range satisfies the frame of `patch`.
 goes_window : (offset length : ℕ) (below patch : Patch) (v w : View) → IsShifted offset below patch
     → DeviceFrame below v w
     → DeviceFrame patch (window v offset length) (window w offset length)
@@ -113,7 +115,7 @@ goes_window offset length below patch v w shifted goes = record {
   honest = goes.honest;
 }
 
--- what lands below lands in the range
+-- If the write of `below` is done in the lower device, the write of `patch` is done in the range.
 lands_window : (offset length : ℕ) (below patch : Patch) (fua : Bool) (v w : View)
     → IsShifted offset below patch
     → (NoLie v w → WriteDone below fua v w)
@@ -134,7 +136,7 @@ lands_window offset length below patch fua v w shifted lands told =
           );
     }
 
--- so it is for each kind of call
+-- `goes_window` and `lands_window` for each kind of call.
 pub goes_window_nothing : (offset length : ℕ) (v w : View) → DeviceFrame nothing v w
     → DeviceFrame nothing (window v offset length) (window w offset length)
 goes_window_nothing offset length v w =

@@ -1,5 +1,5 @@
-//! The layers that only decide about calls, each a device over any other one: a `Gated` whose gate
-//! has the layer's target.
+//! The error, flakey, fuse and delay layers. Each is a `Gated` over any block device, and its gate
+//! holds the layer's target.
 ghost use Rattle.fault_layers.specs.declared.target.Target.TheVariants as targets;
 
 use crate::feature::Feature;
@@ -9,40 +9,42 @@ use crate::target::Target;
 use bio::Ms;
 use blockdev::BlockDev;
 
-/// What `ErrorDev`, `Flakey`, `Fuse` and `Delay` differ in, as types.
+/// Marks the `Gated` that is an `ErrorDev`. It holds no data.
 #[derive(Clone, Copy, Drop)]
 pub struct AsError {}
 
-/// As `AsError`.
+/// Marks the `Gated` that is a `Flakey`. It holds no data.
 #[derive(Clone, Copy, Drop)]
 pub struct AsFlakey {}
 
-/// As `AsError`.
+/// Marks the `Gated` that is a `Fuse`. It holds no data.
 #[derive(Clone, Copy, Drop)]
 pub struct AsFuse {}
 
-/// As `AsError`.
+/// Marks the `Gated` that is a `Delay`. It holds no data.
 #[derive(Clone, Copy, Drop)]
 pub struct AsDelay {}
 
-/// A device of which every call answers Io (the target `error` of Linux's device mapper).
+/// A device that fails each read, write, discard and flush with Io, like the device-mapper target
+/// `error`.
 pub type ErrorDev<D> = Gated<D, AsError>;
 
-/// A device that works for some seconds and is unreliable for some, in turn (Linux's
-/// Documentation/admin-guide/device-mapper/dm-flakey.rst).
+/// A device that passes every call for some seconds, then follows its `Feature` for some seconds,
+/// and so on (Linux's Documentation/admin-guide/device-mapper/dm-flakey.rst).
 pub type Flakey<D> = Gated<D, AsFlakey>;
 
-/// A device that fails after a number of calls: a target of
-/// this project's own, which the kernel doesn't have.
+/// A device that passes a number of writes, discards and flushes, and then fails them. It passes
+/// every read. This isn't a device-mapper target: it is the project's own.
 pub type Fuse<D> = Gated<D, AsFuse>;
 
-/// A device whose calls begin later (Linux's Documentation/admin-guide/device-mapper/delay.rst).
+/// A device that passes each call to the lower device after a delay (Linux's
+/// Documentation/admin-guide/device-mapper/delay.rst).
 pub type Delay<D> = Gated<D, AsDelay>;
 
 impl<D: BlockDev + Drop> ErrorDev<D> {
     ghost use Rattle.std.specs.Prelude.{◌≡◌};
 
-    /// The failing device over this one.
+    /// Returns an error device over `lower`.
     pub fn new(lower: D) -> ErrorDev<D>
         ensures lower { result.lower ≡ lower }
         ensures target { result.gate ≡ record { target = targets.Error; load = 0 } }
@@ -57,9 +59,9 @@ impl<D: BlockDev + Drop> Flakey<D> {
     ghost use Rattle.std.specs.Prelude.{◌≡◌};
     ghost use Rattle.fault_layers.specs.Verdicts.{IsCycle};
 
-    /// The device over this one that is up for `up` seconds from the moment `load` on, then down
-    /// for `down` seconds, and so on; a moment before the load counts as the load. Their sum is 1
-    /// to 4294967295 seconds.
+    /// Returns a flakey device over `lower`. From the time `load` on it is up for `up` seconds,
+    /// then down for `down` seconds, and so on. A time before `load` counts as `load`. The sum of
+    /// `up` and `down` is 1 to 4294967295.
     pub fn new(lower: D, up: u64, down: u64, feature: Feature, load: Ms) -> Flakey<D>
         requires { IsCycle up down }
         ensures lower { result.lower ≡ lower }
@@ -79,7 +81,8 @@ impl<D: BlockDev + Drop> Flakey<D> {
 impl<D: BlockDev + Drop> Fuse<D> {
     ghost use Rattle.std.specs.Prelude.{◌≡◌};
 
-    /// The device over this one that passes the first `calls` of its writes, discards and flushes.
+    /// Returns a fuse over `lower`. It passes all reads, and the first `calls` calls that are
+    /// writes, discards or flushes.
     pub fn new(lower: D, calls: u64) -> Fuse<D>
         ensures lower { result.lower ≡ lower }
         ensures calls { result.gate ≡ record { target = targets.Fuse calls; load = 0 } }
@@ -97,8 +100,9 @@ impl<D: BlockDev + Drop> Fuse<D> {
 impl<D: BlockDev + Drop> Delay<D> {
     ghost use Rattle.std.specs.Prelude.{◌≡◌};
 
-    /// The device over this one whose reads begin `read` later, its writes and discards `write`
-    /// later, and its flushes `flush` later, in milliseconds; a moment past 2^64 - 1 is 2^64 - 1.
+    /// Returns a delay device over `lower`. Its reads begin later by `read`, its writes and
+    /// discards by `write`, and its flushes by `flush`. If the later time is past 2^64 - 1
+    /// milliseconds, the call begins at 2^64 - 1.
     pub fn new(lower: D, read: Ms, write: Ms, flush: Ms) -> Delay<D>
         ensures lower { result.lower ≡ lower }
         ensures delays { result.gate

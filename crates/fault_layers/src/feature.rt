@@ -9,7 +9,6 @@ pub enum Feature {
     ErrorReads,
     /// It answers Io to writes, discards and flushes, and passes reads.
     ErrorWrites,
-    /// It drops writes, discards and flushes, answering at once that they ended well, and passes
-    /// reads.
+    /// It drops writes, discards and flushes, and reports them as done at once. It passes reads.
     DropWrites,
 }

@@ -1,5 +1,5 @@
-//! `Gate` decides for each call whether, and when, the lower device does it, by a layer's target.
-//! `Gated` asks it.
+//! A `Gate` decides by a layer's target whether, and when, the lower device does a call. `Gated`
+//! asks its gate about each call.
 ghost use Rattle.std.specs.Prelude.{◌≡◌};
 ghost use Rattle.fault_layers.specs.Verdicts.{delay_of, flakey_verdict, IsCycle};
 
@@ -8,7 +8,7 @@ use crate::target::Target;
 use bio::Ms;
 use std::marker::Model;
 
-/// What a call of a device asks for.
+/// The kind of a device call.
 #[derive(Clone, Copy, Debug, PartialEq, Eq)]
 pub enum Kind {
     Read,
@@ -17,21 +17,21 @@ pub enum Kind {
     Flush,
 }
 
-/// What becomes of a call.
+/// What a gate decides about a call.
 #[derive(Clone, Copy, Debug, PartialEq, Eq)]
 pub enum Verdict {
-    /// The lower device does it, and its answer is the call's.
+    /// The lower device does the call, and answers it.
     Pass,
-    /// The lower device begins it later by a delay in milliseconds, and its answer is the call's.
+    /// The lower device begins the call this many milliseconds later, and answers it.
     Delay(Ms),
-    /// It answers Io, and the lower device isn't called.
+    /// The call fails with Io, and the lower device isn't called.
     Fail,
-    /// It is answered as done, at once, and the lower device isn't called: a lie.
+    /// The call is reported as done at once, and the lower device isn't called: a lie.
     Drop,
 }
 
-/// What decides which calls reach the lower device, and when: a target, loaded at some time.
-/// Contracts see it as `Loaded`.
+/// A layer's target, and the time of its load. The gate decides which calls reach the lower device,
+/// and when. Contracts see a gate as `Loaded`.
 #[derive(Clone, Copy, Debug, Drop, PartialEq, Eq)]
 pub struct Gate {
     target: Target,
@@ -53,8 +53,8 @@ impl Model for Gate {
 impl Gate {
     ghost use Rattle.fault_layers.specs.Verdicts.{loaded_after, verdict_of, HasCycle};
 
-    /// Returns the gate of a target. A flakey device's times count from `load`; a moment before the
-    /// load counts as the load.
+    /// Returns a gate with this target. A flakey target's seconds count from `load`. A time before
+    /// `load` counts as `load`.
     pub fn new(target: Target, load: Ms) -> Gate
         requires { HasCycle target }
         ensures { result ≡ record { target = target; load = load } }
@@ -62,7 +62,8 @@ impl Gate {
         Gate { target, load }
     }
 
-    /// Decides about one call, which begins at the moment `now`, in milliseconds.
+    /// Decides about one call of kind `kind` that begins at `now`. If a fuse passes a write, a
+    /// discard or a flush, it has one call fewer left.
     pub fn decide(&mut self, kind: Kind, now: Ms) -> Verdict
         ensures verdict { result ≡ verdict_of self.old kind now }
         ensures after { self.new ≡ loaded_after self.old kind now }
@@ -90,7 +91,8 @@ impl Gate {
     }
 }
 
-// Returns the verdict of a flakey device, which passes each call while it is up.
+// Returns a flakey target's verdict about a call at `now`. While the target is up, it is Pass.
+// While the target is down, `feature` and `kind` decide.
 fn flakey_verdict(up: u64, down: u64, feature: Feature, load: Ms, kind: Kind, now: Ms) -> Verdict
     requires { IsCycle up down }
     ensures { result ≡ flakey_verdict
@@ -110,7 +112,7 @@ fn flakey_verdict(up: u64, down: u64, feature: Feature, load: Ms, kind: Kind, no
     }
 }
 
-// Returns how much later a delay device's call of this kind begins, in milliseconds.
+// Returns the delay of a call of kind `kind`, in milliseconds. A discard is delayed like a write.
 fn delay_of(read: u64, write: u64, flush: u64, kind: Kind) -> u64
     ensures { result ≡ delay_of (record { read = read; write = write; flush = flush }) kind }
 {

@@ -1,16 +1,17 @@
-//! The one device over a gate: it asks its gate about each call, and counts faults and lies. The
-//! delay, error, flakey and fuse layers are this device (src/devices.rt).
+//! `Gated`, a device over another one. It asks its gate about each call, and counts the calls that
+//! it fails (faults) and drops (lies). The error, flakey, fuse and delay layers are `Gated` devices
+//! (src/devices.rt).
 use crate::gate::{Gate, Kind, Verdict};
 use bio::{DevError, Ms};
 use blockdev::{BlockDev, Message, MessageError};
 
-/// A device with a gate that decides, call by call, whether the lower device does it, and when. `K`
-/// only tells one kind of layer from another.
+/// A device whose gate decides for each call whether, and when, the lower device does it. `K` only
+/// distinguishes the kinds of layers.
 #[derive(Drop)]
 pub struct Gated<D: BlockDev + Drop, K: Drop> {
     lower: D,
     gate: Gate,
-    // How often it failed a call, and how often it dropped one; both stop at 2^64 - 1.
+    // How many calls this device failed, and how many it dropped. Both counts stop at 2^64 - 1.
     faults: u64,
     lies: u64,
     kind: K,
@@ -21,7 +22,7 @@ impl<D: BlockDev + Drop, K: Drop> Gated<D, K> {
     ghost use Rattle.bio.specs.declared.outcome.DevError.TheVariants.{Io};
     ghost use Rattle.blockdev.specs.OwnCounts.{one_more};
 
-    /// The device under this gate, which has decided about no call yet.
+    /// Returns a device over `lower` with the gate `gate`. Its counts of faults and lies are 0.
     pub fn under(lower: D, gate: Gate, kind: K) -> Gated<D, K>
         ensures lower { result.lower ≡ lower }
         ensures gate { result.gate ≡ gate }
@@ -37,14 +38,14 @@ impl<D: BlockDev + Drop, K: Drop> Gated<D, K> {
         }
     }
 
-    /// The lower device.
+    /// Returns the lower device.
     pub fn into_lower(self) -> D
         ensures { result ≡ self.lower }
     {
         self.lower
     }
 
-    // The answer to a call that fails.
+    // Counts a fault, and returns the answer to a call that fails.
     fn fail(&mut self) -> Result<Ms, DevError>
         ensures io { result ≡ Err Io }
         ensures faults { self.new.faults ≡ one_more self.old.faults }
@@ -56,7 +57,7 @@ impl<D: BlockDev + Drop, K: Drop> Gated<D, K> {
         Err(DevError::Io)
     }
 
-    // The answer to a call that is dropped.
+    // Counts a lie, and returns the answer to a dropped call: it ends Ok at `now`.
     fn lose(&mut self, now: Ms) -> Result<Ms, DevError>
         ensures ok { result ≡ Ok now }
         ensures faults { self.new.faults ≡ self.old.faults }
@@ -79,7 +80,8 @@ impl<D: BlockDev + Drop, K: Drop> BlockDev for Gated<D, K> {
     ghost shown = { λ device. counted (D.shown device.lower) device.faults device.lies
         (drops_writes device.gate.target) };
 
-    // What the gate decides about the call, and the gate after it.
+    // The device does what the gate's verdict says (`IsDecided`), and then has the gate after the
+    // call.
     ghost does = { λ old call now result new.
         IsDecided (verdict_of old.gate (kind_of call) now)
         (λ begun. D.does old.lower call begun result new.lower) call now result old new
@@ -140,7 +142,7 @@ impl<D: BlockDev + Drop, K: Drop> BlockDev for Gated<D, K> {
 impl<D: Message + Drop, K: Drop> Message for Gated<D, K> {
     ghost use Rattle.std.specs.Prelude.{◌≡◌};
 
-    // What the lower device answers, and the gate and its counts stay.
+    // The lower device answers the message. The gate and the counts of this device stay.
     ghost answers = { λ old layer text result new.
         D.answers old.lower layer text result new.lower × (new.gate ≡ old.gate)
         × (new.faults ≡ old.faults) × (new.lies ≡ old.lies) };

@@ -1,4 +1,4 @@
-//! Laws of the layers, apart from the code: each function does nothing, and its clause is the law.
+//! Laws of the layers. Each function does nothing, and its `ensures` clauses are the law.
 ghost use Rattle.std.specs.Prelude.{◌≡◌, false, Ok, ℕ};
 ghost use Rattle.bio.specs.Moments.{later_by};
 ghost use Rattle.blockdev.specs.Calls.{Call};
@@ -13,8 +13,8 @@ ghost use Rattle.sector_disk.specs.DiskView.{Does};
 use crate::{AsDelay, Gated};
 use sector_disk::SectorDisk;
 
-/// No gate drops a read: there would be no bytes to answer. A gate whose target may not drop writes
-/// drops no call, and no decision changes whether it may.
+/// No gate drops a read. If a gate's target may not drop writes (`drops_writes`), the gate drops no
+/// call. No decision changes whether a target may drop writes.
 pub fn gates_drop_only_writes()
     ensures reads { (gate : Loaded) (now : ℕ) → verdict_of gate Read now ≡ verdicts.Drop → ⊥ }
     ensures honest { (gate : Loaded) (kind : Kind) (now : ℕ) → drops_writes gate.target ≡ false
@@ -23,8 +23,8 @@ pub fn gates_drop_only_writes()
         → drops_writes (loaded_after gate kind now).target ≡ drops_writes gate.target }
 {}
 
-/// A disk in memory ends each call at once, so over it a delayed call that ends well ends later by
-/// exactly the delay of its kind.
+/// Let a call of a delay layer over a disk in memory end Ok. Then it ends at `now` plus its delay,
+/// at most 2^64 - 1. The disk itself ends each call at once.
 #[tactic(auto, using(crate::specs::VerdictLaws::ends_later))]
 pub fn delayed_calls_of_a_disk_end_just_later()
     ensures { (old new : Gated SectorDisk AsDelay) (delays : Delays) (call : Call) (now end : ℕ)

@@ -1,8 +1,7 @@
-//! Devices over another one, which map its sectors, make its calls later or make it fail.
+//! Block devices over another one. They map its sectors, delay its calls, or fail or drop them.
 //!
-//! `Linear` is a part of the lower device. Every other layer only decides: its gate (`Gate`) says
-//! by its `Target` for each call whether the lower device does it, and when, and `Gated` is the one
-//! device over it.
+//! `Linear` is a range of the lower device's sectors. Every other layer of this crate is a `Gated`.
+//! Its gate (`Gate`) decides by a `Target` whether, and when, the lower device does a call.
 #![tactic(auto)]
 
 pub use devices::{AsDelay, AsError, AsFlakey, AsFuse, Delay, ErrorDev, Flakey, Fuse};

@@ -1,17 +1,17 @@
-//! The linear layer: a range of another device's sectors as a device of its own.
-//! `layer_table` puts one below each layer that it makes.
+//! The linear layer: a range of another device's sectors as a device of its own. `layer_table` puts
+//! a `Linear` below each layer that it makes.
 ghost use Rattle.std.proofs.Props.{props};
 ghost use Rattle.blockdev.specs.Calls.{IsRange};
 
 use bio::{DevError, Ms};
 use blockdev::{BlockDev, Message, MessageError};
 
-/// A range of another device's sectors, as a device of its own: its sector 0 is the sector `offset`
-/// below (Linux's Documentation/admin-guide/device-mapper/linear.rst).
+/// A range of the lower device's sectors, as a device of its own. Its sector 0 is sector `offset`
+/// of the lower device (Linux's Documentation/admin-guide/device-mapper/linear.rst).
 #[derive(Drop)]
 pub struct Linear<D: BlockDev + Drop> {
     lower: D,
-    // The first sector of the range, and how many there are.
+    // The range's first sector in the lower device, and the range's number of sectors.
     offset: u64,
     length: u64,
     ghost fits: { IsRange (D.shown lower).size offset length } by { Prim.hlevel props },
@@ -20,8 +20,8 @@ pub struct Linear<D: BlockDev + Drop> {
 impl<D: BlockDev + Drop> Linear<D> {
     ghost use Rattle.std.specs.Prelude.{◌≡◌};
 
-    /// The `length` sectors from `offset` on, at least one,
-    /// and all of them within the lower device.
+    /// Returns the range of the `length` sectors of `lower` from `offset` on. `length` is at least
+    /// 1, and all of these sectors are within `lower`.
     pub fn new(lower: D, offset: u64, length: u64) -> Linear<D>
         requires { IsRange (D.shown lower).size offset length }
         ensures lower { result.lower ≡ lower }
@@ -35,7 +35,7 @@ impl<D: BlockDev + Drop> Linear<D> {
         }
     }
 
-    /// The lower device.
+    /// Returns the lower device.
     pub fn into_lower(self) -> D
         ensures { result ≡ self.lower }
     {
@@ -50,7 +50,7 @@ impl<D: BlockDev + Drop> BlockDev for Linear<D> {
 
     ghost shown = { λ device. window (D.shown device.lower) device.offset device.length };
 
-    // What the lower device does at the shifted call, and the range stays.
+    // The lower device does the call, shifted by `offset` sectors. The range stays.
     ghost does = { λ old call now result new.
         D.does old.lower (call_from old.offset call) now result new.lower
         × (new.offset ≡ old.offset) × (new.length ≡ old.length) };
@@ -93,7 +93,7 @@ impl<D: BlockDev + Drop> BlockDev for Linear<D> {
 impl<D: Message + Drop> Message for Linear<D> {
     ghost use Rattle.std.specs.Prelude.{◌≡◌};
 
-    // What the lower device answers, and the range stays.
+    // The lower device answers the message. The range stays.
     ghost answers = { λ old layer text result new.
         D.answers old.lower layer text result new.lower × (new.offset ≡ old.offset)
         × (new.length ≡ old.length) };

@@ -1,27 +1,28 @@
-//! What a layer does, as a line of a table asks for it: `Target`. A layer is a case of it, with its
-//! rule in specs/Verdicts and in `Gate::decide`.
+//! `Target`: what a layer does, as a table line asks for it. Each layer has a variant. The rules
+//! are in specs/Verdicts and in `Gate::decide`; for `Dust`, in the crate `dust_layer`.
 use crate::feature::Feature;
 
-/// What a layer does.
+/// The target of a layer, with its parameters.
 #[derive(Clone, Copy, Debug, PartialEq, Eq)]
 pub enum Target {
     /// It passes every call.
     Linear,
     /// It fails every call.
     Error,
-    /// It works for `up` seconds and is unreliable for `down` seconds, in turn. Together these are
-    /// 1 to 4294967295.
+    /// It passes every call for `up` seconds, then follows `feature` for `down` seconds, and so on.
+    /// The sum of `up` and `down` is 1 to 4294967295.
     Flakey {
         up: u64,
         down: u64,
         feature: Feature,
     },
-    /// It passes `calls` writes, discards and flushes, and fails each later one. This target is
-    /// dmlw's own.
+    /// It passes `calls` writes, discards and flushes, and fails each later one. It passes every
+    /// read. This isn't a device-mapper target: only dmlw has it.
     Fuse {
         calls: u64,
     },
-    /// It has bad blocks of `block_bytes` bytes each, a power of two from 512 to 1,073,741,824.
+    /// Its blocks can be bad. A block has `block_bytes` bytes, a power of two from 512 to
+    /// 1,073,741,824.
     Dust {
         block_bytes: u64,
     },

@@ -1,5 +1,5 @@
--- For each clause of what a stack shows and of what becomes of a call at a layer, what breaks it
--- and nothing else, and is refused by it.
+-- Views and calls that `IsSeenAs`, `IsPut`, `AreOver`, `IsPartOf` or `Decides` refuses because of
+-- one clause. Also some that they accept.
 use Rattle.std.proofs.Common.{◌≡◌, ℕ, ◌+◌, false, [], ◌∷◌, Ok, replicate}
 use Rattle.std.proofs.Common.{refl, sym, arith}
 use Rattle.blockdev.specs.Calls.{Flushes}
@@ -114,7 +114,7 @@ part_within is = let fits = is.within in omega arith
 
 -- ---- what becomes of a call at a layer
 
--- a layer that failed so often, and dropped so many calls
+-- a layer with these counts of faults and lies
 layer : ℕ → ℕ → Layer
 layer faults lies =
     record {

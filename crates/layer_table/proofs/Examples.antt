@@ -1,4 +1,4 @@
--- The definitions on examples: what holds, and what doesn't.
+-- Examples of layers, slots and views, proved by computation: what holds, and what doesn't.
 use Rattle.std.proofs.Common.{◌≡◌, true, false, [], ◌∷◌, refl}
 use Rattle.blockdev.specs.View.{View}
 use Rattle.fault_layers.specs.declared.feature.Feature.TheVariants as features
@@ -71,8 +71,7 @@ two-on =
       lies = 0;
     }
 
--- the top's sector 1 is sector 7 of what is shown beneath; its size is its own, and its faults are
--- its own and those beneath
+-- The top layer's sector 1 is sector 7 of `v`. Its size is the top layer's length.
 top-sector : (v : View) → (layers_over (two-on ∷ four-on ∷ []) v).content 1 ≡ v.content 7
 top-sector v = refl
 

@@ -1,5 +1,4 @@
--- What messages leave of a stack's layers, and what a layer
--- that was put shows, by what is said of them.
+-- What a message keeps of a stack, by `StackAnswers`. What a new layer shows, by `IsPut`.
 use Rattle.std.proofs.Common.{◌≡◌, ℕ, ◌+◌, List, [], refl, inl, inr, arith}
 use Rattle.std.specs.Prelude.{◌↔◌, Result}
 use Rattle.blockdev.specs.View.{View}
@@ -18,7 +17,7 @@ use Rattle.layer_table.specs.ThreeLevel.{three_answers}
 
 -- ---- messages
 
--- there is no layer 0, and no layer 5
+-- There is no layer 0, and no layer 5.
 no-layer-0 : (old new : Stack) (text : List ℕ) (result : Result (Unit {0}) MessageError)
     → StackAnswers old 0 text result new → IsNoMessage result old new
 no-layer-0 old new text result is = is.outside (inl refl)
@@ -27,7 +26,7 @@ no-layer-5 : (old new : Stack) (text : List ℕ) (result : Result (Unit {0}) Mes
     → StackAnswers old 5 text result new → IsNoMessage result old new
 no-layer-5 old new text result is = is.outside (inr (omega arith))
 
--- layer 4 is the top slot, and layer 3 the one beneath it
+-- Layer 4 is the top slot, and layer 3 is the slot below it.
 layer-4 : (old new : Stack) (text : List ℕ) (result : Result (Unit {0}) MessageError)
     → StackAnswers old 4 text result new
     → AnswersItself old.top text result new.top
@@ -38,7 +37,7 @@ layer-3 : (old new : Stack) (text : List ℕ) (result : Result (Unit {0}) Messag
     → AnswersBelow three_answers old.top 1 text result new.top
 layer-3 old new text result is = (is.within (omega arith) (omega arith)).others (omega arith)
 
--- a message to what stands beneath leaves the layer itself
+-- A message to the device below keeps the slot's own layer.
 abbrev alone : {D : Type 0} {g : Ghosts D} → Slot D g → List Layer
 alone slot = layers_with (λ device. []) slot
 
@@ -61,7 +60,7 @@ layer-stays below (slots.Dusted it) layer text result (slots.Dusted after) is =
 
 -- ---- layers
 
--- a layer that was put shows what is beneath from its offset on, now and at each moment before
+-- A new layer shows the device below from its offset on, now, after a crash, and since any reading.
 put-shows : (spec : LayerSpec) (v w : View) → IsPut spec v w → (sector : ℕ)
     → w.content sector ≡ v.content (spec.offset + sector)
 put-shows spec v w put = put.content

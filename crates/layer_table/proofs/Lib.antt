@@ -1,4 +1,5 @@
--- The lemmas of `layer_table`; the proof of a function stands in the folder of its source file.
+-- The lemmas of `layer_table`. The proof of a function is in the folder named after its source
+-- file.
 mod Examples
 mod LineExamples
 mod StackLayers

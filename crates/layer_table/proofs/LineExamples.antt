@@ -1,4 +1,4 @@
--- The definitions on lines: those that ask for a layer, and each first test that fails.
+-- Examples of table lines: lines that ask for a layer, and lines that fail a test.
 use Rattle.std.proofs.Common.{◌≡◌, List, ℕ, [], ◌∷◌, ◌++◌, Result, Ok, Err}
 use Rattle.std.proofs.Common.{refl, sym, true≢false, arith}
 use Rattle.std.specs.Prelude.{codes, decimal}

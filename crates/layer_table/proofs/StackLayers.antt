@@ -1,4 +1,4 @@
--- Layers put over a stack, one after another.
+-- Layers that are put over a stack, one after another: the lemmas for `Stack::under`.
 use Rattle.std.proofs.Common.{◌≡◌, ℕ, Bool, false, ◌+◌, ◌<◌, ◌≤◌, List, [], ◌∷◌, ◌++◌, length, refl}
 use Rattle.std.proofs.Common.{ap, subst, sym, ◌∙◌, inl, inr, arith}
 use Rattle.std.proofs.Math.Bool.{or-false}
@@ -16,9 +16,9 @@ use Rattle.layer_table.specs.declared.stack.Stack.{Stack}
 use Rattle.layer_table.specs.Layers.{disk_of, layer_asked, layers_of, layers_under, stack_shown}
 use Rattle.layer_table.specs.Layers.{AreOver, IsPartlyUnder, IsPut, Layer}
 
--- of these layers all but the rest stand over what was there
+-- The layers `specs` without `rest` are put over `old`; the result is `stack`.
 pub record AreUnder (specs rest : List LayerSpec) (load : ℕ) (old stack : Stack) : Type 0 where
-  -- these stand
+  -- the layers that are put
   put : List LayerSpec
   are : specs ≡ put ++ rest
   stands : layers_of stack ≡ layers_under put load (layers_of old)
@@ -37,7 +37,7 @@ pub record AreUnder (specs rest : List LayerSpec) (load : ℕ) (old stack : Stac
   stand : IsAllowed (stack_shown old).size specs → IsAllowed (stack_shown stack).size rest
   count : length (layers_of stack) + length rest ≡ length (layers_of old) + length specs
 
--- at first none does
+-- at first no layer is put
 pub none_under : (specs : List LayerSpec) (load : ℕ) (old : Stack)
     → AllByRecursion IsLayerSpec specs → AreUnder specs specs load old old
 none_under specs load old asked = record {
@@ -58,14 +58,14 @@ none_under specs load old asked = record {
   count = refl;
 }
 
--- the next one is a layer that a line may ask for
+-- the next layer's values are in their ranges
 pub first_asked : (specs rest : List LayerSpec) (spec : LayerSpec) (above : List LayerSpec)
     (load : ℕ) (old stack : Stack) → rest ≡ spec ∷ above
     → AreUnder specs rest load old stack → IsLayerSpec spec
 first_asked specs rest spec above load old stack is are =
     (subst (λ (ls : List LayerSpec). AllByRecursion IsLayerSpec ls) is are.asked).0
 
--- one more over layers that are put over others
+-- one more layer, over layers that are put over others
 under_one_more : (put : List LayerSpec) (spec : LayerSpec) (load : ℕ) (layers : List Layer)
     → layers_under (put ++ spec ∷ []) load layers
     ≡ layer_asked spec load ∷ layers_under put load layers
@@ -73,7 +73,7 @@ under_one_more [] spec load layers = refl
 under_one_more (first ∷ put) spec load layers =
     under_one_more put spec load (layer_asked first load ∷ layers)
 
--- one more is put over them
+-- after one more layer is put, `AreUnder` holds for the new stack and the rest
 pub one_under : (specs rest : List LayerSpec) (spec : LayerSpec) (above : List LayerSpec) (load : ℕ)
     (old stack next : Stack) → rest ≡ spec ∷ above
     → AreUnder specs rest load old stack → layers_of next ≡ layer_asked spec load ∷ layers_of stack
@@ -109,12 +109,12 @@ one_under specs rest spec above load old stack next is before layers disk put =
           let grown = ap (λ (ls : List Layer). length ls) layers in omega arith;
     }
 
--- places with the same in each field are one
+-- places with equal fields are equal
 same_place : (place : Place) (origin : ℕ) {disk : ℕ} → place.origin ≡ origin → place.disk ≡ disk
     → place ≡ record { origin = origin; disk = disk }
 same_place place origin {disk} here there = rw (sym here, sym there) refl
 
--- at last all do
+-- at last all layers are put
 pub all_under : (specs rest : List LayerSpec) (load : ℕ) (old stack : Stack) → length rest ≡ 0
     → AreUnder specs rest load old stack
     → (layers_of stack ≡ layers_under specs load (layers_of old)) × (disk_of stack ≡ disk_of old)
@@ -133,7 +133,7 @@ all_under specs [] load old stack none are = (
 )
 all_under specs (spec ∷ rest) load old stack none are = absurd (omega arith)
 
--- where they can stand, none is refused
+-- if the layers are allowed and the slots suffice, no layer is refused
 pub none_refused : (specs rest : List LayerSpec) (spec : LayerSpec) (above : List LayerSpec)
     (load : ℕ) (old stack : Stack) → rest ≡ spec ∷ above
     → AreUnder specs rest load old stack → IsAllowed (stack_shown old).size specs
@@ -146,7 +146,7 @@ none_refused specs rest spec above load old stack is before stand few (inr full)
     let are = subst (λ (ls : List LayerSpec). AreUnder specs ls load old stack) is before in
     let counted = are.count in omega arith
 
--- where one is refused, what is handed back is under those before it
+-- if a layer is refused, the returned stack has only the layers before it
 pub partly_under : (specs rest : List LayerSpec) (spec : LayerSpec) (above : List LayerSpec)
     (load : ℕ) (old stack back : Stack) → rest ≡ spec ∷ above
     → AreUnder specs rest load old stack → back ≡ stack
@@ -166,7 +166,7 @@ partly_under specs rest spec above load old stack back is before same refused =
     }
     )
 
--- what holds of each error that a call may answer holds of the error of its answer
+-- If each error that `r` may have satisfies `P`, the error of `r` does.
 pub of_error : {T E : Type 0} {Q P : E → Type 0} (r : Result T E) → IsErrAnd r Q
     → ((e : E) → Q e → P e) → IfErr r P
 of_error (Ok value) is each = absurd is

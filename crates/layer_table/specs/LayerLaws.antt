@@ -1,4 +1,4 @@
--- The view and the calls of a slot, by its layers.
+-- The view and the calls of a slot, in terms of its layers.
 use Rattle.std.proofs.Common.{◌≡◌, ℕ, suc, Bool, true, false, List, [], length, Result, refl, ap}
 use Rattle.std.proofs.Common.{subst, sym, ◌∙◌}
 use Rattle.bio.specs.declared.outcome.DevError.{DevError}
@@ -25,7 +25,8 @@ use Rattle.layer_table.specs.SlotLaws.{decided_keeps, dusted_keeps, slot_kept, I
 
 -- ---- views
 
--- the view of a slot is that of its layer over the view of the device below
+-- The view of a slot is the view of its layers over the base's view, given the same for the device
+-- below.
 pub shown_with : {D : Type 0} {g : Ghosts D} (layers : D → List Layer) (base : D → View)
     → ((device : D) → g.shown device ≡ layers_over (layers device) (base device))
     → (slot : Slot D g) → slot_shown slot
@@ -51,8 +52,8 @@ same_dust : {D : Type 0} (layer after : Dust D) → after.block ≡ layer.block
     ≡ Dusting layer.block (listed after.bad) layer.mode
 same_dust layer after block mode = rw (block, mode) refl
 
--- a slot's call is one of its layer over the layers of the device below, if each call of that keeps
--- their number
+-- If a slot does a call, the layers of the slot do it (`LayersDo`), given the same for the device
+-- below. No call of that device may change its number of layers.
 pub does_with : {D : Type 0} {g : Ghosts D} (layers : D → List Layer) (disk : D → SectorDisk)
     → IsKept g (λ device. length (layers device))
     → ((device : D) (call : Call) (now : ℕ) (result : Result ℕ DevError) (after : D)
@@ -155,7 +156,7 @@ does_with {D} {g} layers disk kept below (slots.Dusted layer) call now result
           (λ range call now result next did. did.2) call now result layer after does,
     )
 
--- the number of layers with the one in this slot, if it has one
+-- `count`, plus one if the slot has a layer
 abbrev pub count_with : Bool → ℕ → ℕ
 count_with true count = suc count
 count_with false count = count
@@ -167,7 +168,7 @@ counted_with {D} {g} layers (slots.Bare device) = refl
 counted_with {D} {g} layers (slots.Decided layer) = refl
 counted_with {D} {g} layers (slots.Dusted layer) = refl
 
--- a device under no layers keeps their number, which is 0
+-- a device without layers keeps their number 0
 pub none_kept : {D : Type 0} (g : Ghosts D) → IsKept g (λ device. length {A = Layer} [])
 none_kept g device call now result after did = refl
 

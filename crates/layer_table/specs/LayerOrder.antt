@@ -5,24 +5,24 @@ use Rattle.layer_table.specs.declared.layer_spec.LayerSpec.{LayerSpec}
 use Rattle.fault_layers.specs.Verdicts.{drops_writes}
 use Rattle.layer_table.specs.Ranges.{IsLayerSpec}
 
--- the sectors of the top of these layers, over a device of `sectors` sectors
+-- the number of sectors of the top layer, or `sectors` if there is no layer
 abbrev pub top_sectors : ℕ → List LayerSpec → ℕ
 top_sectors sectors [] = sectors
 top_sectors sectors (layer ∷ layers) = top_sectors layer.length layers
 
--- the sector of a device that is the top's first sector, if `origin` is the first sector of what
--- lies below the layers
+-- the disk's sector that is the top layer's first sector, if the device below the layers begins at
+-- the disk's sector `origin`
 abbrev pub top_origin : ℕ → List LayerSpec → ℕ
 top_origin origin [] = origin
 top_origin origin (layer ∷ layers) = top_origin (origin + layer.offset) layers
 
--- The layers can lie over one another, over a device of `sectors` sectors. A line may ask for each,
--- and each lies within what is below it.
+-- The layers can be put over a device of `sectors` sectors. The values of each layer are in their
+-- ranges, and each layer is within the device or the layer below it.
 abbrev pub IsAllowed : ℕ → List LayerSpec → Type 0
 IsAllowed sectors [] = Unit {0}
 IsAllowed sectors (layer ∷ layers) =
     IsLayerSpec layer × (layer.offset + layer.length ≤ sectors) × IsAllowed layer.length layers
 
--- whether one of the layers may report writes as done, and drop them
+-- whether one of the layers may drop writes, discards and flushes and report them as done
 abbrev pub some_drops : List LayerSpec → Bool
 some_drops = list_any (λ layer. drops_writes layer.target)

@@ -33,14 +33,14 @@ use Rattle.layer_table.specs.declared.stack.Stack.{Stack}
 use Rattle.layer_table.specs.Levels.{disk_three}
 use Rattle.layer_table.specs.Slots.{device_of, slot_does, slot_shown}
 
--- The rule of a layer for its calls: a gate decides about them, or they go block by block over a
--- list of bad blocks, each of `block` sectors.
+-- The rule of a layer for its calls. `Deciding`: a gate decides about each call. `Dusting`: calls
+-- go by the list `bad` of blocks of `block` sectors, and by the mode.
 pub data Rule : Type 0 where
   Deciding : (gate : Loaded) → Rule
   Dusting : (block : ℕ) (bad : Bad) (mode : Mode) → Rule
 
--- A layer: its range of the device below, its rule, and how often it failed a call, and dropped
--- one, itself.
+-- A layer: its range of the device below, its rule, and how many calls the layer itself failed and
+-- dropped.
 pub record Layer : Type 0 where
   pub offset : ℕ
   pub length : ℕ
@@ -48,7 +48,7 @@ pub record Layer : Type 0 where
   pub faults : ℕ
   pub lies : ℕ
 
--- the layer in a slot, before the layers below it
+-- the layer in a slot, if it has one, and then the layers of the device below
 abbrev pub layers_with : {D : Type 0} {g : Ghosts D} → (D → List Layer) → Slot D g → List Layer
 layers_with {D} {g} beneath (slots.Bare device) = beneath device
 layers_with {D} {g} beneath (slots.Decided layer) =
@@ -85,13 +85,13 @@ layers_of stack = layers_with layers_three stack.top
 abbrev pub disk_of : Stack → SectorDisk
 disk_of stack = disk_three (device_of stack.top)
 
--- the rule of a target, loaded at this time; blocks are sectors of 512 bytes, none is bad at first,
--- and calls pass
+-- The rule of a target that is loaded at `load`. A dust layer has blocks of `bytes / 512` sectors.
+-- At first it has no bad block, and is in bypass.
 abbrev pub rule_asked : Target → ℕ → Rule
 rule_asked (targets.Dust bytes) load = Dusting (bytes / 512) (λ block. None) Bypass
 rule_asked target load = Deciding (record { target = target; load = load })
 
--- the layer that a line asks for
+-- the layer that `spec` asks for, loaded at `load`
 abbrev pub layer_asked : LayerSpec → ℕ → Layer
 layer_asked spec load =
     record {
@@ -102,31 +102,31 @@ layer_asked spec load =
       lies = 0;
     }
 
--- layers over others, the top first, as these lines ask for them, the lowest first
+-- the layers, the top first, after the layers `specs` were put over `layers` in their order
 abbrev pub layers_under : List LayerSpec → ℕ → List Layer → List Layer
 layers_under [] load layers = layers
 layers_under (spec ∷ specs) load layers = layers_under specs load (layer_asked spec load ∷ layers)
 
 -- ---- views
 
--- the view of a stack, by its slots
+-- the view of a stack: that of its top slot
 abbrev pub stack_shown : Stack → View
 stack_shown stack = slot_shown stack.top
 
--- the view of a layer over one with view v: the range, with a gate's own faults and lies, or with
--- bad blocks' own faults
+-- The view of a layer over a device with the view `v`: its range of the device. A gate adds its
+-- faults and lies, and a dust layer adds its faults.
 abbrev pub layer_over : Rule → Layer → View → View
 layer_over (Dusting block bad mode) layer v =
     counted (window v layer.offset layer.length) layer.faults 0 false
 layer_over (Deciding gate) layer v =
     counted (window v layer.offset layer.length) layer.faults layer.lies (drops_writes gate.target)
 
--- the view of layers over one with view v
+-- the view of layers over a device with the view `v`
 abbrev pub layers_over : List Layer → View → View
 layers_over [] v = v
 layers_over (layer ∷ layers) v = layer_over layer.rule layer (layers_over layers v)
 
--- two devices have the same view
+-- two devices with the views `v` and `w` look the same
 pub record IsSeenAs (v w : View) : Type 0 where
   pub size : w.size ≡ v.size
   pub place : w.place ≡ v.place
@@ -138,7 +138,7 @@ pub record IsSeenAs (v w : View) : Type 0 where
   pub lies : w.lies ≡ v.lies
   pub can_lie : w.can_lie ≡ v.can_lie
 
--- w is the view of a new layer over one with view v
+-- `w` is the view of a new layer, as `spec` asks for it, over a device with the view `v`.
 pub record IsPut (spec : LayerSpec) (v w : View) : Type 0 where
   pub size : w.size ≡ spec.length
   pub place : w.place ≡ record { origin = v.place.origin + spec.offset; disk = v.place.disk }
@@ -149,21 +149,22 @@ pub record IsPut (spec : LayerSpec) (v w : View) : Type 0 where
       → w.since moment left ↔ SeenFrom spec.offset (v.since moment) left
   pub faults : w.faults ≡ v.faults
   pub lies : w.lies ≡ v.lies
-  -- it can lie if the device below can, or if it may drop writes itself
+  -- the layer can lie if the device below can, or if the layer's target may drop writes
   pub can_lie : w.can_lie ≡ v.can_lie || drops_writes spec.target
 
--- w is the view of new layers over one with view v: none of them has failed or dropped a call yet
+-- `w` is the view of new layers over a device with the view `v`. None of these layers has failed or
+-- dropped a call.
 pub record AreOver (specs : List LayerSpec) (v w : View) : Type 0 where
   pub size : w.size ≡ top_sectors v.size specs
   pub place : w.place ≡ record { origin = top_origin v.place.origin specs; disk = v.place.disk }
   pub moment : w.moment ≡ v.moment
   pub faults : w.faults ≡ v.faults
   pub lies : w.lies ≡ v.lies
-  -- if none of them may drop writes, they can lie only if the device below can
+  -- if none of the layers may drop writes, they can lie exactly if the device below can
   pub can_lie : some_drops specs ≡ false → w.can_lie ≡ v.can_lie
 
--- Some of these layers are over a stack, from the first on, and the next one isn't: this stack is
--- returned if that layer is refused.
+-- The stack `back` is `old` with the first layers of `specs`, which are `put`. The layer `next`
+-- after them is refused.
 pub record IsPartlyUnder (specs : List LayerSpec) (load : ℕ) (old back : Stack) : Type 0 where
   pub put : List LayerSpec
   pub next : LayerSpec
@@ -171,13 +172,12 @@ pub record IsPartlyUnder (specs : List LayerSpec) (load : ℕ) (old back : Stack
   pub are : specs ≡ put ++ next ∷ above
   pub layers : layers_of back ≡ layers_under put load (layers_of old)
   pub disk : disk_of back ≡ disk_of old
-  -- the next one doesn't fit there, or there are four layers
+  -- `next` doesn't fit on `back`, or `back` has four layers
   pub refused : ((stack_shown back).size < next.offset + next.length)
       ⊎ (length (layers_of back) ≡ 4)
 
--- w is the view of a part of the disk with view v: the sectors at its place. What a crash now, or
--- since any reading of the disk's clock, may leave of it is the part of what it may leave of the
--- disk.
+-- `w` is the view of a part of the disk with the view `v`: the sectors from `w`'s origin on. If a
+-- crash leaves a content of the disk, it may leave that content's part of `w`.
 pub record IsPartOf (v w : View) : Type 0 where
   pub disk : w.place.disk ≡ v.size
   pub within : w.place.origin + w.size ≤ v.size
@@ -185,10 +185,10 @@ pub record IsPartOf (v w : View) : Type 0 where
   pub crash : (left : Content) → v.crash left
       → (seen : Content) × w.crash seen
       × ((sector : ℕ) → seen sector ≡ left (w.place.origin + sector))
-  -- the two clocks have the same reading
+  -- the clocks of `v` and `w` have the same reading
   pub moment : w.moment ≡ v.moment
-  -- a crash since a reading, even during a call: each content that it may have left of the disk has
-  -- a part that it may have left, and there are no others
+  -- For each content of the disk that a crash since a reading of the clock may leave, `w` may be
+  -- left with its part. `w` may be left with no other contents.
   pub since : (moment : ℕ) (left : Content) → v.since moment left
       → (seen : Content) × w.since moment seen
       × ((sector : ℕ) → seen sector ≡ left (w.place.origin + sector))
@@ -198,7 +198,7 @@ pub record IsPartOf (v w : View) : Type 0 where
 
 -- ---- what calls do
 
--- the effect of a call of a stack, by its slots
+-- the effect of a call of a stack: that of its top slot
 abbrev pub stack_does : Stack → Call → ℕ → Result ℕ DevError → Stack → Type 0
 stack_does old call now result new = slot_does old.top call now result new.top
 
@@ -206,8 +206,8 @@ stack_does old call now result new = slot_does old.top call now result new.top
 abbrev pub on_stack : Ghosts Stack
 on_stack = record { shown = stack_shown; does = stack_does }
 
--- The effect of a call at a layer by its gate's verdict. `below` is that the device below did it at
--- a time with this result, and `same` that the device was left as it was.
+-- The effect of a call at a layer, by its gate's verdict. `below begun` says that the device below
+-- did the call at the time `begun`. `same` says that the device below is unchanged.
 pub record Decides (verdict : Verdict) (below : ℕ → Type 0) (same : Type 0) (call : Call) (now : ℕ)
     (result : Result ℕ DevError) (layer after : Layer) : Type 0 where
   pub passes : verdict ≡ Pass
@@ -227,12 +227,13 @@ pub record Under : Type 0 where
   pub layers : List Layer
   pub disk : SectorDisk
 
--- the effect on the device below, shifted by `offset` sectors
+-- `does` for calls that are shifted by `offset` sectors
 abbrev pub shifted : (Under → Call → ℕ → Result ℕ DevError → Under → Type 0) → ℕ → Under → Call → ℕ
     → Result ℕ DevError → Under → Type 0
 shifted does offset old call now result new = does old (call_from offset call) now result new
 
--- The effect of a call that goes block by block, from one list of bad blocks to another.
+-- The effect of a call at a dust layer, by its mode. The list of bad blocks and the count of faults
+-- may change. The block size, the mode and the lies stay.
 pub record Dusts (does : Under → Call → ℕ → Result ℕ DevError → Under → Type 0) (block : ℕ)
     (bad : Bad) (mode : Mode) (old : Under) (call : Call) (now : ℕ)
     (result : Result ℕ DevError)
@@ -266,8 +267,8 @@ DoesAtTop does (layer ∷ layers) disk call now result (after ∷ others) new =
     (record { layers = others; disk = new }) layer after
     × (after.offset ≡ layer.offset) × (after.length ≡ layer.length)
 
--- The effect of a call on `count` layers over a disk: at the top, then below it shifted by its
--- offset, and so on down to the disk.
+-- The effect of a call on `count` layers over a disk. The top layer does the call by its rule.
+-- Calls to the layers below are shifted by the top's offset.
 abbrev pub CountedLayersDo : ℕ → Under → Call → ℕ → Result ℕ DevError → Under → Type 0
 CountedLayersDo zero old call now result new =
     (old.layers ≡ []) × (new.layers ≡ []) × Does old.disk call now result new.disk
@@ -280,30 +281,31 @@ LayersDo layers disk call now result after new =
     CountedLayersDo (length layers) (record { layers = layers; disk = disk }) call now result
     (record { layers = after; disk = new })
 
--- The effect of a call by a verdict about it at the top of layers over a disk. `next` is the top
--- after it, except its counts.
+-- The effect of a call on layers over a disk, by the top's verdict. `next` is the top after the
+-- call, except for its counts.
 pub record Follows (verdict : Verdict) (next : Layer) (layers : List Layer) (old : SectorDisk)
     (call : Call) (now : ℕ) (result : Result ℕ DevError)
     (after : List Layer) (new : SectorDisk) : Type 0 where
-  -- the layers below did it, shifted by the top's offset
+  -- The layers below did the call at `now`, shifted by the top's offset.
   pub passes : verdict ≡ Pass
       → (others : List Layer) × (after ≡ next ∷ others)
       × LayersDo layers old (call_from next.offset call) now result others new
-  -- the layers below did it, shifted, at the later time, and an Ok ends at that time or later
+  -- The layers below did the call, shifted, at the later time. If the call ends Ok, it doesn't end
+  -- before that time.
   pub delays : (by : ℕ) → verdict ≡ Delay by → (others : List Layer) × (after ≡ next ∷ others)
       × LayersDo layers old (call_from next.offset call) (later_by now by) result others new
       × ((end : ℕ) → result ≡ Ok end → later_by now by ≤ end)
-  -- it failed, and nothing below was called
+  -- The call failed with Io and counts as a fault, and nothing below changed.
   pub fails : verdict ≡ Fail
       → (result ≡ Err Io) × (after ≡ record next { faults = one_more next.faults } ∷ layers)
       × (new ≡ old) × KeepsBuffer call
-  -- it was dropped, and nothing below was called
+  -- The call ended Ok at `now` and counts as a lie, and nothing below changed.
   pub drops : verdict ≡ Drop
       → (result ≡ Ok now) × (after ≡ record next { lies = one_more next.lies } ∷ layers)
       × (new ≡ old)
 
--- The effect of a call at the top of layers that goes block by block: only the list and the count
--- of faults change at the top, and the calls below are shifted by its offset.
+-- The effect of a call if the top is a dust layer. At the top, only the list and the count of
+-- faults may change. Calls below are shifted by the top's offset.
 pub record FollowsBlocks (block : ℕ) (bad : Bad) (mode : Mode) (layer : Layer) (layers : List Layer)
     (old : SectorDisk) (call : Call) (now : ℕ)
     (result : Result ℕ DevError) (after : List Layer) (new : SectorDisk) : Type 0 where

@@ -18,7 +18,7 @@ shape_two level = shape_with shape_one level.top
 abbrev pub shape_three : Three → List Bool
 shape_three level = shape_with shape_two level.top
 
--- the same, for the four slots over a disk
+-- the same for the four slots of a stack: whether each has a layer, the top first
 abbrev pub shape_of : {g : Ghosts Three} → Slot Three g → List Bool
 shape_of slot = shape_with shape_three slot
 

@@ -1,5 +1,5 @@
--- Laws of the lines of a table: what words ask for is in its ranges, and the text that is printed of
--- a layer asks for it.
+-- Laws of table lines. A layer that words ask for is in its ranges, and a layer's canonical text
+-- asks for that layer.
 use Rattle.std.proofs.Common.{◌≡◌, ℕ, ◌^◌, ◌<◌, Bool, true, false, cond, ◌&&◌, List, [], ◌∷◌}
 use Rattle.std.proofs.Common.{◌++◌, Option, Some, None, Result, Ok, Err, refl, ap, sym, subst}
 use Rattle.std.proofs.Common.{◌∙◌, append_assoc, arith, rules}
@@ -39,7 +39,7 @@ value_low words place = at (number_of (word_in words place)) refl
     at (Some n) is =
         rw is (number_low (word_in words place) n (number_read (word_in words place) n is))
 
--- values that pass the tests of the ranges are in them
+-- If values pass the range tests, they are in their ranges.
 length_read : (length : ℕ) → is_length length ≡ true → IsLength length
 length_read length is = search rules
 
@@ -69,7 +69,7 @@ last_test name words target low has =
         record { sectors = length_read _ within.0; place = low; has = has within.1 }
     at false is = tt
 
--- an answer that goes on from another
+-- If `next` gives only layers in their ranges, so does `first >>= next`.
 bound : {A : Type 0} (first : Result A TableError) (next : A → Result LayerSpec TableError)
     → ((x : A) → IfOk (next x) IsLayerSpec) → IfOk (first >>= next) IsLayerSpec
 bound (Ok x) next is = is x
@@ -137,11 +137,11 @@ line_joined old sectors words =
 abbrev AreWords : List (List ℕ) → Type 0
 AreWords words = AllByRecursion (λ word. is_word word ≡ true) words
 
--- decimal digits are a word
+-- the decimal digits of a number are a word
 decimal_word : (n : ℕ) → n < 2 ^ 64 → is_word (decimal n) ≡ true
 decimal_word n low = number_word (decimal n) n (decimal_number n low)
 
--- and are read as the number that they write
+-- the decimal digits of `n` are read as `n`
 abbrev IsRead : ℕ → Type 0
 IsRead n = number_of (decimal n) ≡ Some n
 
@@ -155,7 +155,7 @@ feature_are features.ErrorReads = (refl, (refl, tt))
 feature_are features.ErrorWrites = (refl, (refl, tt))
 feature_are features.DropWrites = (refl, (refl, tt))
 
--- the words of the sets of a delay line
+-- the words of a delay target after its name are words
 sets_are : (offset read write flush : ℕ) (t u : Bool) → offset < 2 ^ 64
     → AreDelays read write flush
     → AreWords (set_words offset read
@@ -177,7 +177,7 @@ target_are offset (targets.Dust bytes) low has = search (rules, decimal_word)
 target_are offset (targets.Delay read write flush) low has =
     (refl, sets_are offset read write flush (nat_eq read write) (nat_eq write flush) low has)
 
--- a layer in its ranges passes the tests of the ranges
+-- If values are in their ranges, they pass the range tests.
 length_passes : (length : ℕ) → IsLength length → is_length length ≡ true
 length_passes length is = search rules
 
@@ -206,7 +206,8 @@ flakey_asked sectors offset up down features.ErrorReads a b c d e f = rw (a, b, 
 flakey_asked sectors offset up down features.ErrorWrites a b c d e f = rw (a, b, c, d, e, f) refl
 flakey_asked sectors offset up down features.DropWrites a b c d e f = rw (a, b, c, d, e, f) refl
 
--- the sets of a delay line, as few as its delays need
+-- The words of a delay target ask for it. If `t` is true, the read and write delays are equal. If
+-- `u` is true, the write and flush delays are equal.
 delay_asked : (sectors offset read write flush : ℕ) (t u : Bool) → IsRead sectors → IsRead offset
     → IsRead read → IsRead write → IsRead flush → is_length sectors ≡ true
     → AreDelays read write flush → (t ≡ true → read ≡ write) → (u ≡ true → write ≡ flush)
@@ -245,7 +246,7 @@ target_asked sectors offset (targets.Delay read write flush) a b e f has =
     (digits_read read (omega arith)) (digits_read write (omega arith))
     (digits_read flush (omega arith)) e has (eqb-true _ _) (eqb-true _ _)
 
--- the text that is printed of a layer asks for it
+-- If a layer's values are in their ranges, its canonical text asks for that layer.
 pub printed_again : (spec : LayerSpec) → IsLayerSpec spec
     → line_answer (words_of (line_text spec)) ≡ Ok spec
 printed_again spec is =

@@ -16,7 +16,7 @@ use Rattle.layer_table.specs.Slots.{slot_does, slot_shown}
 abbrev pub one_shown : One → View
 one_shown level = slot_shown level.top
 
--- the effect of its calls
+-- the effect of the slot's calls
 abbrev pub one_does : One → Call → ℕ → Result ℕ DevError → One → Type 0
 one_does old call now result new = slot_does old.top call now result new.top
 
@@ -29,6 +29,6 @@ abbrev pub DiskAnswers : SectorDisk → ℕ → List ℕ → Result (Unit {0}) M
     → Type 0
 DiskAnswers old layer text result new = (result ≡ Err BadMessage) × (new ≡ old)
 
--- the result of a message to it
+-- the answer to a message to the slot
 abbrev pub one_answers : One → ℕ → List ℕ → Result (Unit {0}) MessageError → One → Type 0
 one_answers old layer text result new = SlotAnswers DiskAnswers old.top layer text result new.top

@@ -7,18 +7,18 @@ use Rattle.layer_table.specs.declared.layer_spec.LayerSpec.{LayerSpec}
 use Rattle.fault_layers.specs.declared.target.Target.{Target}
 use Rattle.fault_layers.specs.declared.target.Target.TheVariants as targets
 
--- how much later a delay device's calls begin, in milliseconds, each within 32 bits
+-- the delays of a delay target, in milliseconds: each is at most 4294967295
 pub record AreDelays (read write flush : ℕ) : Type 0 where
   pub reads : read ≤ 4294967295
   pub writes : write ≤ 4294967295
   pub flushes : flush ≤ 4294967295
 
--- a layer's number of sectors
+-- a layer has 1 to 1,048,576 sectors
 pub record IsLength (length : ℕ) : Type 0 where
   pub some : 1 ≤ length
   pub few : length ≤ 1048576
 
--- the target's values are in their ranges; a target that maps no sector has offset 0
+-- the target's values are in their ranges; an error target has offset 0
 abbrev pub IsTargetInRange : ℕ → Target → Type 0
 IsTargetInRange offset targets.Linear = Unit {0}
 IsTargetInRange offset targets.Error = offset ≡ 0
@@ -27,13 +27,13 @@ IsTargetInRange offset (targets.Fuse calls) = calls < 2 ^ 64
 IsTargetInRange offset (targets.Dust bytes) = IsBlockSize bytes
 IsTargetInRange offset (targets.Delay read write flush) = AreDelays read write flush
 
--- a line may ask for this layer
+-- the layer's values are in their ranges
 pub record IsLayerSpec (spec : LayerSpec) : Type 0 where
   pub sectors : IsLength spec.length
   pub place : spec.offset < 2 ^ 64
   pub has : IsTargetInRange spec.offset spec.target
 
--- the ranges as tests of what a line has
+-- the ranges as tests of a parsed line's values
 abbrev pub is_cycle : ℕ → ℕ → Bool
 is_cycle up down = nat_le 1 (up + down) && nat_le (up + down) 4294967295
 
@@ -58,7 +58,7 @@ is_length length = nat_le 1 length && nat_le length 1048576
 abbrev pub is_in_range : LayerSpec → Bool
 is_in_range spec = is_length spec.length && is_target spec.target
 
--- so a gate can have such a target
+-- If a target's values are in their ranges, a gate can have the target.
 pub has_cycle : (offset : ℕ) (target : Target) → IsTargetInRange offset target → HasCycle target
 has_cycle offset targets.Linear has = tt
 has_cycle offset targets.Error has = tt

@@ -1,4 +1,5 @@
--- A slot keeps the law of a device, and whether it has a layer.
+-- If the device below is lawful, a slot over it is lawful. A call doesn't change whether a slot has
+-- a layer.
 use Rattle.std.proofs.Common.{◌≡◌, ℕ, Bool, false, List, ◌∷◌, Result, refl, ap, ◌∙◌}
 use Rattle.bio.specs.declared.outcome.DevError.{DevError}
 use Rattle.bio.specs.Moments.{later_by}
@@ -36,13 +37,13 @@ slot_lawful {D} {g} lawful (slots.Dusted layer) =
     (lawful_window (g.shown layer.lower.lower) layer.lower.offset layer.lower.length
     layer.lower.fits (lawful layer.lower.lower))
 
--- each call of a device keeps its value of f
+-- no call of a device changes its value of `f`
 abbrev pub IsKept : {D A : Type 0} → Ghosts D → (D → A) → Type 0
 IsKept {D} {A} g f =
     (device : D) (call : Call) (now : ℕ) (result : Result ℕ DevError) (after : D)
     → g.does device call now result after → f after ≡ f device
 
--- a layer that decides keeps its range's value of f
+-- if the call of the range keeps the value of `f`, the call of a layer with a gate keeps it
 pub decided_keeps : {D A : Type 0} {g : Ghosts D} (f : Linear D g → A) (verdict : Verdict)
     (below : ℕ → Type 0) (call : Call) (now : ℕ)
     (result : Result ℕ DevError)
@@ -55,7 +56,7 @@ decided_keeps f (Delay by) below call now result layer after is passed =
 decided_keeps f Fail below call now result layer after is passed = ap f (is.fails refl).3
 decided_keeps f Drop below call now result layer after is passed = ap f (is.drops refl).3
 
--- a layer with bad blocks keeps its range's value of f, if each call of the range does
+-- if each call of the range keeps the value of `f`, each call of a dust layer keeps it
 pub dusted_keeps : {D A : Type 0} {g : Ghosts D} (f : Linear D g → A)
     → ((range : Linear D g) (call : Call) (now : ℕ) (result : Result ℕ DevError)
     (after : Linear D g) → IsShifted range call now result after
@@ -68,8 +69,8 @@ dusted_keeps {D} {A} {g} f kept call now result layer after is =
     (λ old call now result new holds does. (tt, kept old call now result new does ∙ holds))
     layer.mode layer.block call now result (held layer) (held after) refl is.done).1
 
--- a call of a slot keeps the value of f that each call of the device below keeps, and whether the
--- slot has a layer
+-- If each call of the device below keeps the value of `f`, a call of the slot keeps it too. A call
+-- never changes whether the slot has a layer.
 pub slot_kept : {D A : Type 0} {g : Ghosts D} (f : D → A) → IsKept g f
     → (slot : Slot D g) (call : Call) (now : ℕ) (result : Result ℕ DevError)
     (after : Slot D g) → slot_does slot call now result after
@@ -101,7 +102,7 @@ slot_kept {D} {A} {g} f kept (slots.Dusted layer) call now result (slots.Dusted 
   refl,
 )
 
--- a slot keeps its shape
+-- A call of a slot keeps its shape: which slots, from this one down, have a layer.
 pub shape_kept : {D : Type 0} {g : Ghosts D} (f : D → List Bool) → IsKept g f
     → (slot : Slot D g) (call : Call) (now : ℕ) (result : Result ℕ DevError)
     (after : Slot D g) → slot_does slot call now result after

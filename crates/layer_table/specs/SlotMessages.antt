@@ -14,14 +14,15 @@ pub record IsNoMessage {S : Type 0} (result : Result (Unit {0}) MessageError)
   pub refused : result ≡ Err BadMessage
   pub stays : new ≡ old
 
--- a layer with bad blocks takes messages, and responds by its rule; no other layer takes any
+-- A dust layer does its message as `IsMessageDone` says. A slot with another layer, or none,
+-- refuses the message.
 abbrev pub AnswersItself : {D : Type 0} {g : Ghosts D} → Slot D g → List ℕ
     → Result (Unit {0}) MessageError → Slot D g → Type 0
 AnswersItself {D} {g} (slots.Dusted layer) text result (slots.Dusted after) =
     IsMessageDone layer.lower.length 1 text result layer after
 AnswersItself {D} {g} slot text result after = IsNoMessage result slot after
 
--- the device below a range responds, and the range stays
+-- the device below a range answers the message, and the range stays
 abbrev pub RangeAnswers : {D : Type 0} {g : Ghosts D}
     → (D → ℕ → List ℕ → Result (Unit {0}) MessageError → D → Type 0) → Linear D g → ℕ → List ℕ
     → Result (Unit {0}) MessageError → Linear D g → Type 0
@@ -29,7 +30,7 @@ RangeAnswers below range layer text result after =
     below range.lower layer text result after.lower × (after.offset ≡ range.offset)
     × (after.length ≡ range.length)
 
--- the device below a slot responds, and the layer in the slot stays
+-- the device below a slot answers the message, and the layer in the slot stays
 abbrev pub AnswersBelow : {D : Type 0} {g : Ghosts D}
     → (D → ℕ → List ℕ → Result (Unit {0}) MessageError → D → Type 0) → Slot D g → ℕ → List ℕ
     → Result (Unit {0}) MessageError → Slot D g → Type 0
@@ -44,7 +45,8 @@ AnswersBelow {D} {g} below (slots.Dusted dust) layer text result (slots.Dusted a
     × (after.faults ≡ dust.faults)
 AnswersBelow {D} {g} below slot layer text result after = ⊥
 
--- A slot is layer 1, and the layers below it count on from 2.
+-- A message to layer 1 goes to the slot's own layer. A message to a higher number goes to the
+-- device below, with the number lowered by one. A message to layer 0 is refused.
 pub record SlotAnswers {D : Type 0} {g : Ghosts D}
     (below : D → ℕ → List ℕ → Result (Unit {0}) MessageError → D → Type 0) (old : Slot D g)
     (layer : ℕ)

@@ -14,8 +14,8 @@ use Rattle.layer_table.specs.declared.slot.Slot.{Slot}
 use Rattle.layer_table.specs.declared.slot.Slot.TheVariants as slots
 use Rattle.fault_layers.specs.Verdicts.{drops_writes, loaded_after, verdict_of}
 
--- the view of a slot: that of the device below, from a layer's offset on; a layer with a gate has
--- faults and lies of its own, and one with bad blocks has faults of its own
+-- A slot without a layer has the view of the device below. A layer shows its range of that device.
+-- A gate adds its faults and lies, and a dust layer adds its faults.
 abbrev pub slot_shown : {D : Type 0} {g : Ghosts D} → Slot D g → View
 slot_shown {D} {g} (slots.Bare device) = g.shown device
 slot_shown {D} {g} (slots.Dusted layer) =
@@ -25,14 +25,15 @@ slot_shown {D} {g} (slots.Decided layer) =
     counted (window (g.shown layer.lower.lower) layer.lower.offset layer.lower.length)
     layer.faults layer.lies (drops_writes layer.gate.target)
 
--- a range does the call shifted by its offset on the device below, and stays
+-- the device below does the call, shifted by the range's offset, and the range stays
 abbrev pub IsShifted : {D : Type 0} {g : Ghosts D} → Linear D g → Call → ℕ → Result ℕ DevError
     → Linear D g → Type 0
 IsShifted {D} {g} range call now result after =
     g.does range.lower (call_from range.offset call) now result after.lower
     × (after.offset ≡ range.offset) × (after.length ≡ range.length)
 
--- the device below does a call, or a range of it as its gate decides, or block by block
+-- A slot without a layer passes the call to the device below. A layer with a gate does what the
+-- gate decides. A dust layer goes by its mode and list (`IsDusted`).
 abbrev pub slot_does : {D : Type 0} {g : Ghosts D} → Slot D g → Call → ℕ → Result ℕ DevError
     → Slot D g → Type 0
 slot_does {D} {g} (slots.Bare device) call now result (slots.Bare after) =
@@ -57,7 +58,7 @@ device_of {D} {g} (slots.Bare device) = device
 device_of {D} {g} (slots.Decided layer) = layer.lower.lower
 device_of {D} {g} (slots.Dusted layer) = layer.lower.lower
 
--- whether each slot has a layer, the top first, if `beneath` is that for the device below
+-- whether each slot has a layer, the top first; `beneath` says it for the slots of the device below
 abbrev pub shape_with : {D : Type 0} {g : Ghosts D} → (D → List Bool) → Slot D g → List Bool
 shape_with {D} {g} beneath slot = has_layer slot ∷ beneath (device_of slot)
 

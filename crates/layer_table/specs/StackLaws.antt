@@ -29,7 +29,7 @@ use Rattle.layer_table.specs.SlotLaws.{shape_kept, slot_lawful, IsKept}
 pub stack_lawful : (stack : Stack) → IsLawful (stack_shown stack)
 stack_lawful stack = slot_lawful three_lawful stack.top
 
--- the levels as devices
+-- the disk and the three lower slots, as devices
 abbrev pub on_disk : Ghosts SectorDisk
 on_disk = record { shown = shown_of; does = Does }
 
@@ -123,7 +123,7 @@ pub done_by_layers : (old : Stack) (call : Call) (now : ℕ) (result : Result �
 done_by_layers old call now result new does =
     does_with layers_three disk_three three_count three_done old.top call now result new.top does
 
--- equal views have equal parts
+-- if two views are equal, they look the same (`IsSeenAs`)
 pub seen_as : (v w : View) → w ≡ v → IsSeenAs v w
 seen_as v w same = subst (λ (x : View). IsSeenAs x w) same (record {
   size = refl;
@@ -154,7 +154,7 @@ three_part level = part_with (λ two. shown_of (disk_two two)) two_part level.to
 pub part_of_disk : (stack : Stack) → IsPartOf (shown_of (disk_of stack)) (stack_shown stack)
 part_of_disk stack = part_with (λ three. shown_of (disk_three three)) three_part stack.top
 
--- the number of layers in four slots: one for each slot that has one
+-- the number of layers is the number of slots that have a layer
 counted_in : (stack : Stack)
     → let three = device_of stack.top in
     let two = device_of three.top in
@@ -172,7 +172,8 @@ counted_in stack =
     ∙ ap (count_with (has_layer three.top)) (counted_with layers_one two.top
     ∙ ap (count_with (has_layer two.top)) (counted_with (λ disk. []) one.top)))
 
--- with no gap, a layer at the top is over three, and no layer at the top leaves at most three
+-- If the top slot has a layer and there is no gap, all four slots have one. If the top slot has no
+-- layer, at most three slots have one.
 four_full : (a b c d : Bool) → a ≡ true → has_no_gap (a ∷ b ∷ c ∷ d ∷ []) ≡ true
     → count_with a (count_with b (count_with c (count_with d 0))) ≡ 4
 four_full true true true true is whole = refl

@@ -15,8 +15,8 @@ use Rattle.layer_table.specs.Slots.{device_of, has_layer, has_no_gap, shape_with
 use Rattle.layer_table.specs.ThreeLevel.{three_answers}
 use Rattle.layer_table.specs.TwoLevel.{two_answers}
 
--- Layers count from 1, the lowest: the fourth is the top slot, and the first the slot over the
--- disk. No other number is a layer's.
+-- The layers count from 1: layer 1 is the slot over the disk, and layer 4 is the top slot. A
+-- message to any other number is refused.
 pub record StackAnswers (old : Stack) (layer : ℕ) (text : List ℕ)
     (result : Result (Unit {0}) MessageError) (new : Stack) : Type 0 where
   pub within : 1 ≤ layer → layer ≤ 4
@@ -25,14 +25,14 @@ pub record StackAnswers (old : Stack) (layer : ℕ) (text : List ℕ)
 
 -- ---- a message keeps the slots that have a layer
 
--- each message to a device keeps its value of f
+-- no message to a device changes its value of `f`
 abbrev pub KeepsByMessage : {D A : Type 0}
     → (D → ℕ → List ℕ → Result (Unit {0}) MessageError → D → Type 0) → (D → A) → Type 0
 KeepsByMessage {D} {A} answers f =
     (device : D) (layer : ℕ) (text : List ℕ) (result : Result (Unit {0}) MessageError) (after : D)
     → answers device layer text result after → f after ≡ f device
 
--- a slot keeps the value of f of the device below, and whether it has a layer
+-- the value of `f` for the device below stays, and whether the slot has a layer
 abbrev IsSlotKept : {D A : Type 0} {g : Ghosts D} → (D → A) → Slot D g → Slot D g → Type 0
 IsSlotKept f slot after =
     (f (device_of after) ≡ f (device_of slot)) × (has_layer after ≡ has_layer slot)
@@ -80,7 +80,8 @@ below_kept {D} {A} {g} f below kept (slots.Dusted it) layer text result (slots.D
 below_kept {D} {A} {g} f below kept (slots.Dusted it) layer text result (slots.Dusted after) is =
     (kept it.lower.lower layer text result after.lower.lower is.0.0, refl)
 
--- any message keeps the value of f, and whether the slot has a layer
+-- Any message keeps the value of `f`, if each message to the device below does. It never changes
+-- whether the slot has a layer.
 message_kept : {D A : Type 0} {g : Ghosts D} (f : D → A)
     (below : D → ℕ → List ℕ → Result (Unit {0}) MessageError → D → Type 0) → KeepsByMessage below f
     → (slot : Slot D g) (layer : ℕ) (text : List ℕ) (result : Result (Unit {0}) MessageError)

@@ -21,7 +21,7 @@ use Rattle.layer_table.specs.Ranges.{is_in_range}
 
 -- ---- the words of a line by their places, which are counted from 0
 
--- the word at a place, or an empty one
+-- the word at a place, or an empty word
 abbrev pub word_in : List (List ℕ) → ℕ → List ℕ
 word_in words place = unwrap_or (slice_get words place) []
 
@@ -29,13 +29,13 @@ word_in words place = unwrap_or (slice_get words place) []
 abbrev pub has_number : List (List ℕ) → ℕ → Bool
 has_number words place = is_some (number_of (word_in words place))
 
--- the number at a place, or 0 if the word there is none
+-- the number at a place, or 0 if the word there isn't a number
 abbrev pub value_in : List (List ℕ) → ℕ → ℕ
 value_in words place = unwrap_or (number_of (word_in words place)) 0
 
 -- ---- the words after a flakey line's seconds
 
--- the feature of this name
+-- the feature with the name `name`, or None
 abbrev pub feature_named : List ℕ → Option Feature
 feature_named name =
     if bytes_eq name (codes "error_reads") then Some features.ErrorReads
@@ -53,22 +53,22 @@ feature_of (Some count) (Some name) =
 abbrev pub feature_in : List (List ℕ) → Option Feature
 feature_in words = feature_of (slice_get words 7) (slice_get words 8)
 
--- ---- the sets of a delay line: a device, a sector of it, and a delay
+-- ---- the groups of a delay line: a device, an offset on it, and a delay
 
--- the delay of the set from `place` on, or `before` if there is no such set
+-- the delay of the group from word `place` on, or `before` if there is no word at `place`
 abbrev pub later_delay : List (List ℕ) → ℕ → ℕ → ℕ
 later_delay words place before =
     if is_none (slice_get words place) then before else value_in words (place + 2)
 
--- the first set's delay is for all calls, the second's for writes and flushes, and the third's for
--- flushes
+-- The first group's delay is for reads, the second's for writes, and the third's for flushes. A
+-- missing group has the delay of the group before it.
 abbrev pub delay_in : List (List ℕ) → Target
 delay_in words =
     let read = value_in words 5 in
     let write = later_delay words 6 read in
     targets.Delay read write (later_delay words 9 write)
 
--- the set from `place` on, if there is one, names the first set's device and sector
+-- the group from word `place` on has the first group's device and offset, or is missing
 abbrev pub is_same_place : List (List ℕ) → ℕ → Bool
 is_same_place words place =
     is_none (slice_get words place)
@@ -77,9 +77,9 @@ is_same_place words place =
 
 -- ---- the rows
 
--- A line of a target: its third word, the numbers of words that it may have, the places of its
--- numbers if it has `count` words, and the target that its words ask for, if its feature is in the
--- table. The first two numbers are the start and the length.
+-- A line of a target: its third word and the numbers of words that it may have. `places count` are
+-- the places of its numbers if it has `count` words. `target` is the target that the words ask for,
+-- or None if a flakey line's feature doesn't exist. Words 0 and 1 are the start and the length.
 pub record Row : Type 0 where
   pub word : List ℕ
   pub counts : List ℕ
@@ -139,7 +139,7 @@ abbrev pub offset_in : Name → List (List ℕ) → ℕ
 offset_in names.Error words = 0
 offset_in name words = value_in words 4
 
--- all sets of a delay line name one device and one sector of it
+-- All groups of a delay line have the same device and offset. Other lines pass.
 abbrev pub has_one_place : Name → List (List ℕ) → Bool
 has_one_place names.Delay words = is_same_place words 6 && is_same_place words 9
 has_one_place name words = true
@@ -157,14 +157,14 @@ named word =
 
 -- ---- the tests
 
--- goes on with the value of an answer that is no error
+-- continues with the value of the first answer; an error is returned as it is
 infixl 10 ◌>>=◌
 abbrev pub ◌>>=◌ : {A B : Type 0} → Result A TableError → (A → Result B TableError)
     → Result B TableError
 (Ok x) >>= f = f x
 (Err error) >>= f = Err error
 
--- goes on if the test holds
+-- an error, unless the test holds
 abbrev pub if_holds : Bool → TableError → Result (Unit {0}) TableError
 if_holds true error = Ok tt
 if_holds false error = Err error
@@ -173,7 +173,7 @@ if_holds false error = Err error
 abbrev pub has_count : Name → List (List ℕ) → Bool
 has_count name words = list_any (nat_eq (length words)) (row name).counts
 
--- its words at the places of numbers are numbers
+-- the line's words at the places of numbers are numbers
 abbrev pub has_numbers : Name → List (List ℕ) → Bool
 has_numbers name words = list_all (has_number words) ((row name).places (length words))
 
@@ -182,7 +182,8 @@ abbrev pub layer_of : Name → List (List ℕ) → Target → LayerSpec
 layer_of name words target =
     record { length = value_in words 1; offset = offset_in name words; target = target }
 
--- the start is 0, the layer's values are in their ranges, and the line names one place
+-- The start is 0, the layer's values are in their ranges, and a delay line has only one device and
+-- offset.
 abbrev pub has_ranges : Name → List (List ℕ) → LayerSpec → Bool
 has_ranges name words spec =
     nat_eq (value_in words 0) 0 && (is_in_range spec && has_one_place name words)

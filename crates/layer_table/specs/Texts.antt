@@ -8,25 +8,25 @@ use Rattle.layer_table.specs.declared.layer_spec.LayerSpec.{LayerSpec}
 use Rattle.fault_layers.specs.declared.target.Target.{Target}
 use Rattle.fault_layers.specs.declared.target.Target.TheVariants as targets
 
--- the words of a feature, with no count if there is none
+-- the words of a feature: the count 1 and a name, or nothing if there is no feature
 abbrev pub feature_words : Feature → List (List ℕ)
 feature_words features.None = []
 feature_words features.ErrorReads = codes "1" ∷ codes "error_reads" ∷ []
 feature_words features.ErrorWrites = codes "1" ∷ codes "error_writes" ∷ []
 feature_words features.DropWrites = codes "1" ∷ codes "drop_writes" ∷ []
 
--- a set of words of a delay device: the device, a sector of it, and a delay
+-- a group of a delay target: the device's name, the offset on it, and the delay
 abbrev pub set_words : ℕ → ℕ → List (List ℕ)
 set_words offset delay = codes "disk" ∷ decimal offset ∷ decimal delay ∷ []
 
--- The sets after the first: none if one delay is for all calls, one if writes and flushes have the
--- same delay, and otherwise two.
+-- The groups after the first: none if all delays are equal, one if only the write and flush delays
+-- are equal, and otherwise two.
 abbrev pub later_sets : ℕ → ℕ → ℕ → ℕ → List (List ℕ)
 later_sets offset read write flush =
     if nat_eq read write && nat_eq write flush then []
     else set_words offset write ++ (if nat_eq write flush then [] else set_words offset flush)
 
--- the words of a target: its name, the device, a sector of it, and the target's values
+-- the words of a target: its name, the device's name, the offset on it, and the target's values
 abbrev pub target_words : ℕ → Target → List (List ℕ)
 target_words offset targets.Linear = codes "linear" ∷ codes "disk" ∷ decimal offset ∷ []
 target_words offset targets.Error = codes "error" ∷ []

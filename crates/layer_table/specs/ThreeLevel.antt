@@ -14,7 +14,7 @@ use Rattle.layer_table.specs.Slots.{slot_does, slot_shown}
 abbrev pub three_shown : Three → View
 three_shown level = slot_shown level.top
 
--- the effect of its calls
+-- the effect of the slot's calls
 abbrev pub three_does : Three → Call → ℕ → Result ℕ DevError → Three → Type 0
 three_does old call now result new = slot_does old.top call now result new.top
 
@@ -22,6 +22,6 @@ three_does old call now result new = slot_does old.top call now result new.top
 pub three_lawful : (level : Three) → IsLawful (three_shown level)
 three_lawful level = slot_lawful two_lawful level.top
 
--- the result of a message to it
+-- the answer to a message to the slot
 abbrev pub three_answers : Three → ℕ → List ℕ → Result (Unit {0}) MessageError → Three → Type 0
 three_answers old layer text result new = SlotAnswers two_answers old.top layer text result new.top

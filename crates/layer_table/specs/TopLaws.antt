@@ -1,4 +1,4 @@
--- The effect of a call at the top of layers, by the rule of the top.
+-- The effect of a call on layers over a disk, by the rule of the top layer.
 use Rattle.std.proofs.Common.{◌≡◌, ℕ, List, [], ◌∷◌, length, Result, refl, ap, subst, ◌∙◌}
 use Rattle.dust_layer.specs.declared.mode.Mode.{Mode}
 use Rattle.dust_layer.specs.BadBlocks.{Bad}
@@ -43,7 +43,7 @@ at_top layer layers old call now result top others new rule is does =
     (record { layers = others; disk = new }) layer top)
     is does.0
 
--- a layer with a gate
+-- If the top layer has a gate, it does what the gate's verdict says (`Follows`).
 pub gate_top : (layer : Layer) (layers : List Layer) (old : SectorDisk) (call : Call) (now : ℕ)
     (result : Result ℕ DevError) (after : List Layer)
     (new : SectorDisk)
@@ -90,7 +90,7 @@ gate_top layer layers old call now result (top ∷ others) new gate is does =
           );
     }
 
--- a layer with bad blocks
+-- If the top layer is a dust layer, a call goes by its list and its mode (`FollowsBlocks`).
 pub dust_top : (layer : Layer) (layers : List Layer) (old : SectorDisk) (call : Call) (now : ℕ)
     (result : Result ℕ DevError) (after : List Layer)
     (new : SectorDisk)

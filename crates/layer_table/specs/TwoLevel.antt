@@ -14,7 +14,7 @@ use Rattle.layer_table.specs.Slots.{slot_does, slot_shown}
 abbrev pub two_shown : Two → View
 two_shown level = slot_shown level.top
 
--- the effect of its calls
+-- the effect of the slot's calls
 abbrev pub two_does : Two → Call → ℕ → Result ℕ DevError → Two → Type 0
 two_does old call now result new = slot_does old.top call now result new.top
 
@@ -22,6 +22,6 @@ two_does old call now result new = slot_does old.top call now result new.top
 pub two_lawful : (level : Two) → IsLawful (two_shown level)
 two_lawful level = slot_lawful one_lawful level.top
 
--- the result of a message to it
+-- the answer to a message to the slot
 abbrev pub two_answers : Two → ℕ → List ℕ → Result (Unit {0}) MessageError → Two → Type 0
 two_answers old layer text result new = SlotAnswers one_answers old.top layer text result new.top

@@ -1,4 +1,4 @@
-//! Laws of stacks, apart from the code: each function does nothing, and its clause is the law.
+//! Laws of stacks. Each function does nothing, and its `ensures` clause is the law.
 ghost use Rattle.std.specs.Prelude.{◌≡◌, ◌∷◌, ℕ, List, Result};
 ghost use Rattle.bio.specs.declared.outcome.DevError.{DevError};
 ghost use Rattle.blockdev.specs.Calls.{Call};
@@ -20,13 +20,14 @@ pub fn stacks_show_their_layers()
         → IsSeenAs (layers_over (layers_of stack) (shown_of (disk_of stack))) (stack_shown stack) }
 {}
 
-/// A stack is a part of the disk below it. It has the disk's content from its origin on. What a
-/// crash, even during a call, may have left of it is the part of what it may have left of the disk.
+/// A stack is a part of the disk below it (`IsPartOf`). Its content is the disk's content from the
+/// stack's origin on. After a crash, even during a call, its possible contents are that part of the
+/// disk's possible contents.
 pub fn stacks_are_parts_of_their_disks()
     ensures { (stack : Stack) → IsPartOf (shown_of (disk_of stack)) (stack_shown stack) }
 {}
 
-/// A call of a stack is one of its layers over the disk, from the top down.
+/// If a stack does a call, its layers do the call over the disk, from the top down (`LayersDo`).
 #[tactic(auto, using(crate::specs::StackLaws::done_by_layers))]
 pub fn stacks_do_what_their_layers_do()
     ensures { (old : Stack) (call : Call) (now : ℕ) (result : Result ℕ DevError) (new : Stack)
@@ -34,8 +35,8 @@ pub fn stacks_do_what_their_layers_do()
         LayersDo (layers_of old) (disk_of old) call now result (layers_of new) (disk_of new) }
 {}
 
-/// A layer with a gate at the top does what the verdict of its target says, and then has the gate
-/// after the call: only a fuse's changes.
+/// If the top layer has a gate, it does what the gate's verdict says. Then it has the gate after
+/// the call; only a fuse's gate changes.
 #[tactic(auto, using(crate::specs::TopLaws::gate_top))]
 pub fn gates_decide()
     ensures { (layer : Layer) (layers : List Layer) (old : SectorDisk) (call : Call) (now : ℕ)
@@ -47,7 +48,7 @@ pub fn gates_decide()
         layers old call now result after new }
 {}
 
-/// A dust layer at the top goes block by block, by its list and its mode.
+/// If the top layer is a dust layer, a call goes by the layer's list of bad blocks and its mode.
 #[tactic(auto, using(crate::specs::TopLaws::dust_top))]
 pub fn dust_layers_go_by_blocks()
     ensures { (layer : Layer) (layers : List Layer) (old : SectorDisk) (call : Call) (now : ℕ)

@@ -1,5 +1,5 @@
-//! The layer that a line of a table asks for: its length, its offset and its target. `parse_line`
-//! parses one, `push_line` prints one, and scripts keep them for their disks.
+//! `LayerSpec`: the layer that a table line asks for. `parse_line` parses the line, `push_line`
+//! prints it, and a script has the `LayerSpec`s of its disks.
 ghost use Rattle.std.specs.Prelude.{◌≡◌};
 ghost use Rattle.layer_table.specs.Ranges.{are_delays, is_block_size, is_cycle};
 ghost use Rattle.layer_table.specs.Ranges.{is_in_range as is_within};
@@ -13,23 +13,24 @@ const MAX_CYCLE_SECONDS: u64 = 4_294_967_295;
 /// The longest delay, in milliseconds.
 const MAX_DELAY: u64 = 4_294_967_295;
 
-/// The fewest and the most bytes of a dust device's block.
+/// The fewest bytes of a dust device's block.
 const MIN_BLOCK_BYTES: u64 = 512;
 
+/// The most bytes of a dust device's block.
 const MAX_BLOCK_BYTES: u64 = 1_073_741_824;
 
-/// A layer that a line asks for.
+/// The layer that a table line asks for.
 #[derive(Clone, Copy, Debug, PartialEq, Eq)]
 pub struct LayerSpec {
     /// Its number of sectors, of 512 bytes each, 1 to 1,048,576.
     pub length: u64,
-    /// The sector of the lower device that its first sector is; 0 for a target that maps none.
+    /// The sector of the lower device that is the layer's sector 0. It is 0 for an error target.
     pub offset: u64,
-    /// What it does.
+    /// What the layer does.
     pub target: Target,
 }
 
-// Returns whether a line may ask for these values.
+// Returns whether the length and the target's values of `spec` are in their ranges.
 pub(crate) fn is_in_range(spec: LayerSpec) -> bool
     ensures { result ≡ is_within spec }
 {
@@ -59,7 +60,7 @@ fn is_block_size(bytes: u64) -> bool
     bytes.is_power_of_two() && (MIN_BLOCK_BYTES..=MAX_BLOCK_BYTES).contains(&bytes)
 }
 
-// Returns whether calls may begin later by these milliseconds.
+// Returns whether a delay device may have these delays, in milliseconds.
 fn are_delays(read: u64, write: u64, flush: u64) -> bool
     ensures { result ≡ are_delays read write flush }
 {

@@ -1,5 +1,5 @@
-//! The three lower slots, each a named device. A type with the slots one within the other would be
-//! twice as long with each, and so would the proofs over it.
+//! The three lower slots, each as a device with a named type. Without the names, each further slot
+//! would double the length of the type, and of the proofs over it.
 
 mod building;
 mod one;

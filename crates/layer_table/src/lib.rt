@@ -1,13 +1,13 @@
 //! Stacks of layers over a disk in memory, as the lines of a table ask for them.
 //!
-//! `parse_line` parses a line, or returns the first error in it; `push_line` prints the canonical
-//! text of a layer. `specs/TableLines` defines what a line's words ask for: a row for each target,
-//! and the tests in their order (`line_laws`).
+//! `parse_line` parses a line, or returns the error of the first failed test. `push_line` prints
+//! the canonical text of a layer. `specs/TableLines` defines which layer a line's words ask for: it
+//! has a row for each target, and the tests in their order. `line_laws` states laws of lines.
 //!
-//! A `Slot` is a device or one layer over it. A `Stack` is four slots, each over the next, over a
-//! disk, and is itself a device. Contracts see the layers of a stack as a list, the top first
-//! (`specs/Layers`): the view of a stack and the effect of its calls follow from that list and the
-//! disk below (`laws`).
+//! A `Slot` is a device, or one layer over a range of it. A `Stack` is four slots over a disk, each
+//! over the next, and is itself a device. Contracts see the layers of a stack as a list, the top
+//! first (`specs/Layers`). The view of a stack and the effect of its calls follow from that list
+//! and the disk (`laws`).
 #![tactic(auto)]
 
 pub use fault_layers::{Feature, Target};

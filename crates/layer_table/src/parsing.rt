@@ -1,5 +1,5 @@
-//! Parses a line of a table: `parse_line` returns its layer, or the error of the first test that it
-//! fails. The parser of scripts calls it for the lines of layers.
+//! `parse_line` parses a table line. It returns the layer that the line asks for, or the error of
+//! the first test that the line fails. The parser of scripts calls it for the lines of layers.
 ghost use Rattle.std.specs.Prelude.{◌≡◌, ◌<◌, ◌^◌, nat_eq, IfOk};
 ghost use Rattle.std.specs.List.{list_all, list_any};
 ghost use Rattle.refusals.specs.Words.{words_of};
@@ -14,8 +14,9 @@ use crate::table_error::TableError;
 use fault_layers::{Feature, Target};
 use refusals::{count_words, number_of, word_at};
 
-/// Parses a line: returns the layer that its words ask for, or the first error in it. One or more
-/// spaces separate two words. Spaces before the first word and after the last are ignored.
+/// Parses a line: returns the layer that its words ask for, or the error of the first failed test.
+/// One or more spaces separate two words. Spaces before the first word and after the last are
+/// ignored.
 pub fn parse_line(line: &[u8]) -> Result<LayerSpec, TableError>
     ensures answer { result ≡ line_answer (words_of line.now) }
     // The layer's values are in their ranges.
@@ -44,7 +45,7 @@ pub fn parse_line(line: &[u8]) -> Result<LayerSpec, TableError>
     Ok(spec)
 }
 
-// Returns the word at `place`, or an empty one.
+// Returns the word at `place`, counted from 0, or an empty word if there is none.
 fn word_in(line: &[u8], place: usize) -> &[u8]
     ensures { result.now ≡ word_in (words_of line.now) place }
 {
@@ -65,14 +66,15 @@ fn has_number(line: &[u8], place: usize) -> bool
     number_of(word_in(line, place)).is_some()
 }
 
-// Returns the number at `place`, or 0 if the word there is none: `parse_line` tests that first.
+// Returns the number at `place`, or 0 if the word there isn't a number. `parse_line` tests the
+// numbers first.
 fn value_in(line: &[u8], place: usize) -> u64
     ensures { result ≡ value_in (words_of line.now) place }
 {
     number_of(word_in(line, place)).unwrap_or_default()
 }
 
-// Returns the sector of the lower device.
+// Returns the line's offset on the lower device; 0 for an error line.
 fn offset_in(line: &[u8], name: Name) -> u64
     ensures { result ≡ offset_in name (words_of line.now) }
 {
@@ -82,7 +84,8 @@ fn offset_in(line: &[u8], name: Name) -> u64
     }
 }
 
-// Returns the target that a line of this name asks for, if its feature is in the table.
+// Returns the target that a line with the target name `name` asks for, or None if a flakey line's
+// feature doesn't exist.
 fn target_in(line: &[u8], name: Name) -> Option<Target>
     ensures { result ≡ (row name).target (words_of line.now) }
 {
@@ -104,8 +107,8 @@ fn target_in(line: &[u8], name: Name) -> Option<Target>
     })
 }
 
-// Returns the delays of a delay line: one for all calls, one for reads and one for the others, or
-// one for each kind.
+// Returns the target of a delay line. Its groups (device, offset, delay) are for reads, for writes
+// and for flushes, in this order. A missing group has the delay of the group before it.
 fn delay_in(line: &[u8]) -> Target
     ensures { result ≡ delay_in (words_of line.now) }
 {
@@ -115,8 +118,8 @@ fn delay_in(line: &[u8]) -> Target
     Target::Delay { read, write, flush }
 }
 
-// Returns the delay of the set of words from `place` on: a device, a sector of it, and the delay.
-// If there is no such set, returns `before`.
+// Returns the delay of the group (device, offset, delay) from word `place` on. If there is no word
+// at `place`, returns `before`.
 fn later_delay(line: &[u8], place: usize, before: u64) -> u64
     requires { place < 2 ^ 32 }
     ensures { result ≡ later_delay (words_of line.now) place before }
@@ -127,15 +130,15 @@ fn later_delay(line: &[u8], place: usize, before: u64) -> u64
     value_in(line, place + 2)
 }
 
-// Returns whether the sets of a delay line name one device and one sector of it.
+// Returns whether all groups of a delay line name the same device and offset. Other lines pass.
 fn has_one_place(line: &[u8], name: Name) -> bool
     ensures { result ≡ has_one_place name (words_of line.now) }
 {
     name != Name::Delay || (is_same_place(line, 6) && is_same_place(line, 9))
 }
 
-// Returns whether the set of words from `place` on, if there is one, names the first set's device
-// and its sector.
+// Returns whether the group from word `place` on has the device and offset of the first group. A
+// missing group passes.
 fn is_same_place(line: &[u8], place: usize) -> bool
     requires { place < 2 ^ 32 }
     ensures { result ≡ is_same_place (words_of line.now) place }
@@ -148,7 +151,8 @@ fn is_same_place(line: &[u8], place: usize) -> bool
     }
 }
 
-// Returns the feature that a flakey line's last words name.
+// Returns the feature that a flakey line's words after its seconds name, or None if there is no
+// such feature.
 fn feature_in(line: &[u8]) -> Option<Feature>
     ensures { result ≡ feature_in (words_of line.now) }
 {
@@ -160,7 +164,7 @@ fn feature_in(line: &[u8]) -> Option<Feature>
     }
 }
 
-// Returns the feature of this name.
+// Returns the feature with the name `name`, or None.
 fn feature_of(name: &[u8]) -> Option<Feature>
     ensures { result ≡ feature_named name.now }
 {
@@ -175,8 +179,8 @@ fn feature_of(name: &[u8]) -> Option<Feature>
     }
 }
 
-// The name of a target: how many words a line of it may have, and at which places its numbers are.
-// `parse_line` tests these before it parses a value.
+// The name of a target. It decides how many words a line may have, and which words are numbers.
+// `parse_line` tests both before it parses a value.
 #[derive(Clone, Copy, Debug, PartialEq, Eq)]
 pub(crate) enum Name {
     Linear,
@@ -188,7 +192,7 @@ pub(crate) enum Name {
 }
 
 impl Name {
-    // Returns the name that a word is, if it is one.
+    // Returns the target name that `word` is, or None.
     fn of_word(word: &[u8]) -> Option<Name>
         ensures { result ≡ named word.now }
     {

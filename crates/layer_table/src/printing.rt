@@ -1,5 +1,4 @@
-//! Prints a layer as the one line that asks for it: `push_line`.
-//! The printer of scripts calls it.
+//! Prints a layer as its table line: `push_line`. The printer of scripts calls it.
 ghost use Rattle.std.specs.Prelude.{◌≡◌, ◌++◌, ◌∷◌, [], decimal, OnOk};
 ghost use Rattle.layer_table.specs.Texts.{behind_spaces, feature_words, later_sets, line_text};
 ghost use Rattle.layer_table.specs.Texts.{set_words, target_words};
@@ -9,10 +8,10 @@ use fault_layers::{Feature, Target};
 use refusals::push_number;
 use std::alloc::AllocError;
 
-/// Appends the canonical text of a layer, such as `0 16 flakey disk 0 10 5 1 drop_writes`. It has
-/// no leading zeroes, one space between two words, and `disk` for the device's word. It has no
-/// count of features if there is none. If the layer's values are in their ranges, `parse_line`
-/// parses the text as that layer. Lack of memory is an error.
+/// Appends the canonical text of a layer, such as `0 16 flakey disk 0 10 5 1 drop_writes`. Numbers
+/// have no leading zeroes, and one space separates two words. The device's name is always `disk`.
+/// If the layer has no feature, the text has no feature count. If the layer's values are in their
+/// ranges, `parse_line` parses the text as that layer. If an allocation fails, returns an error.
 pub fn push_line(out: &mut Vec<u8>, spec: &LayerSpec) -> Result<(), AllocError>
     ensures { OnOk result (out.new.items ≡ out.old.items ++ line_text spec.now) }
 {
@@ -49,7 +48,8 @@ fn push_target(out: &mut Vec<u8>, offset: u64, target: Target) -> Result<(), All
     }
 }
 
-// Appends the sets of a delay device after the first one: as few as its delays need.
+// Appends a delay target's write and flush groups (`disk`, offset, delay), only if the delays
+// differ. If the write and flush delays are equal, it omits the flush group.
 fn push_delays(
     out: &mut Vec<u8>,
     offset: u64,
@@ -70,7 +70,7 @@ fn push_delays(
     push_set(out, offset, flush)
 }
 
-// Appends a set of words of a delay device.
+// Appends a group of a delay target: `disk`, the offset and the delay.
 fn push_set(out: &mut Vec<u8>, offset: u64, delay: u64) -> Result<(), AllocError>
     ensures { OnOk result (out.new.items
         ≡ out.old.items ++ behind_spaces (set_words offset delay)) }
@@ -79,7 +79,7 @@ fn push_set(out: &mut Vec<u8>, offset: u64, delay: u64) -> Result<(), AllocError
     push_value(out, delay)
 }
 
-// Appends a flakey device's words after its place.
+// Appends a flakey target's words after its offset: the seconds up and down, and the feature.
 fn push_turns(out: &mut Vec<u8>, up: u64, down: u64, feature: Feature) -> Result<(), AllocError>
     ensures { OnOk result (out.new.items
         ≡ out.old.items ++ behind_spaces (decimal up ∷ decimal down ∷ feature_words feature)) }
@@ -89,7 +89,7 @@ fn push_turns(out: &mut Vec<u8>, up: u64, down: u64, feature: Feature) -> Result
     push_feature(out, feature)
 }
 
-// Appends a target's name and the device's word, and the offset on it.
+// Appends `place`, such as ` linear disk`, and the offset.
 fn push_place(out: &mut Vec<u8>, place: &[u8], offset: u64) -> Result<(), AllocError>
     ensures { OnOk result (out.new.items
         ≡ out.old.items ++ (place.now ++ behind_spaces (decimal offset ∷ []))) }
@@ -106,7 +106,7 @@ fn push_value(out: &mut Vec<u8>, value: u64) -> Result<(), AllocError>
     push_number(out, value)
 }
 
-// Appends a feature's words.
+// Appends a feature's count and name, or nothing if there is no feature.
 fn push_feature(out: &mut Vec<u8>, feature: Feature) -> Result<(), AllocError>
     ensures { OnOk result (out.new.items ≡ out.old.items ++ behind_spaces (feature_words feature)) }
 {

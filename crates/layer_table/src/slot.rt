@@ -1,5 +1,5 @@
-//! A slot for one layer: only the device below, a range of it under a gate, or a range with bad
-//! blocks. A `Stack` has four, each over the next; its calls go through them.
+//! `Slot`: a device, or one layer over a range of it. A `Stack` has four slots, each over the next,
+//! and its calls go through them.
 use bio::{DevError, Ms};
 use blockdev::{BlockDev, Message, MessageError};
 use dust_layer::Dust;
@@ -10,9 +10,9 @@ use fault_layers::{Gated, Linear};
 pub enum Slot<D: BlockDev + Drop> {
     /// The device below.
     Bare(D),
-    /// A range of it, under a gate.
+    /// A range of the device below, with a gate.
     Decided(Gated<Linear<D>, ()>),
-    /// A range of it that has bad blocks.
+    /// A range of the device below, with bad blocks.
     Dusted(Dust<Linear<D>>),
 }
 
@@ -107,7 +107,8 @@ impl<D: BlockDev + Drop> Slot<D> {
         !matches!(self, Slot::Bare(_))
     }
 
-    // Passes a message to the layer in the slot: only one with bad blocks takes messages.
+    // Passes a message to the layer in the slot. Only a dust layer takes messages; otherwise the
+    // error is BadMessage.
     fn own_message(&mut self, text: &str) -> Result<(), MessageError>
         ensures same { Unchanged (slot_shown self.old) (slot_shown self.new) }
         ensures answers { AnswersItself self.old text.now result self.new }
@@ -124,7 +125,7 @@ impl<D: Message + Drop> Slot<D> {
     ghost use Rattle.layer_table.specs.SlotMessages.{AnswersBelow};
     ghost use Rattle.layer_table.specs.Slots.{slot_shown};
 
-    // Passes a message to the device below, which counts its layers from 1.
+    // Passes a message to the device below. `layer` counts from 1, the top layer of that device.
     fn message_below(&mut self, layer: u64, text: &str) -> Result<(), MessageError>
         ensures same { Unchanged (slot_shown self.old) (slot_shown self.new) }
         ensures answers { AnswersBelow D.answers self.old layer text.now result self.new }
@@ -140,7 +141,7 @@ impl<D: Message + Drop> Slot<D> {
 impl<D: Message + Drop> Message for Slot<D> {
     ghost use Rattle.layer_table.specs.SlotMessages.{SlotAnswers};
 
-    // The slot is layer 1, and the layers below it count on from 2.
+    // The slot's own layer is layer 1. The layers of the device below are numbered from 2 on.
     ghost answers = { λ old layer text result new. SlotAnswers D.answers old layer text result
         new };
 

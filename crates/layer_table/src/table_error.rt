@@ -15,10 +15,11 @@ pub enum TableError {
     /// The line has fewer than three words, or a number of words that its target doesn't allow.
     #[error("too many words, or too few")]
     WrongCount,
-    /// A word at a number's place is no number.
+    /// A word that must be a number isn't one.
     #[error("a word that is no number")]
     BadNumber,
-    /// A value is out of its range.
+    /// A value is out of its range, the start isn't 0, or two groups of a delay line name different
+    /// devices or offsets.
     #[error("a value out of its range")]
     OutOfRange,
     /// A feature of a flakey line, or their count, doesn't exist.

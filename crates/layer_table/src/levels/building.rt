@@ -1,5 +1,5 @@
-//! Puts a layer into the lowest free slot of one, two or three, and returns the disk below them. A
-//! `Stack` is built with it (stack/building).
+//! Puts a layer into the lowest free slot of a `One`, a `Two` or a `Three`, and returns the disk
+//! below. stack/building builds a `Stack` with these functions.
 ghost use Rattle.std.specs.Prelude.{◌≡◌, ◌∷◌, List, false, true};
 ghost use Rattle.blockdev.specs.Calls.{IsRange};
 ghost use Rattle.layer_table.specs.Ranges.{IsLayerSpec};
@@ -121,7 +121,7 @@ impl Three {
     }
 }
 
-// Puts the layer over the device, in a slot.
+// Returns a slot with the layer that `spec` asks for, over the device `lower`.
 #[tactic(auto, using(crate::specs::Ranges::has_cycle))]
 pub(crate) fn layer<D: BlockDev + Drop>(
     alloc: Global,

@@ -1,5 +1,5 @@
-//! The lowest slot of a stack as a device: each call and message goes to the slot. specs/OneLevel
-//! defines its view and its calls.
+//! `One`: the lowest slot of a stack, as a device. Each call and message goes to the slot.
+//! specs/OneLevel defines the view, the calls and the answers to messages.
 use crate::slot::Slot;
 use bio::{DevError, Ms};
 use blockdev::{BlockDev, Message, MessageError};

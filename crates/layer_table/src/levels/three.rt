@@ -1,5 +1,5 @@
-//! The third slot of a stack, over the second, as a device: calls and messages go to the slot.
-//! specs/ThreeLevel defines its view and its calls.
+//! `Three`: the third slot of a stack, over the second, as a device. Each call and message goes to
+//! the slot. specs/ThreeLevel defines the view, the calls and the answers to messages.
 use crate::levels::Two;
 use crate::slot::Slot;
 use bio::{DevError, Ms};

@@ -1,5 +1,5 @@
-//! The second slot of a stack, over the lowest, as a device: calls and messages go to the slot.
-//! specs/TwoLevel defines its view and its calls.
+//! `Two`: the second slot of a stack, over the lowest, as a device. Each call and message goes to
+//! the slot. specs/TwoLevel defines the view, the calls and the answers to messages.
 use crate::levels::One;
 use crate::slot::Slot;
 use bio::{DevError, Ms};

@@ -42,10 +42,10 @@ impl Stack {
         }
     }
 
-    /// Puts a layer over the stack, loaded at the time `load`, in milliseconds; its lists later
-    /// take their memory from `alloc`. The error is OutOfRange exactly if the layer's last sector
-    /// is past the end of the stack, or the stack has four layers; then the stack is returned as it
-    /// was.
+    /// Puts the layer `spec` over the stack, loaded at the time `load`, in milliseconds. A dust
+    /// layer takes the memory of its list from `alloc`. The error is OutOfRange exactly if the
+    /// layer's last sector is past the end of the stack, or the stack has four layers. After an
+    /// error the stack is returned unchanged.
     #[tactic(auto, using(crate::specs::StackLaws::full_stack, crate::specs::StackLaws::free_stack))]
     pub fn over(self, alloc: Global, spec: LayerSpec, load: Ms) -> Result<Stack, (Stack, Refusal)>
         requires { IsLayerSpec spec }
@@ -70,9 +70,9 @@ impl Stack {
         })
     }
 
-    /// Puts layers over the stack, the first of them lowest, each loaded at the time `load`, in
-    /// milliseconds. The error is OutOfRange if `over` refuses one of them; then the stack is
-    /// returned with the layers below that one.
+    /// Puts the layers `specs` over the stack, in their order, each loaded at the time `load`, in
+    /// milliseconds. If `over` refuses a layer, the error is OutOfRange. Then the stack is returned
+    /// with only the layers before the refused layer.
     pub fn under(
         self,
         alloc: Global,

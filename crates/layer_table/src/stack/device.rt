@@ -1,5 +1,5 @@
-//! A stack is a block device: each call goes to its top slot. Its `lawful` proves the law of
-//! devices for every stack, by specs/StackLaws.
+//! A stack is a block device: each call goes to its top slot. `lawful` proves the device law for
+//! every stack (specs/StackLaws).
 ghost use Rattle.layer_table.specs.Layers.{stack_does, stack_shown};
 ghost use Rattle.layer_table.specs.StackLaws.{stack_lawful};
 

@@ -1,12 +1,12 @@
-//! Passes a message to the layer of a stack with its number; the lowest is 1. Scripts use it to
-//! change the bad blocks of a layer.
+//! Passes a message to a layer of a stack, given the layer's number; the lowest layer is 1. Scripts
+//! change a layer's bad blocks by messages.
 ghost use Rattle.layer_table.specs.StackMessages.{StackAnswers};
 
 use crate::stack::Stack;
 use blockdev::{Message, MessageError};
 
-/// A message goes to the layer with its number, counted from 1, the lowest. If there is no such
-/// layer, or it has no bad blocks, the error is BadMessage.
+/// A message goes to layer number `layer`; the lowest layer is 1. If there is no such layer, or it
+/// isn't a dust layer, the error is BadMessage.
 impl Message for Stack {
     ghost answers = { λ old layer text result new. StackAnswers old layer text result new };
 

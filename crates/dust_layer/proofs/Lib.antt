@@ -2,7 +2,6 @@
 mod BlockWalk
 mod ReadParts
 mod OrderLaws
-mod DustLaw
 mod OnlyGood
 mod ListLaws
 mod Examples

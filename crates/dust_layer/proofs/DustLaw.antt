@@ -1,1 +1,0 @@
--- The law of a device whose calls go block by block over another one.

@@ -66,8 +66,8 @@ pub fn plain_words_status()
         → Ends (ShowsLog ShowsStatus log) exit_by false old new ended }
 {}
 
-/// `replay LOG FIRST OUT WHAT` replays the log in the file LOG on the image in the file FIRST, up
-/// to the entry that WHAT names. If it is done, the file OUT holds the resulting image.
+/// `replay LOG FIRST OUT WHAT` replays the log in the file LOG on the image in the file FIRST. WHAT
+/// names the last entry to replay. If it is done, the file OUT holds the resulting image.
 pub fn plain_words_replay()
     ensures { (old new : Seen) (ended : Ended) (program log first out what : List ℕ) (upto : Upto)
         → is_positional log ≡ true
@@ -90,8 +90,8 @@ pub fn plain_words_copy()
         → Ends (Copies log out sectors) exit_by false old new ended }
 {}
 
-/// `judge SCRIPT M IMAGE` prints whether the data disk could hold the image in the file IMAGE, if
-/// power fails after M events of the script in the file SCRIPT.
+/// `judge SCRIPT M IMAGE` prints whether a power failure after M events could leave the image on
+/// the data disk. SCRIPT and IMAGE are the files of the script and the image.
 pub fn plain_words_judge()
     ensures { (old new : Seen) (ended : Ended) (program script m image : List ℕ) (moment : ℕ)
         → is_positional script ≡ true → IsNumber m moment
@@ -101,8 +101,8 @@ pub fn plain_words_judge()
         (exit_answered verdict_meaning) false old new ended }
 {}
 
-/// `path SCRIPT M IMAGE` prints how the data disk could come to hold the image in the file IMAGE,
-/// if power fails after M events of the script in the file SCRIPT.
+/// `path SCRIPT M IMAGE` prints how a power failure after M events could leave the image on the
+/// data disk. SCRIPT and IMAGE are the files of the script and the image.
 pub fn plain_words_path()
     ensures { (old new : Seen) (ended : Ended) (program script m image : List ℕ) (moment : ℕ)
         → is_positional script ≡ true → IsNumber m moment

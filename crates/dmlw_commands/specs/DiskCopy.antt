@@ -16,9 +16,9 @@ pub record IsBegun (sectors : ℕ) (store : Store) : Type 0 where
   pub placed : store.placed ≡ 0
   pub end : store.end ≡ None
 
--- The log in the image `log` has `count` entries and no fault, and each entry fits whole sectors of
--- 4,096 bytes. The device `v` has `sectors` sectors, and holds a log of the same entries in sectors
--- of 4,096 bytes.
+-- The log in the image `log` has `count` entries and no fault. The place and length in bytes of
+-- each entry are multiples of 4,096. The device `v` has `sectors` sectors, and holds a log of the
+-- same entries in sectors of 4,096 bytes.
 pub record IsCopiedOn (log : List ℕ) (count sectors : ℕ) (v : View) : Type 0 where
   pub head : Super
   pub entries : List Entry

@@ -105,7 +105,7 @@ AreUsable asked = IsWithin 4194304 asked.script × HoldsImage asked.image
 
 -- Why there is no answer.
 -- - `file`: a file can't be read, is too long, or holds no image; or memory ran out. If both files
---   are known to be usable, only memory can run out.
+--   are known to be usable, the fault is that memory ran out.
 -- - `text`: the text isn't a script; the fault names its first faulty line.
 -- - `run`: the script's rehearsal fails.
 -- - `moment`: the moment is past the last one, or the image hasn't the device's size.

@@ -91,8 +91,8 @@ pub data FailsOnImage (log : List ℕ) (sectors : ℕ) : RunError → Type 0 whe
   stopped : (stop : CopyFault) → StopsCopy log sectors stop
       → FailsOnImage log sectors (copy_stopped stop)
 
--- Why the log in a file isn't copied: a file or the output can't be used, memory ran out, or
--- copying the file's image failed.
+-- Why the log in a file isn't copied: a file can't be used, memory ran out, or copying the file's
+-- image failed.
 pub data FailsCopy (log_file : Option (List ℕ)) (sectors : ℕ) : RunError → Type 0 where
   file : (fault : RunError) → IsFileError fault → FailsCopy log_file sectors fault
   of_image : (log : List ℕ) (stop : RunError) → MatchesContents log_file log → IsImage log

@@ -38,12 +38,13 @@ abbrev pub end_lines : Status → Lies → List ℕ
 end_lines status lies = status_line status ++ lies_line lies
 
 -- A kind of script.
--- - `spells`: the text is that of this script.
--- - `is_first_fault`: of the lines of a text, the first faulty one has this number and this fault.
--- - `runs`: a run of the script has these printed lines, this log status, and this image of the
---   log's disk.
--- - `fails`: a run of the script of this text fails with this fault; the output's content before
---   and after.
+-- - `spells`: this text is that of this script.
+-- - `is_first_fault`: the line with this number is the first faulty one of these lines, and has
+--   this refusal.
+-- - `runs`: a run of this script prints these lines, and its log has this status; the last argument
+--   is the image of the log's disk.
+-- - `fails`: a run of the script with this text fails with the fault, the last argument. The others
+--   are the output before and after.
 pub record Kind (S : Type 0) : Type 1 where
   pub spells : List ℕ → S → Type 0
   pub is_first_fault : List (List ℕ) → ℕ → Refusal → Type 0

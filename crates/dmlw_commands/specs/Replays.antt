@@ -90,8 +90,8 @@ pub data FailsOnImages (log first : List ℕ) (upto : Upto) : RunError → Type 
       → FailsOnImages log first upto (replay_stopped stop)
 
 -- Why the log in a file isn't replayed.
--- - `file`: a file or the output can't be used, or memory ran out. If both files are known to hold
---   images, the fault is that memory ran out.
+-- - `file`: a file can't be used, or memory ran out. If both files are known to hold images, the
+--   fault is that memory ran out.
 -- - `images`: the replay of the files' images fails.
 pub data FailsReplay (log_file first_file : Option (List ℕ)) (upto : Upto) : RunError → Type 0 where
   file : (fault : RunError) → IsFileError fault

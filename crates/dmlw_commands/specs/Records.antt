@@ -41,8 +41,8 @@ end_lines status lies = status_line status ++ lies_line lies
 -- - `spells`: this text is that of this script.
 -- - `is_first_fault`: the line with this number is the first faulty one of these lines, and has
 --   this refusal.
--- - `runs`: a run of this script prints these lines, and its log has this status; the last argument
---   is the image of the log's disk.
+-- - `runs`: a run of this script prints these lines. Its log has this status, and this image of the
+--   log's disk.
 -- - `fails`: a run of the script with this text fails with the fault, the last argument. The others
 --   are the output before and after.
 pub record Kind (S : Type 0) : Type 1 where

@@ -25,7 +25,7 @@ pub(crate) fn open_image(alloc: Global, image: Image) -> Result<LogReader<Sector
     ensures refused { IfErr result
         (λ fault. (fault ≡ memory_error) ⊎ RefusesImage image fault) }
 {
-    // For the prover: a crash of the disk leaves whole sectors.
+    // For the prover: a device's content has whole sectors of 512 bytes.
     crashes_leave_whole_sectors::<SectorDisk>();
     let disk = SectorDisk::from_image(alloc, image)?;
     match LogReader::open(alloc, disk) {

@@ -27,9 +27,9 @@ use std::io::Write;
 /// `err`, with advice if the session `explains`. If OUT and LOG are one file, the command is
 /// refused as a file.
 ///
-/// Each entry keeps its flags, its body, and its place and length in bytes. Three things stop the
-/// copy: an entry whose place or length isn't a multiple of 4,096 bytes, an entry without room, and
-/// a fault of the log.
+/// Each entry keeps its flags, its body, and its place and length in bytes. The copy stops before
+/// an entry whose place or length isn't a multiple of 4,096 bytes. It also stops before an entry
+/// that doesn't fit, and at a fault of the log. Then nothing is written.
 ///
 /// If the command is done, OUT holds the image of the new log's disk. If it is refused, each file
 /// holds what it held.

@@ -24,9 +24,9 @@ pub(crate) struct Copied {
     pub(crate) disk: SectorDisk,
 }
 
-/// Copies the log in an image to a new log with sectors of 4,096 bytes, on a disk of `sectors`
-/// sectors of 512 bytes, from 8 to 1,048,576. Both disks and one entry are in memory. The old log's
-/// disk is dropped at the end.
+/// Copies the log in an image to a new log with sectors of 4,096 bytes. The new log's disk has
+/// `sectors` sectors of 512 bytes, from 8 to 1,048,576. Both disks and one entry are in memory. The
+/// old log's disk is dropped at the end.
 pub(crate) fn copy_image(alloc: Global, log: Image, sectors: u64) -> Result<Copied, RunError>
     requires log { IsImage log }
     requires least { 8 ≤ sectors }

@@ -41,8 +41,9 @@ struct Moments {
     has_layers: bool,
 }
 
-/// Returns what `--explain` adds if the moment is past the last one, or the image has the wrong
-/// size: lines that each begin with two spaces. Empty if not `explains`, or if memory ran out.
+/// Returns what `--explain` adds if the moment or the image's size is wrong: lines that each begin
+/// with two spaces. Empty if not `explains`, if a file can't be read or the script can't be
+/// rehearsed, or if memory ran out.
 pub(crate) fn explain_moment<F: Files>(
     alloc: Global,
     explains: bool,

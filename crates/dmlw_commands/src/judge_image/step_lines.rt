@@ -5,7 +5,7 @@
 //! - a submission or a landing: the line that submits the request;
 //! - an end: the line that ends the request;
 //! - a destage: the line of the request that landed last;
-//! - power: the line of the last event before it.
+//! - power: the line of the last submission or end before it.
 ghost use Rattle.std.specs.Prelude.{◌≡◌, [], false};
 ghost use Rattle.std.specs.String.{string_bytes};
 ghost use Rattle.dmlw_files.specs.Files.{KeepsFiles};
@@ -28,7 +28,7 @@ struct EventLine<'a> {
 // How far the steps of a run were matched to lines.
 #[derive(Drop)]
 struct Told {
-    // The index of the next event.
+    // The index after the last event that was a submission or an end.
     next: usize,
     // The index of the request that landed last.
     landed: usize,
@@ -104,7 +104,7 @@ fn write_event<F: Files, W: Write>(
     }
 }
 
-// Writes the steps of a run with their lines of the script in a file.
+// Writes the steps of a run, each with its line of the script in the file `script`.
 fn write_run<F: Files, W: Write>(
     alloc: Global,
     run: &[Step],
@@ -168,7 +168,7 @@ fn write_steps<W: Write>(lines: &[EventLine], run: &[Step], to: &mut W) -> fmt::
 }
 
 // Writes a step with its line, or only the step if it has no line. Power has no line if it fails
-// before the first event.
+// before the first submission or end.
 fn write_step<W: Write>(step: Step, line: Option<&EventLine>, to: &mut W) -> fmt::Result {
     let Some(EventLine { number, text }) = line else {
         return writeln!(to, "    {step}");
@@ -182,7 +182,7 @@ fn write_step<W: Write>(step: Step, line: Option<&EventLine>, to: &mut W) -> fmt
 
 impl Told {
     // Returns the index of the event that a step belongs to, after the steps before it. None if
-    // power fails before the first event.
+    // power fails before the first submission or end.
     fn place_of(&mut self, lines: &[EventLine], step: Step) -> Option<usize> {
         match step {
             Step::Submit(id) => Some(self.pass(id.place() as usize)),

@@ -1,4 +1,4 @@
--- What a command line does: its exit, what it prints, and which file write it asks for.
+-- What a command line does: its exit, its output, and the file writes that it asks for.
 use Rattle.std.specs.Prelude.{◌≡◌, ◌≤◌, ◌⊎◌, ◌++◌, ℕ, Bool, true, false, Err, IfErr, List}
 use Rattle.std.specs.Prelude.{MatchResult, Option, Result, codes}
 use Rattle.std.specs.declared.io.ErrorKind.{ErrorKind as IoErrorKind}
@@ -48,9 +48,9 @@ is_asked_for DisplayHelp = true
 is_asked_for DisplayVersion = true
 is_asked_for _ = false
 
--- How printing help or the version is reported. It may succeed. If it fails, the output can't be
--- written or memory ran out, and the error stream gets the line of this fault. Nothing is claimed
--- about the output.
+-- How a command ends that prints help or the version. If printing fails, the output can't be
+-- written or memory ran out, and the error stream gets this fault's line. About the output nothing
+-- is claimed.
 abbrev pub ReportsPrinting : ErrStream → Ended → Type 0
 ReportsPrinting t ended =
     (done : Result (Unit {0}) RunError) × IfErr done IsFileError × Tells t done ended
@@ -61,13 +61,15 @@ abbrev pub unread_exit : IoErrorKind → Exit
 unread_exit InvalidData = Usage
 unread_exit _ = Refused
 
--- If the writes are known, `new` are the writes `old` and one more, of any file.
+-- If the writes are known, `new` are the writes in `old` and one more, of any file.
 abbrev pub AsksForOneWrite : Option (List Write) → Option (List Write) → Type 0
 AsksForOneWrite old new = (name : List ℕ) × AsksFor name old new
 
--- How every command line ends: with a status from 0 to 3, and it has asked for one file at most to
--- be written, and for none if it is a usage fault. If it is refused, each file holds what it held.
--- That is also so if logging ended and no log was asked to be written.
+-- How every command line ends. The exit status is from 0 to 3. At most one file write was asked
+-- for, and none if the exit is `Usage`.
+--
+-- If the exit is a refusal (`IsRefusal`), each file holds what it held. If logging ended, each file
+-- holds what it held, or one write was asked for.
 pub record EndsCommand (old new : Seen) (exit : Exit) : Type 0 where
   pub known : status_of exit ≤ 3
   pub once : (new.writes ≡ old.writes) ⊎ AsksForOneWrite old.writes new.writes
@@ -76,18 +78,20 @@ pub record EndsCommand (old new : Seen) (exit : Exit) : Type 0 where
   pub unmade : exit ≡ LoggingEnded
       → KeepsFiles old.files new.files ⊎ AsksForOneWrite old.writes new.writes
 
--- What the error stream gets from a command that only shows clap's text. If memory ran out, it gets
--- the line of this fault. If help or the version can't be printed, it gets the line of that fault.
--- For other kinds nothing is claimed.
+-- What the error stream gets if the command only shows clap's text. If memory ran out, it gets the
+-- line of this fault. For help and the version, `ReportsPrinting` says it. For other kinds nothing
+-- is claimed.
 abbrev pub ReportsUntasked : ErrorKind → ErrStream → Ended → Type 0
 ReportsUntasked OutOfMemory t ended = Tells {T = Unit {0}} t (Err memory_error) ended
 ReportsUntasked DisplayHelp t ended = ReportsPrinting t ended
 ReportsUntasked DisplayVersion t ended = ReportsPrinting t ended
 ReportsUntasked _ t ended = Unit {0}
 
--- How a text ends that is shown, as one of this kind: no file was asked to be written, each holds
--- what it held, it ends as its kind has it, and nothing was printed on the output unless it was
--- asked for.
+-- How a command ends that only shows clap's text of the kind `kind`. It asks for no file write, and
+-- each file holds what it held.
+--
+-- `EndsUntasked` says its exit, and `ReportsUntasked` what the error stream gets. Nothing goes to
+-- the output, unless the user asked for help or the version.
 pub record EndsText (kind : ErrorKind) (explains : Bool) (old new : Seen)
     (ended : Ended) : Type 0 where
   pub unwritten : new.writes ≡ old.writes
@@ -96,26 +100,28 @@ pub record EndsText (kind : ErrorKind) (explains : Bool) (old new : Seen)
   pub silent : is_asked_for kind ≡ false → Keeps old.out new.out
   pub tells : ReportsUntasked kind (err_stream explains old.err new.err) ended
 
--- a page was printed, or the output can't be written
+-- If printing `page` succeeds, `page` is appended to the output. If printing fails, the output
+-- can't be written or memory ran out.
 abbrev pub PrintsPage : List ℕ → Printing (Unit {0})
 PrintsPage page old new done = MatchResult done (λ _. Appends old new page) IsFileError
 
--- How printing the page `page` ends. If it succeeds, the page is on the output. If it fails, the
--- output can't be written or memory ran out, and the error stream gets the line of this fault.
+-- How a command ends that prints `page`. If printing fails, the output can't be written or memory
+-- ran out, and the error stream gets this fault's line.
 pub record ReportsPage (page : List ℕ) (old new : Option (List ℕ)) (t : ErrStream)
     (ended : Ended) : Type 0 where
   pub done : Result (Unit {0}) RunError
   pub printed : PrintsPage page old new done
   pub tells : Tells t done ended
 
--- what a replay does in files of these names, up to what a word names
+-- The word `what` names the last entry of a replay, and the replay up to this entry ends with
+-- `ended`. The names `log`, `first` and `out` are those of its files.
 abbrev pub EndsReplayingUpTo : List ℕ → List ℕ → List ℕ → List ℕ → Bool → Seen → Seen → Ended → Type 0
 EndsReplayingUpTo what log first out explains old new ended =
     (upto : Upto) × IsWhat what upto
     × Ends (Replays log first out upto) exit_by explains old new ended
 
--- What follows a word of a wrong form in its message: the argument's name, the forms that the
--- argument may have, and the command that prints help.
+-- The end of the message about a word with a wrong form: the argument's name, its allowed forms,
+-- and the command that prints help.
 abbrev pub allowed_forms : BadWord → List ℕ
 allowed_forms bad_words.What =
     codes
@@ -127,13 +133,14 @@ allowed_forms bad_words.Moment =
     codes
     "'<M>'\n  [possible values: a number of 1 to 20 digits, below 2^64]\n\nFor more information, try 'dmlw help judge'."
 
--- The message about the word `word`, which has a wrong form.
+-- The message about `word`, which has a wrong form.
 abbrev pub bad_word_text : BadWord → List ℕ → List ℕ
 bad_word_text flaw word =
     codes "error: invalid value '" ++ (word ++ (codes "' for " ++ (allowed_forms flaw ++ codes "\n")))
 
--- How a command line ends that has such a word: as a usage fault, whose text was printed. Nothing
--- was printed on the output, no file was asked to be written, and each holds what it held.
+-- How a command line ends if `word` has a wrong form. The exit is `Usage`, and the error stream
+-- gets `bad_word_text`. Nothing is printed on the output. No file write is asked for, and each file
+-- holds what it held.
 pub record EndsBadWord (flaw : BadWord) (word : List ℕ) (explains : Bool) (old new : Seen)
     (ended : Ended) : Type 0 where
   pub unwritten : new.writes ≡ old.writes
@@ -142,7 +149,8 @@ pub record EndsBadWord (flaw : BadWord) (word : List ℕ) (explains : Bool) (old
   pub silent : new.out ≡ old.out
   pub told : ended.err_taken ≡ true → Appends old.err new.err (bad_word_text flaw word)
 
--- how a task ends, over what it saw
+-- How a task ends. The arguments after the task: whether `--explain` was given, what was seen
+-- before and after the task, and the task's end.
 abbrev pub EndsTask : Task → Bool → Seen → Seen → Ended → Type 0
 EndsTask (tasks.Record script log) = Ends (Records of_recorder script.now log.now) exit_after
 EndsTask (tasks.Run script log) = Ends (Records of_seats script.now log.now) exit_after
@@ -159,8 +167,8 @@ EndsTask (tasks.Formats page) = Ends (OnlyReads (λ files. PrintsPage page.now))
 EndsTask (tasks.Show error) = EndsText (kind_of error)
 EndsTask (tasks.HasBadWord flaw word) = EndsBadWord flaw word.now
 
--- The result of a command line. Its words but `--explain` are read as a task. That task ends, over
--- what was seen before and after, and explains itself if that word is among them.
+-- What a command line does. Its words without `--explain` are read as `task`, and `task` ends as
+-- `EndsTask` says. It explains itself if `--explain` is among the words.
 pub record DoesWords (words : List (List ℕ)) (old new : Seen) (ended : Ended) : Type 0 where
   pub task : Task
   pub read : IsRead (without_explain words) task
@@ -172,17 +180,18 @@ pub record IsFaultLine (exit : Exit) (line : List ℕ) : Type 0 where
   pub ends : exit ≡ exit_of cause
   pub is : line ≡ fault_line cause
 
--- If the error stream can be written, it gets exactly one line. This is the line of a fault whose
--- exit is that of the command.
+-- The command's exit is that of a fault. If the error stream took all that was written, it got
+-- exactly this fault's line.
 pub record ReportsOneLine (ended : Ended) (old new : Option (List ℕ)) : Type 0 where
   pub line : List ℕ
   pub is : IsFaultLine ended.exit line
   pub told : ended.err_taken ≡ true → Appends old new line
 
--- What the error stream gets from a command without `--explain`, given the command's exit. If the
--- command is refused, the stream gets one line. If it is done, or rules an image out, the stream
--- gets nothing. If logging ended early, it gets one line or nothing. For `Usage` nothing is
--- claimed.
+-- What the error stream gets from a command without `--explain`, by the command's exit.
+-- - `Done` and `RuledOut`: nothing.
+-- - `Refused`: one line.
+-- - `LoggingEnded`: one line or nothing.
+-- - `Usage`: nothing is claimed.
 abbrev pub ReportsBy : Exit → Ended → Option (List ℕ) → Option (List ℕ) → Type 0
 ReportsBy Done ended old new = new ≡ old
 ReportsBy Refused ended old new = ReportsOneLine ended old new

@@ -26,7 +26,7 @@ name_text names.Path = codes "path"
 abbrev pub named_or : Name → List ℕ → Option Name → Option Name
 named_or name word other = if is_same word (name_text name) then Some name else other
 
--- The command that a word names, if it names one.
+-- The command whose name is the word; None if no command has this name.
 abbrev pub name_of : List ℕ → Option Name
 name_of word =
     named_or names.Record word

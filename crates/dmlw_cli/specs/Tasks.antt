@@ -96,7 +96,8 @@ IsFormats (tasks.Formats page) = Unit {0}
 IsFormats (tasks.Show error) = kind_of error ≡ OutOfMemory
 IsFormats task = ⊥
 
--- The task of `words`, if the first argument says whether `words` are `help formats`.
+-- The first argument says whether `words` are `help formats`. If they are, the task is to print the
+-- formats (`IsFormats`), otherwise what clap parses (`IsReadByClap`).
 abbrev pub IsReadAs : Bool → List Text → Task → Type 0
 IsReadAs true words task = IsFormats task
 IsReadAs false words task = IsReadByClap words task

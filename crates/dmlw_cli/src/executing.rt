@@ -37,14 +37,15 @@ use std::thread::Threads;
 /// Runs a command line, and returns how it ended. The first of `words` is the program's name.
 ///
 /// The exit status is 0 if the command is done, and 1 if it is refused or rules an image out. It is
-/// 2 if the command line isn't one of the program's, and 3 if logging ended early. Results go to
-/// the session's `out`, and faults to its `err`. If `words` have `--explain`, advice may follow a
-/// fault. If `out` can't be written, the command is refused, as it is if a file can't be written.
+/// 2 if the command line isn't one of the program's, and 3 if logging ended early.
+///
+/// Results go to the session's `out`, and faults to its `err`. If `words` have `--explain`, advice
+/// may follow a fault. If `out` or a file can't be written, the command is refused.
 ///
 /// `rt` starts threads and waits for them. Only the command `run` uses it.
 ///
-/// The contract holds for all words: `execute` does what the task of `words` says, and nothing
-/// else. `crate::laws` says which words ask for which command.
+/// The contract holds for all words: `execute` does the task that `words` ask for (`DoesWords`).
+/// `crate::laws` says which words ask for which command.
 pub fn execute<'a, S: AsStr, F: Files, O: Write, E: Write, H: Threads + Wait + Sync>(
     rt: &H,
     words: &'a [S],
@@ -60,8 +61,8 @@ pub fn execute<'a, S: AsStr, F: Files, O: Write, E: Write, H: Threads + Wait + S
         (O.contents session.old.out) (E.contents session.old.err))
         (seen (F.contents session.new.files) (F.writes session.new.files)
         (O.contents session.new.out) (E.contents session.new.err)) result.exit }
-    // Without `--explain` nothing goes to `err` if it is done,
-    // and for a refusal its one line, as far as `err` takes it.
+    // Without `--explain`, nothing goes to `err` if the command is done. If it is refused and `err`
+    // took all, `err` got exactly one line.
     ensures told { has_explain (map S.text words.entry.now) ≡ false
         → ReportsBy result.exit result (E.contents session.old.err) (E.contents session.new.err) }
 {
@@ -131,7 +132,7 @@ pub fn refuse<E: Write>(alloc: Global, error: io::Error, err: &mut E) -> u8
     exit.status()
 }
 
-// Prints a page, and reports a fault if it can't be printed.
+// Prints a page. If it can't be printed, reports the fault to `err`.
 fn print_page<O: Write, E: Write>(alloc: Global, page: &str, out: &mut O, err: &mut E) -> Ended
     ensures { (explains : Bool) → ReportsPage page.now (O.contents out.old) (O.contents out.new)
         (err_stream explains (E.contents err.old) (E.contents err.new)) result }
@@ -170,7 +171,7 @@ fn write_bad_word<E: Write>(flaw: BadWord, word: &str, err: &mut E) -> io::Resul
     Ok(())
 }
 
-// Prints clap's text: help, the version, or why the command line has no task.
+// Prints clap's text: help and the version to `out`, and why a command line has no task to `err`.
 fn show<O: Write, E: Write>(alloc: Global, text: Error, out: &mut O, err: &mut E) -> Ended
     ensures ends { EndsUntasked (kind_of text) result.exit }
     ensures silent { is_asked_for (kind_of text) ≡ false

@@ -28,8 +28,10 @@ pub fn names_are_distinct()
     ensures again { (name : Name) → name_of (name_text name) ≡ Some name }
 {}
 
-/// Words that don't begin with a hyphen are names of files. `record SCRIPT LOG` records the script
-/// in that file in that log: if it is done, the file LOG holds it.
+/// In these laws, a word that doesn't begin with a hyphen is a file's name.
+///
+/// `record SCRIPT LOG` records the script in the file SCRIPT. If it is done, the file LOG holds the
+/// script's log.
 pub fn plain_words_record()
     ensures { (old new : Seen) (ended : Ended) (program script log : List ℕ)
         → is_positional script ≡ true
@@ -38,7 +40,8 @@ pub fn plain_words_record()
         → Ends (Records of_recorder script log) exit_after false old new ended }
 {}
 
-/// `run SCRIPT LOG` runs the seats of the script in that file, and records them in that log.
+/// `run SCRIPT LOG` runs the seats of the script in the file SCRIPT. If it is done, the file LOG
+/// holds the run's log.
 pub fn plain_words_run()
     ensures { (old new : Seen) (ended : Ended) (program script log : List ℕ)
         → is_positional script ≡ true
@@ -47,7 +50,7 @@ pub fn plain_words_run()
         → Ends (Records of_seats script log) exit_after false old new ended }
 {}
 
-/// `list LOG` prints the list of the log in that file.
+/// `list LOG` prints the list of the log in the file LOG.
 pub fn plain_words_list()
     ensures { (old new : Seen) (ended : Ended) (program log : List ℕ)
         → is_positional log ≡ true
@@ -55,7 +58,7 @@ pub fn plain_words_list()
         → Ends (ShowsLog ListsImage log) exit_by false old new ended }
 {}
 
-/// `status LOG` prints the status of the log in that file.
+/// `status LOG` prints the status of the log in the file LOG.
 pub fn plain_words_status()
     ensures { (old new : Seen) (ended : Ended) (program log : List ℕ)
         → is_positional log ≡ true
@@ -63,8 +66,8 @@ pub fn plain_words_status()
         → Ends (ShowsLog ShowsStatus log) exit_by false old new ended }
 {}
 
-/// `replay LOG FIRST OUT WHAT` replays the log in that file, up to what WHAT names, on the image in
-/// the file FIRST. If it is done, the file OUT holds the resulting image.
+/// `replay LOG FIRST OUT WHAT` replays the log in the file LOG on the image in the file FIRST. WHAT
+/// names the last entry to replay. If it is done, the file OUT holds the resulting image.
 pub fn plain_words_replay()
     ensures { (old new : Seen) (ended : Ended) (program log first out what : List ℕ) (upto : Upto)
         → is_positional log ≡ true
@@ -75,8 +78,9 @@ pub fn plain_words_replay()
         → EndsReplayingUpTo what log first out false old new ended }
 {}
 
-/// `copy LOG OUT SECTORS` copies the log in that file to a new one with sectors of 4,096 bytes, on
-/// a disk of SECTORS sectors. If it is done, the file OUT holds the new log.
+/// `copy LOG OUT SECTORS` copies the log in the file LOG to a new log with sectors of 4,096 bytes.
+/// The new log's disk has SECTORS sectors of 512 bytes. If it is done, the file OUT holds this
+/// disk's image.
 pub fn plain_words_copy()
     ensures { (old new : Seen) (ended : Ended) (program log out word : List ℕ) (sectors : ℕ)
         → is_positional log ≡ true
@@ -86,8 +90,8 @@ pub fn plain_words_copy()
         → Ends (Copies log out sectors) exit_by false old new ended }
 {}
 
-/// `judge SCRIPT M IMAGE` judges the image in that file by the script in that file, after its first
-/// M events.
+/// `judge SCRIPT M IMAGE` prints whether a power failure after M events could leave the image on
+/// the data disk. SCRIPT and IMAGE are the files of the script and the image.
 pub fn plain_words_judge()
     ensures { (old new : Seen) (ended : Ended) (program script m image : List ℕ) (moment : ℕ)
         → is_positional script ≡ true → IsNumber m moment
@@ -97,8 +101,8 @@ pub fn plain_words_judge()
         (exit_answered verdict_meaning) false old new ended }
 {}
 
-/// `path SCRIPT M IMAGE` prints how the image in that file could have come to the device of the
-/// script in that file, after its first M events.
+/// `path SCRIPT M IMAGE` prints how a power failure after M events could leave the image on the
+/// data disk. SCRIPT and IMAGE are the files of the script and the image.
 pub fn plain_words_path()
     ensures { (old new : Seen) (ended : Ended) (program script m image : List ℕ) (moment : ℕ)
         → is_positional script ≡ true → IsNumber m moment

@@ -1,4 +1,4 @@
--- What a replay leaves of a disk in memory, and why it stops.
+-- What a disk in memory holds after a replay, and why a replay stops.
 use Rattle.std.specs.Prelude.{◌≡◌, ℕ, ◌/◌, ◌<◌, ◌≤◌, List, Option, length}
 use Rattle.bio.specs.Content.{AgreeBelow, sector_of}
 use Rattle.blockdev.specs.View.{View}
@@ -16,8 +16,8 @@ use Rattle.dmlw_commands.specs.Replays.{replay_stopped}
 use Rattle.replay.specs.declared.upto.Upto.{Upto}
 use Rattle.replay.specs.Replays.{IsUpto, entries_from}
 
--- the entries of a log up to the named one, `count` in number, were replayed on a first image, and
--- left this device
+-- `upto` asks for the first `count` entries of the log in the image `log`. The device `v` has the
+-- size of the image `first`, and the content of `first` after these entries are replayed.
 pub record IsReplayedOn (log first : List ℕ) (upto : Upto) (count : ℕ) (v : View) : Type 0 where
   pub head : Super
   pub entries : List Entry
@@ -29,7 +29,7 @@ pub record IsReplayedOn (log first : List ℕ) (upto : Upto) (count : ℕ) (v : 
   pub content : AgreeBelow (length first / 512)
       (replay head.sectorsize (entries_from entries 0 count) (sector_of first)) v.content
 
--- why a log wasn't replayed that wasn't reopened, or of which the replay stopped
+-- The fault of `replay` if the log can't be opened, or if the replay stops.
 abbrev pub stop_by : ReopenError → RunError
 stop_by (reopens.Open error) = refused_by (open_device_refusal error)
 stop_by (reopens.Replay stop) = replay_stopped stop

@@ -1,11 +1,12 @@
--- A law of what is reported, for the proofs of the crates above too.
+-- A law about the report of a command, for the proofs of this crate and of crates that use it.
 use Rattle.std.specs.Prelude.{◌≡◌, ℕ, true, false, List, [], ◌++◌}
 use Rattle.std.specs.Io.KnownBytes.{Appends}
 use Rattle.dmlw_commands.specs.declared.ending.Ended.{Ended}
 use Rattle.dmlw_commands.specs.declared.exit.Exit.{Exit}
 use Rattle.dmlw_commands.specs.Ends.{ErrStream, ReportsLine}
 
--- what is reported of how a command ends, if there is more to report only when it explains itself
+-- `ReportsLine` holds if the exit is `exit`, and the error stream got `line` and then `more`.
+-- `more` has to be empty unless the command explains itself.
 pub ends_told : (t : ErrStream) (more : List ℕ) (exit : Exit) (line : List ℕ) (ended : Ended)
     → (t.explains ≡ false → more ≡ [])
     → ended.exit ≡ exit → (line ≡ [] → more ≡ [] → t.after ≡ t.before)

@@ -1,4 +1,4 @@
--- How a command ends, over what it saw.
+-- How a command ends: its exit, and what it writes to the error stream.
 use Rattle.std.specs.Prelude.{◌≡◌, ℕ, Bool, true, false, List, [], ◌++◌, Option, Result}
 use Rattle.std.specs.Io.KnownBytes.{Appends}
 use Rattle.refusals.specs.declared.run_error.RunError.{RunError}
@@ -7,7 +7,8 @@ use Rattle.dmlw_commands.specs.declared.exit.Exit.{Exit}
 use Rattle.dmlw_commands.specs.Exits.{exit_by, reported_line}
 use Rattle.dmlw_commands.specs.Seen.{Does, Seen}
 
--- whether a command explains itself, and what the error stream held before it and after it
+-- Whether a command explains itself, and the content of the error stream before and after the
+-- command.
 pub record ErrStream : Type 0 where
   pub explains : Bool
   pub before : Option (List ℕ)
@@ -16,21 +17,22 @@ pub record ErrStream : Type 0 where
 abbrev pub err_stream : Bool → Option (List ℕ) → Option (List ℕ) → ErrStream
 err_stream explains before after = record { explains = explains; before = before; after = after }
 
--- What a command with this end has written to the error stream, with this line to report. This is
--- that line and, if it explains itself, perhaps more after it. It is nothing if there is no line,
--- and it doesn't explain itself.
+-- The command ends with `exit`. If the error stream took all, it got `line`, and perhaps more after
+-- it if the command explains itself. If the command doesn't explain itself and `line` is empty, the
+-- stream is unchanged.
 pub record ReportsLine (t : ErrStream) (exit : Exit) (line : List ℕ) (ended : Ended) : Type 0 where
   pub exits : ended.exit ≡ exit
   pub told : ended.err_taken ≡ true
       → (more : List ℕ) × (t.explains ≡ false → more ≡ []) × Appends t.before t.after (line ++ more)
   pub quiet : t.explains ≡ false → line ≡ [] → t.after ≡ t.before
 
--- what a command with this result has reported: the one line of its fault, or none if it is done
+-- A command with the result `done` ends with the exit of `done`. It reports the line of its fault,
+-- or no line if `done` is Ok.
 abbrev pub Tells : {T : Type 0} → ErrStream → Result T RunError → Ended → Type 0
 Tells t done ended = ReportsLine t (exit_by done) (reported_line done) ended
 
--- How a command ends that does this, if a result ends it so: it did it with some result, ended by
--- that result, and reported no more than its fault.
+-- The command did what `does` says, with the result `done`. It ends with the exit `exits done`. It
+-- reports the line of its fault, or no line if `done` is Ok.
 pub record Ends {T : Type 0} (does : Does T) (exits : Result T RunError → Exit) (explains : Bool)
     (old new : Seen) (ended : Ended) : Type 0 where
   pub done : Result T RunError

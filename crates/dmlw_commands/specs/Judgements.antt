@@ -1,4 +1,6 @@
--- The result of a question about an image by the script in a file, and of judging it.
+-- A question about an image: whether, or how, power failure could leave it on a script's data disk.
+-- `judge` and `path` answer such a question; this file states the answer, and the verdict of
+-- `judge`.
 use Rattle.std.specs.Prelude.{◌≡◌, ◌⊎◌, ◌<◌, ◌≤◌, ◌*◌, ℕ, true, List, ◌++◌, Option, Some, Result}
 use Rattle.std.specs.Prelude.{Ok, Err, codes, length, replicate, take}
 use Rattle.std.specs.Io.KnownBytes.{Appends, Keeps}
@@ -29,31 +31,35 @@ use Rattle.dmlw_files.specs.Files.{IsWithin, MatchesContents}
 use Rattle.dmlw_files.specs.Images.{HoldsImage, IsImage}
 use Rattle.dmlw_commands.specs.Records.{IsNoScript, of_recorder}
 
--- an image of `size` zero bytes
+-- The content of an image of `count` zero bytes.
 abbrev pub blank : ℕ → Content
 blank count = sector_of (replicate count 0)
 
--- the number is a moment of these events, and the image is one of a device of this many sectors
+-- The moment isn't past the last moment of `events`, and the image has exactly the device's size.
 abbrev pub CanJudge : ℕ → List CoreEvent → ℕ → List ℕ → Type 0
 CanJudge sectors events moment image =
     (moment ≤ last_moment events) × (length image ≡ 512 * sectors)
 
--- it isn't: the number is past the last moment, or the image is of another size
+-- The moment is past the last moment of `events`, or the image hasn't the device's size.
 abbrev pub CannotJudge : ℕ → List CoreEvent → ℕ → List ℕ → Type 0
 CannotJudge sectors events moment image =
     (last_moment events < moment) ⊎ (length image ≡ 512 * sectors → ⊥)
 
--- The meaning of a kind of answer: what it says about an image, by the sectors of the device, the
--- events, the content at first and that of the image. Also what is printed of it, and how it ends
--- the command.
+-- A kind of answer.
+-- - `says`: what it claims, given the sector count, the events, the first content and the image's
+--   content.
+-- - `printed`: what is printed.
+-- - `ends`: how it ends the command.
 pub record Meaning (A : Type 0) : Type 1 where
   pub says : ℕ → List CoreEvent → Content → Content → A → Type 0
   pub printed : A → List ℕ
   pub ends : A → Exit
 
--- The answer about an image, after this many events of a script's run, over zeroes. They are events
--- of a device of the size of the data disk's top, and the requests among them are aligned to the
--- log's sectors.
+-- `answer` holds for `image` after the first `moment` events of the script `plan`, on a data disk
+-- of zeroes.
+--
+-- `events` are those of a rehearsal of `plan`. They are lawful for a device with the size of the
+-- data disk's top, and each request is aligned to the log's sectors.
 pub record IsAnswered {A : Type 0} (meaning : Meaning A) (plan : ScriptValue) (moment : ℕ)
     (image : List ℕ) (answer : A) : Type 0 where
   pub events : List CoreEvent
@@ -64,23 +70,26 @@ pub record IsAnswered {A : Type 0} (meaning : Meaning A) (plan : ScriptValue) (m
   pub holds : meaning.says (top_of plan.data_disk) (take moment events) (blank (length image))
       (sector_of image) answer
 
--- what a script's file and an image's file are known to hold, and the moment
+-- A question: what is known about the content of the script's file and of the image's file, and the
+-- moment.
 pub record Question : Type 0 where
   pub script : Option (List ℕ)
   pub image : Option (List ℕ)
   pub moment : ℕ
 
--- what a text and an image are that were read
+-- The question if the files are known to hold `text` and `image`.
 abbrev pub question : List ℕ → List ℕ → ℕ → Question
 question text image moment = record { script = Some text; image = Some image; moment = moment }
 
--- The files' bytes, of which the second are an image.
+-- `text` and `image` are the contents of the files, as far as these are known, and `image` is an
+-- image.
 pub record AreRead (asked : Question) (text image : List ℕ) : Type 0 where
   pub script_holds : MatchesContents asked.script text
   pub image_holds : MatchesContents asked.image image
   pub whole : IsImage image
 
--- There is an answer: the script's file spells a script, and this is the answer on the image by it.
+-- The script's file holds the text of a script, and `answer` is the answer about the image by this
+-- script.
 pub record HasAnswer {A : Type 0} (meaning : Meaning A) (asked : Question)
     (answer : A) : Type 0 where
   pub text : List ℕ
@@ -90,15 +99,16 @@ pub record HasAnswer {A : Type 0} (meaning : Meaning A) (asked : Question)
   pub spelled : IsTextOf text plan
   pub judged : IsAnswered meaning plan asked.moment image answer
 
--- Both files are known to be usable: the script's is no longer than a script
--- may be, and the image's holds an image.
+-- It is known that the script's file has at most 4 MiB, and that the image's file holds an image.
 abbrev pub AreUsable : Question → Type 0
 AreUsable asked = IsWithin 4194304 asked.script × HoldsImage asked.image
 
--- Why there is no answer: A file can't be read, or is too long or no image, or there is no memory;
--- this is the only cause if both files are known to be usable. Or the text is no script's, and its
--- first line at fault is named. Or its run fails. Or the moment is none of its moments, or the
--- image is of another size.
+-- Why there is no answer.
+-- - `file`: a file can't be read, is too long, or holds no image; or memory ran out. If both files
+--   are known to be usable, the fault is that memory ran out.
+-- - `text`: the text isn't a script; the fault names its first faulty line.
+-- - `run`: the script's rehearsal fails.
+-- - `moment`: the moment is past the last one, or the image hasn't the device's size.
 pub data HasNoVerdict (asked : Question) : RunError → Type 0 where
   file : (fault : RunError) → IsFileError fault → (AreUsable asked → fault ≡ memory_error)
       → HasNoVerdict asked fault
@@ -114,8 +124,9 @@ pub data HasNoVerdict (asked : Question) : RunError → Type 0 where
       → IsRehearsed plan events → CannotJudge (top_of plan.data_disk) events asked.moment image
       → HasNoVerdict asked (refused_by refusals.BadMoment)
 
--- The result of a question: the answer, which was printed; or why there is none, and nothing was
--- printed; or there is one, and the output can't be written.
+-- The result of a question, and what the output got. If the result is Ok, it is the answer, which
+-- was printed. If it is a fault, there is no answer and nothing was printed; or there is an answer,
+-- but printing it failed.
 abbrev pub Answers : {A : Type 0} → Meaning A → Question → Option (List ℕ) → Option (List ℕ)
     → Result A RunError → Type 0
 Answers meaning asked before after (Ok answer) =
@@ -124,38 +135,42 @@ Answers {A = A} meaning asked before after (Err fault) =
     (HasNoVerdict asked fault × Keeps before after)
     ⊎ (IsFileError fault × (answer : A) × HasAnswer meaning asked answer)
 
--- how a question ends the command: as its answer does, and else by its fault
+-- The exit of a question with this result: that of its answer, or of its fault.
 abbrev pub exit_answered : {A : Type 0} → Meaning A → Result A RunError → Exit
 exit_answered meaning (Ok answer) = meaning.ends answer
 exit_answered meaning (Err fault) = exit_of fault
 
--- the question about files of these names
+-- The question about the script in the file `script` and the image in the file `image`, after
+-- `count` events.
 abbrev pub question_of : (List ℕ → Option (List ℕ)) → List ℕ → ℕ → List ℕ → Question
 question_of files script count image =
     record { script = files script; image = files image; moment = count }
 
--- what a command does that answers the question about files of these names: it only reads
+-- What `judge` and `path` do: they answer the question about the files `script` and `image`. They
+-- only read files.
 abbrev pub AnswersOf : {A : Type 0} → Meaning A → List ℕ → ℕ → List ℕ → Does A
 AnswersOf meaning script count image =
     OnlyReads (λ files. Answers meaning (question_of files script count image))
 
--- the line of a verdict
+-- The line that `judge` prints.
 abbrev pub verdict_line : Verdict → List ℕ
 verdict_line verdict = verdict_text verdict ++ codes "\n"
 
--- how a verdict ends the command: done by a yes, ruled out by a no
+-- The exit of `judge`: `Done` for yes, `RuledOut` for no.
 abbrev pub exit_by_verdict : Verdict → Exit
 exit_by_verdict verdicts.Yes = exits.Done
 exit_by_verdict (verdicts.No sector by) = exits.RuledOut
 
--- what a verdict means
+-- The kind of answer that `judge` gives.
 abbrev pub verdict_meaning : Meaning Verdict
 verdict_meaning = record { says = IsVerdict; printed = verdict_line; ends = exit_by_verdict }
 
--- the verdict on an image, after this many events of a script's run, over zeroes
+-- `verdict` is that on `image`, after the first `count` events of the script `plan` on a disk of
+-- zeroes.
 abbrev pub IsJudged : ScriptValue → ℕ → List ℕ → Verdict → Type 0
 IsJudged plan count image verdict = IsAnswered verdict_meaning plan count image verdict
 
--- there is a verdict: the script's file spells a script, and this is the verdict on the image by it
+-- The script's file holds the text of a script, and `verdict` is the verdict on the image by this
+-- script.
 abbrev pub HasVerdict : Question → Verdict → Type 0
 HasVerdict asked verdict = HasAnswer verdict_meaning asked verdict

@@ -1,5 +1,5 @@
--- The result of copying the log in a file to a new log with
--- sectors of 4,096 bytes. A disk has sectors of 512 bytes.
+-- The result of `copy`: the log in a file is copied to a new log with sectors of 4,096 bytes. A
+-- disk has sectors of 512 bytes.
 use Rattle.std.specs.Prelude.{◌≡◌, ℕ, ◌+◌, ◌*◌, ◌≤◌, IsTrue, List, ◌++◌, Option, None, Some, codes}
 use Rattle.std.specs.Prelude.{length, map, slice_get, take}
 use Rattle.std.specs.Fmt.{decimal}
@@ -29,13 +29,15 @@ use Rattle.dmlw_commands.specs.Seen.{Does}
 use Rattle.dmlw_files.specs.Files.{MatchesContents}
 use Rattle.dmlw_files.specs.Images.{IsImage}
 
--- the line that says how many entries were copied
+-- The line that `copy` prints: how many entries it copied.
 abbrev pub copied_line : ℕ → List ℕ
 copied_line count = codes "copied " ++ (decimal count ++ codes "\n")
 
--- The log of an image, of `count` entries and without a fault, was copied. Another image, of a disk
--- of `sectors` sectors, has the log of the same entries in sectors of 4,096 bytes. Each entry has
--- its flags, its body, and its place and length in bytes.
+-- The log in the image `log` has `count` entries and no fault. The place and length in bytes of
+-- each entry are multiples of 4,096.
+--
+-- `image` has `sectors` sectors and holds a log of the same entries in sectors of 4,096 bytes. Each
+-- entry keeps its flags, its body, and its place and length in bytes.
 pub record IsCopied (log : List ℕ) (count sectors : ℕ) (image : List ℕ) : Type 0 where
   pub head : Super
   pub entries : List Entry
@@ -45,16 +47,16 @@ pub record IsCopied (log : List ℕ) (count sectors : ℕ) (image : List ℕ) : 
   pub size : length image ≡ 512 * sectors
   pub copied : IsLogOf sectors (sector_of image) 4096 (map (resized head.sectorsize 4096) entries)
 
--- the entry at this place of a log with sectors of `from` bytes doesn't fit a log with sectors of
--- 4,096 bytes on a disk of `sectors` sectors, after those that are before it
+-- The entry at index `place` doesn't fit the new log, after the entries before it. `from` is the
+-- old log's sector size; the new log has sectors of 4,096 bytes, on a disk of `sectors` sectors.
 pub record LacksRoom (from : ℕ) (es : List Entry) (place sectors : ℕ) : Type 0 where
   pub next : Entry
   pub there : slice_get es place ≡ Some next
   pub full : log_sectors 4096 sectors ≤ next_sector
       (map (resized from 4096) (take place es)) + sectors_of (resized from 4096 next)
 
--- the cause by which a copy of a log with this super block, these entries and this fault stopped,
--- to a disk of this many sectors and after this many entries
+-- Why a copy stopped after `applied` entries. The old log has the super block `head`, the entries
+-- `es` and the fault `fault`. The new log's disk has `sectors` sectors.
 abbrev pub HasStopCause : Super → List Entry → Option LogFault → ℕ → ℕ → CopyError → Type 0
 HasStopCause head es fault sectors applied (copies.Log (reads.Log found)) =
     (fault ≡ Some found) × (applied ≡ length es)
@@ -66,7 +68,7 @@ HasStopCause head es fault sectors applied (copies.Store ends.Full) =
 HasStopCause head es fault sectors applied (copies.Store ends.Memory) = Unit {0}
 HasStopCause head es fault sectors applied other = ⊥
 
--- a copy of this log to a disk of `sectors` sectors stopped with this fault
+-- The copy of the log in the image `log` to a disk of `sectors` sectors stopped with `stop`.
 pub record StopsCopy (log : List ℕ) (sectors : ℕ) (stop : CopyFault) : Type 0 where
   pub head : Super
   pub entries : List Entry
@@ -76,12 +78,12 @@ pub record StopsCopy (log : List ℕ) (sectors : ℕ) (stop : CopyFault) : Type 
   pub aligned : IsTrue (list_all (is_aligned_to head.sectorsize 4096) (take stop.applied entries))
   pub cause : HasStopCause head entries fault sectors stop.applied stop.cause
 
--- by what a copy ends that stopped so
+-- The command's fault if a copy stopped.
 abbrev pub copy_stopped : CopyFault → RunError
 copy_stopped stop = StoppedAfter stop.applied (copy_refusal stop.cause)
 
--- Why the log of an image isn't copied: there is no memory,
--- the image isn't opened as a log, or the copy stops.
+-- Why the log in an image isn't copied: memory ran out, the image can't be opened as a log, or the
+-- copy stopped.
 pub data FailsOnImage (log : List ℕ) (sectors : ℕ) : RunError → Type 0 where
   memory : FailsOnImage log sectors memory_error
   unopened : (fault : RunError) → RefusesImage log fault
@@ -89,14 +91,14 @@ pub data FailsOnImage (log : List ℕ) (sectors : ℕ) : RunError → Type 0 whe
   stopped : (stop : CopyFault) → StopsCopy log sectors stop
       → FailsOnImage log sectors (copy_stopped stop)
 
--- Why the log in a file isn't copied: a file can't be used, or
--- there is no memory; or so it is of the image in the file.
+-- Why the log in a file isn't copied: a file can't be used, memory ran out, or copying the file's
+-- image failed.
 pub data FailsCopy (log_file : Option (List ℕ)) (sectors : ℕ) : RunError → Type 0 where
   file : (fault : RunError) → IsFileError fault → FailsCopy log_file sectors fault
   of_image : (log : List ℕ) (stop : RunError) → MatchesContents log_file log → IsImage log
       → FailsOnImage log sectors stop → FailsCopy log_file sectors stop
 
--- the log in a file was copied, with `count` entries, and this image is the result
+-- The log in a file was copied, with `count` entries. `image` is the new log's disk.
 pub record IsCopiedFrom (log_file : Option (List ℕ)) (count sectors : ℕ)
     (image : List ℕ) : Type 0 where
   pub log : List ℕ
@@ -104,8 +106,8 @@ pub record IsCopiedFrom (log_file : Option (List ℕ)) (count sectors : ℕ)
   pub log_image : IsImage log
   pub copied : IsCopied log count sectors image
 
--- what copying the log in a file makes: the image, and the line of the number of entries; if it
--- fails, nothing is printed
+-- What `copy` makes: the image of the new log's disk, and the line with the count. If it fails, it
+-- prints nothing.
 abbrev pub copying : Option (List ℕ) → ℕ → Making ℕ
 copying log_file sectors = record {
   makes = λ count lines image.
@@ -113,7 +115,7 @@ copying log_file sectors = record {
   fails = λ before after stop. FailsCopy log_file sectors stop × Keeps before after;
 }
 
--- the result of copying the log in a file of this name to a disk of `sectors` sectors, for the file
--- of that name
+-- What `copy` does: it copies the log in the file `log` to a disk of `sectors` sectors. The file
+-- `name` gets the disk's image.
 abbrev pub Copies : List ℕ → List ℕ → ℕ → Does ℕ
 Copies log name sectors = Makes (λ files. copying (files log) sectors) log name

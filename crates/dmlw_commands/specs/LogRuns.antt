@@ -1,4 +1,5 @@
--- The result of running the seats of a script, which is recorded as a script of one recorder is.
+-- The result of `run`, which runs a script of several seats. `Records` states it for a kind of
+-- script, as for `record`.
 use Rattle.std.specs.Prelude.{◌≡◌, ℕ, suc, List, [], ◌∷◌, ◌++◌, decimal, codes}
 use Rattle.std.specs.Io.KnownBytes.{Keeps}
 use Rattle.bio.specs.declared.outcome.Status.{Status}
@@ -10,7 +11,7 @@ use Rattle.script_runner.specs.declared.recording.Lies.{Lies}
 use Rattle.script_runner.specs.declared.tally.Tally.{Tally}
 use Rattle.script_runner.specs.SeatRuns.{FailsRun, IsRun}
 
--- the line with the results of a seat's calls
+-- The line of seat `number`, with the counts of its calls' results.
 abbrev pub seat_line : ℕ → Tally → List ℕ
 seat_line number tally =
     codes "seat " ++ (decimal number
@@ -20,17 +21,17 @@ seat_line number tally =
     ++ (codes " failed " ++ (decimal tally.not_logged ++ (codes " not logged "
     ++ (decimal tally.refused ++ codes " refused\n")))))))))))
 
--- the lines of the seats from this number on, in their order
+-- The seats' lines in order; the first seat is `number`.
 abbrev pub seat_lines : ℕ → List Tally → List ℕ
 seat_lines number [] = []
 seat_lines number (tally ∷ tallies) = seat_line number tally ++ seat_lines (suc number) tallies
 
--- what a run prints: a line for each seat, and the lines at the end
+-- What `run` prints: a line for each seat, then the lines at the end of a recording.
 abbrev pub run_lines : List Tally → Status → Lies → List ℕ
 run_lines tallies status lies = seat_lines 0 tallies ++ end_lines status lies
 
--- A script of several seats was run: a line for each seat was printed, and then the lines at the
--- end.
+-- The seats of `script` were run. The log has `status`, and `image` is the log's disk. `lines` is
+-- what `run` prints.
 pub record IsRunBySeats (script : RunPlan) (lines : List ℕ) (status : Status)
     (image : List ℕ) : Type 0 where
   pub tallies : List Tally
@@ -38,7 +39,7 @@ pub record IsRunBySeats (script : RunPlan) (lines : List ℕ) (status : Status)
   pub ran : IsRun script tallies status lies image
   pub output : lines ≡ run_lines tallies status lies
 
--- the scripts of `run`; if one fails, nothing is printed
+-- The kind of script that `run` takes. If a run fails, nothing is printed.
 abbrev pub of_seats : Kind RunPlan
 of_seats = record {
   spells = IsRunText;

@@ -1,5 +1,4 @@
--- What `path` answers: a run of the cache machine that
--- leaves an image, or what rules the image out.
+-- What `path` answers: a machine run that leaves the image, or what rules the image out.
 use Rattle.std.specs.Prelude.{ℕ, List, ◌++◌, codes}
 use Rattle.std.specs.List.{flat_map}
 use Rattle.judge.specs.declared.verdict.Verdict.{Verdict}
@@ -14,29 +13,30 @@ use Rattle.world.specs.declared.finding.Finding.{Finding}
 use Rattle.world.specs.declared.finding.Finding.TheVariants.{Run, RuledOut}
 use Rattle.dmlw_commands.specs.Judgements.{IsAnswered, Meaning, verdict_line}
 
--- the verdict of a finding: yes if there is a run, and else its no
+-- The verdict that a finding implies: yes if it is a run, otherwise no with the same cause.
 abbrev pub verdict_of : Finding → Verdict
 verdict_of (Run run) = verdicts.Yes
 verdict_of (RuledOut sector by) = verdicts.No sector by
 
--- the line of a step
+-- The line that `path` prints for a step.
 abbrev pub step_line : Step → List ℕ
 step_line step = step_text step ++ codes "\n"
 
--- the lines of a finding: one for each step of the run, in order; or the line of the verdict of no
+-- What `path` prints: a line for each step of the run, in order, or the line of the verdict no.
 abbrev pub finding_text : Finding → List ℕ
 finding_text (Run run) = flat_map step_line run.items
 finding_text (RuledOut sector by) = verdict_line (verdicts.No sector by)
 
--- how a finding ends the command: done by a run, ruled out if there is none
+-- The exit of `path`: `Done` for a run, `RuledOut` if there is none.
 abbrev pub exit_by_finding : Finding → Exit
 exit_by_finding (Run run) = exits.Done
 exit_by_finding (RuledOut sector by) = exits.RuledOut
 
--- what a finding means
+-- The kind of answer that `path` gives.
 abbrev pub finding_meaning : Meaning Finding
 finding_meaning = record { says = IsFinding; printed = finding_text; ends = exit_by_finding }
 
--- the finding about an image, after this many events of a script's run, over zeroes
+-- `finding` is that about `image`, after the first `moment` events of the script `plan` on a disk
+-- of zeroes.
 abbrev pub IsFound : ScriptValue → ℕ → List ℕ → Finding → Type 0
 IsFound plan moment image finding = IsAnswered finding_meaning plan moment image finding

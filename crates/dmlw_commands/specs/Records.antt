@@ -1,4 +1,4 @@
--- The result of recording a script: what `record` and `run` do, whose scripts are of two kinds.
+-- The result of `record` and `run`, which take two kinds of script.
 use Rattle.std.specs.Prelude.{◌≡◌, ℕ, Bool, ◌&&◌, List, [], ◌++◌, decimal, nat_eq}
 use Rattle.std.specs.Prelude.{if◌then◌else◌, Option, Some, codes}
 use Rattle.std.specs.Io.KnownBytes.{Appends, Keeps}
@@ -18,35 +18,41 @@ use Rattle.dmlw_files.specs.Files.{MatchesContents}
 use Rattle.dmlw_commands.specs.Makings.{Makes, Making}
 use Rattle.dmlw_commands.specs.Seen.{Does}
 
--- the line that says how far a log has come
+-- The line that prints a log's status.
 abbrev pub status_line : Status → List ℕ
 status_line status = status_text status ++ codes "\n"
 
--- no layer has lied
+-- No layer has lied.
 abbrev pub is_honest : Lies → Bool
 is_honest lies = nat_eq lies.data_disk 0 && nat_eq lies.log_disk 0
 
--- the line of the lies, if there are any: those of the data disk's layers, and those of the log's
+-- The line that counts lies: those of the data disk's layers, then those of the log disk's. Empty
+-- if no layer has lied.
 abbrev pub lies_line : Lies → List ℕ
 lies_line lies =
     if is_honest lies then [] else codes "lies "
     ++ (decimal lies.data_disk ++ (codes " " ++ (decimal lies.log_disk ++ codes "\n")))
 
--- the lines at the end of a recording
+-- What is printed at the end of a recording.
 abbrev pub end_lines : Status → Lies → List ℕ
 end_lines status lies = status_line status ++ lies_line lies
 
--- A kind of script: which text spells one, which line of a text is its first fault, what its run
--- comes to, with its printed lines, its log's status and the bytes of the log's disk; and why its
--- run fails, from what the output held to what it holds.
+-- A kind of script.
+-- - `spells`: this text is that of this script.
+-- - `is_first_fault`: the line with this number is the first faulty one of these lines, and has
+--   this refusal.
+-- - `runs`: a run of this script prints these lines. Its log has this status, and this image of the
+--   log's disk.
+-- - `fails`: a run of the script with this text fails with the fault, the last argument. The others
+--   are the output before and after.
 pub record Kind (S : Type 0) : Type 1 where
   pub spells : List ℕ → S → Type 0
   pub is_first_fault : List (List ℕ) → ℕ → Refusal → Type 0
   pub runs : S → List ℕ → Status → List ℕ → Type 0
   pub fails : List ℕ → S → Option (List ℕ) → Option (List ℕ) → RunError → Type 0
 
--- The script that a file's bytes spell was run: its log has come so far, it prints these lines, and
--- these are the bytes of the log's disk.
+-- The file's script was run. It printed `lines`, its log has `status`, and `image` is that of the
+-- log's disk.
 pub record IsLogged {S : Type 0} (kind : Kind S) (contents : Option (List ℕ)) (status : Status)
     (lines image : List ℕ) : Type 0 where
   pub text : List ℕ
@@ -55,19 +61,20 @@ pub record IsLogged {S : Type 0} (kind : Kind S) (contents : Option (List ℕ)) 
   pub spelled : kind.spells text script
   pub ran : kind.runs script lines status image
 
--- the script that a file's bytes spell was run so, and its lines were printed
+-- The file's script was run, with `status` and `image`, and its lines were printed.
 abbrev pub PrintsLog : {S : Type 0} → Kind S → Option (List ℕ) → Status → List ℕ → Option (List ℕ)
     → Option (List ℕ) → Type 0
 PrintsLog kind contents status image before after =
     (lines : List ℕ) × IsLogged kind contents status lines image × Appends before after lines
 
--- the text is no script's
+-- The text isn't a script of this kind.
 abbrev pub IsNoScript : {S : Type 0} → Kind S → List ℕ → Type 0
 IsNoScript {S = S} kind text = (script : S) → kind.spells text script → ⊥
 
--- A fault that ends the recording of the script in a file: A file can't be read or written, or
--- there is no memory. Or the file's bytes spell no script, its first line at fault is named, and
--- nothing is printed. Or running their script failed.
+-- Why recording the script in a file fails.
+-- - `file`: a file or the output can't be used, or memory ran out.
+-- - `text`: the file isn't a script. The fault names its first faulty line, and nothing is printed.
+-- - `run`: the script's run failed.
 pub data FailsRecording {S : Type 0} (kind : Kind S) (contents before after : Option (List ℕ))
     : RunError → Type 0 where
   file : (fault : RunError) → IsFileError fault → FailsRecording kind contents before after fault
@@ -80,17 +87,18 @@ pub data FailsRecording {S : Type 0} (kind : Kind S) (contents before after : Op
       → kind.spells bytes script → kind.fails bytes script before after fault
       → FailsRecording kind contents before after fault
 
--- what recording the script in a file makes: the log
+-- What recording the script in a file makes: the image of the log's disk.
 abbrev pub recording : {S : Type 0} → Kind S → Option (List ℕ) → Making Status
 recording kind contents =
     record { makes = IsLogged kind contents; fails = FailsRecording kind contents }
 
--- the result of recording the script in a file of this name, for the log of that name
+-- What `record` and `run` do: they record the script in the file `script`. The file `log` gets the
+-- image of the log's disk.
 abbrev pub Records : {S : Type 0} → Kind S → List ℕ → List ℕ → Does Status
 Records kind script log = Makes (λ files. recording kind (files script)) script log
 
--- A script of one recorder was recorded: its lines' output was printed, and then the lines at the
--- end.
+-- `script` was recorded with `status`, and `image` is that of the log's disk. `lines` are the
+-- output of the script's lines, then the lines at the end.
 pub record IsRecordedBy (script : ScriptValue) (lines : List ℕ) (status : Status)
     (image : List ℕ) : Type 0 where
   pub ran : List ℕ
@@ -98,7 +106,7 @@ pub record IsRecordedBy (script : ScriptValue) (lines : List ℕ) (status : Stat
   pub recorded : IsRecorded script ran status lies image
   pub output : lines ≡ ran ++ end_lines status lies
 
--- the scripts of `record`
+-- The kind of script that `record` takes.
 abbrev pub of_recorder : Kind ScriptValue
 of_recorder = record {
   spells = IsTextOf;

@@ -1,4 +1,4 @@
--- The result of replaying the log in a file on the image in another one.
+-- The result of `replay`: the log in a file is replayed on the image in another file.
 use Rattle.std.specs.Prelude.{◌≡◌, ℕ, ◌/◌, ◌<◌, ◌≤◌, List, ◌++◌, Option, None, Some, codes, length}
 use Rattle.std.specs.Fmt.{decimal}
 use Rattle.std.specs.Io.KnownBytes.{Keeps}
@@ -26,20 +26,19 @@ use Rattle.dmlw_commands.specs.Lists.{RefusesImage}
 use Rattle.dmlw_commands.specs.Makings.{Makes, Making}
 use Rattle.dmlw_commands.specs.Seen.{Does}
 
--- the line that says how many entries were replayed
+-- The line that `replay` prints: how many entries it replayed.
 abbrev pub replayed_line : ℕ → List ℕ
 replayed_line count = codes "replayed " ++ (decimal count ++ codes "\n")
 
--- these are the images of a replay: what the file of its
--- log holds, and that of the image which it begins with
+-- `log` and `first` are images. The files hold them, as far as the files' contents are known.
 pub record AreImages (log_file first_file : Option (List ℕ)) (log first : List ℕ) : Type 0 where
   pub log_read : MatchesContents log_file log
   pub log_image : IsImage log
   pub first_read : MatchesContents first_file first
   pub first_image : IsImage first
 
--- the entries of a log up to the named one, `count` in number, were replayed on a first image, and
--- left this one
+-- `upto` asks for the first `count` entries of the log in the image `log`. `image` has the size of
+-- the image `first`, and the content of `first` after these entries are replayed.
 pub record IsReplayed (log first : List ℕ) (upto : Upto) (count : ℕ) (image : List ℕ) : Type 0 where
   pub head : Super
   pub entries : List Entry
@@ -51,8 +50,8 @@ pub record IsReplayed (log first : List ℕ) (upto : Upto) (count : ℕ) (image 
   pub content : AgreeBelow (length first / 512)
       (replay head.sectorsize (entries_from entries 0 count) (sector_of first)) (sector_of image)
 
--- the cause by which a replay of a log with this super block, these entries and this fault stopped,
--- on an image of this many sectors and after this many entries; its reader has not refused before
+-- Why a replay stopped after `applied` entries on a disk of `disk` sectors. The log has the super
+-- block `head`, the entries `es` and the fault `fault`. Its reader had not failed before.
 abbrev pub HasStopCause : Upto → Super → List Entry → Option LogFault → ℕ → ℕ → ReplayError → Type 0
 HasStopCause upto head es fault disk applied replays.PastEntries =
     (applied ≡ 0) × AsksTooMany upto head.count 0
@@ -68,7 +67,7 @@ HasStopCause upto head es fault disk applied (replays.Log reads.Memory) = Unit {
 HasStopCause upto head es fault disk applied (replays.Target devices.Memory) = Unit {0}
 HasStopCause upto head es fault disk applied other = ⊥
 
--- a replay of this log on this image stopped so
+-- The replay of the log in the image `log` on the image `first` stopped with `stop`.
 pub record StopsReplay (log first : List ℕ) (upto : Upto) (stop : ReplayFault) : Type 0 where
   pub head : Super
   pub entries : List Entry
@@ -77,12 +76,12 @@ pub record StopsReplay (log first : List ℕ) (upto : Upto) (stop : ReplayFault)
   pub within : 0 < stop.applied → stop.applied ≤ length entries
   pub cause : HasStopCause upto head entries fault (length first / 512) stop.applied stop.cause
 
--- by what a replay ends that stopped so
+-- The command's fault if a replay stopped.
 abbrev pub replay_stopped : ReplayFault → RunError
 replay_stopped stop = StoppedAfter stop.applied (replay_refusal stop.cause)
 
--- Why a log isn't replayed on a first image: there is no
--- memory, the image isn't opened as a log, or the replay stops.
+-- Why a log isn't replayed on a first image: memory ran out, the image can't be opened as a log, or
+-- the replay stopped.
 pub data FailsOnImages (log first : List ℕ) (upto : Upto) : RunError → Type 0 where
   memory : FailsOnImages log first upto memory_error
   unopened : (fault : RunError) → RefusesImage log fault
@@ -90,9 +89,10 @@ pub data FailsOnImages (log first : List ℕ) (upto : Upto) : RunError → Type 
   stopped : (stop : ReplayFault) → StopsReplay log first upto stop
       → FailsOnImages log first upto (replay_stopped stop)
 
--- Why the log in a file isn't replayed: A file can't be used, or there is no memory; this is the
--- only cause if both files are known to hold images. Or the replay of the images in the files
--- fails.
+-- Why the log in a file isn't replayed.
+-- - `file`: a file can't be used, or memory ran out. If both files are known to hold images, the
+--   fault is that memory ran out.
+-- - `images`: the replay of the files' images fails.
 pub data FailsReplay (log_file first_file : Option (List ℕ)) (upto : Upto) : RunError → Type 0 where
   file : (fault : RunError) → IsFileError fault
       → (HoldsImage log_file → HoldsImage first_file → fault ≡ memory_error)
@@ -101,7 +101,7 @@ pub data FailsReplay (log_file first_file : Option (List ℕ)) (upto : Upto) : R
       → FailsOnImages log first upto stop
       → FailsReplay log_file first_file upto stop
 
--- the log in a file was replayed, with `count` entries, and this image is the result
+-- `count` entries of the log in a file were replayed, and `image` is the result.
 pub record IsReplayedFrom (log_file first_file : Option (List ℕ)) (upto : Upto) (count : ℕ)
     (image : List ℕ) : Type 0 where
   pub log : List ℕ
@@ -109,8 +109,8 @@ pub record IsReplayedFrom (log_file first_file : Option (List ℕ)) (upto : Upto
   pub files : AreImages log_file first_file log first
   pub replayed : IsReplayed log first upto count image
 
--- what replaying the log in a file makes: the image, and the line of the number of entries; if it
--- fails, nothing is printed
+-- What `replay` makes: the resulting image, and the line with the count. If it fails, it prints
+-- nothing.
 abbrev pub replaying : Option (List ℕ) → Option (List ℕ) → Upto → Making ℕ
 replaying log_file first_file upto = record {
   makes = λ count lines image.
@@ -118,8 +118,8 @@ replaying log_file first_file upto = record {
   fails = λ before after stop. FailsReplay log_file first_file upto stop × Keeps before after;
 }
 
--- the result of replaying the log in a file of this name on the image in the second one, for the
--- third one
+-- What `replay` does: it replays the log in the file `log` on the image in the file `first`. The
+-- file `name` gets the resulting image.
 abbrev pub Replays : List ℕ → List ℕ → List ℕ → Upto → Does ℕ
 Replays log first name upto =
     Makes (λ files. replaying (files log) (files first) upto) log name

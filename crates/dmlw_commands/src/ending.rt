@@ -19,8 +19,8 @@ pub struct Ended {
     pub err_taken: bool,
 }
 
-/// Ends a command with this result. A fault is reported by one line, after what was printed before
-/// it, and `more` follows it. If there is no fault and no more, nothing goes to `err`.
+/// Ends a command with the result `done`. If it is a fault, flushes `out`, and then writes the
+/// fault's line and `more` to `err`. Otherwise only `more` goes to `err`.
 pub fn end<T: Copy, O: Write, E: Write>(
     alloc: Global,
     done: Result<T, RunError>,
@@ -44,8 +44,8 @@ pub fn end<T: Copy, O: Write, E: Write>(
     }
 }
 
-/// Ends a recording with this status, or its failure. If logging ended early, the exit status shows
-/// it, and nothing is reported. A fault is reported as by `end`.
+/// Ends a recording with the result `done`. If logging ended early, the exit is `LoggingEnded`, and
+/// only `more` goes to `err`. If the recording failed, the fault is reported as by `end`.
 pub fn end_recording<O: Write, E: Write>(
     alloc: Global,
     done: Result<Status, RunError>,
@@ -79,8 +79,7 @@ pub fn end_well<E: Write>(exit: Exit, more: &str, err: &mut E) -> Ended
     }
 }
 
-/// Reports a fault by one line, followed by `more`, in one
-/// write if there is memory for it.
+/// Writes a fault's line and `more` to `err`, in one write if there is memory to join them.
 pub fn report<E: Write>(alloc: Global, fault: RunError, more: &str, err: &mut E) -> Ended
     ensures exit { result.exit ≡ exit_of fault }
     ensures told { result.err_taken ≡ true
@@ -92,8 +91,7 @@ pub fn report<E: Write>(alloc: Global, fault: RunError, more: &str, err: &mut E)
     }
 }
 
-// Writes the line of a fault and what follows it: in
-// parts if there is no memory to join them.
+// Writes a fault's line and `more`: in one write, or in parts if there is no memory to join them.
 fn tell_fault<E: Write>(alloc: Global, fault: RunError, more: &str, err: &mut E) -> io::Result<()>
     ensures { OnOk result (Appends (E.contents err.old) (E.contents err.new)
         (fault_line fault ++ more.now)) }

@@ -8,15 +8,15 @@ use refusals::RunError;
 /// How a command ended.
 #[derive(Clone, Copy, Debug, PartialEq, Eq)]
 pub enum Exit {
-    /// It did what it was asked.
+    /// The command did what it was asked to do.
     Done,
-    /// It was refused.
+    /// The command was refused.
     Refused,
     /// The command line isn't one of the program's.
     Usage,
-    /// Logging ended early: the log is written as far as it came, or none could be made.
+    /// Logging ended early: the log has the entries up to there, or no log could be made.
     LoggingEnded,
-    /// The verdict on the image is no.
+    /// `judge` or `path` found that the image isn't possible.
     RuledOut,
 }
 

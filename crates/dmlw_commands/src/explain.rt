@@ -1,6 +1,6 @@
-//! What `--explain` adds after a fault's line: which line of a script is at fault and the word that
-//! doesn't fit, which file can't be used and why, and what helps against a refusal. It adds nothing
-//! if it isn't asked for, and changes no file. Tests show the texts.
+//! What `--explain` adds after a fault's line: the faulty line and word of a script, which file
+//! can't be used and why, and advice. It adds nothing without `--explain`, and changes no file.
+//! Tests show the texts.
 
 mod advice;
 mod counted;

@@ -1,5 +1,5 @@
-// Opens the log of an image, which becomes a disk without a copy.
-// Its entries are read one by one, without a write's data.
+// Opens the log of an image, which becomes a disk without a copy. The log's entries are read one by
+// one, without a write's data.
 ghost use Rattle.std.specs.Prelude.{◌≡◌, ◌⊎◌, IfErr, IfOk, List, Option, false};
 ghost use Rattle.log_format.specs.declared.entry.Entry.{Entry};
 ghost use Rattle.log_reader.specs.declared.fault.LogFault.{LogFault};
@@ -25,7 +25,7 @@ pub(crate) fn open_image(alloc: Global, image: Image) -> Result<LogReader<Sector
     ensures refused { IfErr result
         (λ fault. (fault ≡ memory_error) ⊎ RefusesImage image fault) }
 {
-    // For the prover.
+    // For the prover: a device's content has whole sectors of 512 bytes.
     crashes_leave_whole_sectors::<SectorDisk>();
     let disk = SectorDisk::from_image(alloc, image)?;
     match LogReader::open(alloc, disk) {
@@ -34,8 +34,7 @@ pub(crate) fn open_image(alloc: Global, image: Image) -> Result<LogReader<Sector
     }
 }
 
-// Reads the next entry in the log of an image, without a
-// write's data; none after the last one.
+// Reads the next entry in the log of an image, without a write's data. None after the last entry.
 pub(crate) fn next_of_image(
     reader: &mut LogReader<SectorDisk>,
 ) -> Result<Option<(Placed, Entry)>, RunError>

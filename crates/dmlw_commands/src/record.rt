@@ -25,11 +25,12 @@ use std::io::Write;
 
 /// Executes `record SCRIPT LOG`: records the requests of a script in a new log, and returns how it
 /// ended. `script` and `log` are names of files. The output goes to `out` before the log is
-/// written, also if logging ended early. A fault is reported to `err`, with what helps if the
-/// session `explains`.
+/// written, also if logging ended early. A fault is reported to `err`, with advice if the session
+/// `explains`.
 ///
-/// If it is done, LOG holds the log. That is also so if logging ended, unless no log could be made.
-/// If it is refused, each file holds what it held, and a script isn't overwritten.
+/// If the command is done, LOG holds the log. If logging ended early, LOG holds the log up to
+/// there, unless no log could be made. If the command is refused, each file holds what it held. A
+/// log never overwrites its script.
 pub fn record<F: Files, O: Write, E: Write>(
     script: &str,
     log: &str,
@@ -40,12 +41,12 @@ pub fn record<F: Files, O: Write, E: Write>(
         (O.contents session.old.out) (E.contents session.old.err))
         (seen (F.contents session.new.files) (F.writes session.new.files)
         (O.contents session.new.out) (E.contents session.new.err)) result }
-    // If both names are one, it is refused as a file.
+    // If both names are the same, the command is refused as a file.
     ensures same { script.now ≡ log.now →
         ReportsLine (err_stream session.old.explains (E.contents session.old.err)
         (E.contents session.new.err)) Exit.Refused
         (fault_line (refused_by refusals.File)) result }
-    // A script whose known bytes are too many is refused as a file, and nothing is printed.
+    // If a script is known to have more than 4 MiB, the command is refused.
     ensures within { IsTooLong 4194304 (F.contents session.old.files script.now)
         → result.exit ≡ Exit.Refused }
 {
@@ -89,7 +90,8 @@ fn record_script<F: Files, O: Write>(
     Ok(status)
 }
 
-/// Returns the text of the script in a file, which is to be recorded in another file.
+/// Reads the script in the file `script`. Refused as a file if `log`, the file of its log, is the
+/// same file.
 pub(crate) fn script_text<F: Files>(
     alloc: Global,
     script: &str,
@@ -111,7 +113,7 @@ pub(crate) fn script_text<F: Files>(
     Ok(read_text(alloc, script, files)?)
 }
 
-// Runs the script that a text spells, and prints its output and the log's status.
+// Runs the script with this text, and prints its output and the log's status.
 fn run_text<O: Write>(alloc: Global, text: &[u8], out: &mut O) -> Result<RunResult, RunError>
     ensures printed { (contents : Option (List ℕ)) → MatchesContents contents text.now →
         IfOk result (λ made. PrintsLog of_recorder contents made.status (image_of made.disk)
@@ -126,7 +128,7 @@ fn run_text<O: Write>(alloc: Global, text: &[u8], out: &mut O) -> Result<RunResu
     Ok(recorded)
 }
 
-/// Prints a log's status, and how often the layers lied, if they did.
+/// Prints a log's status, and how often the layers lied if they did.
 pub fn print_end<O: Write>(status: Status, lies: Lies, out: &mut O) -> Result<(), RunError>
     ensures printed { OnOk result
         (Appends (O.contents out.old) (O.contents out.new) (end_lines status lies)) }
@@ -148,7 +150,7 @@ fn print_status<O: Write>(status: Status, out: &mut O) -> Result<(), RunError>
     Ok(())
 }
 
-// Prints how often the layers of the data disk and of the log's disk lied, if one did.
+// Prints how often the layers of the data disk and of the log's disk lied, if any layer lied.
 fn print_lies<O: Write>(lies: Lies, out: &mut O) -> Result<(), RunError>
     ensures printed { OnOk result
         (Appends (O.contents out.old) (O.contents out.new) (lies_line lies)) }

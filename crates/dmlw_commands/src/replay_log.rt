@@ -1,5 +1,5 @@
 //! The command `replay`. It applies the entries of the log in a file, up to a named one, to the
-//! image in another file. It asks for the resulting image to be written (`specs/Replays`).
+//! image in another file. It asks for a write of the resulting image (`specs/Replays`).
 pub use replaying::replay;
 pub use what::upto_of;
 

@@ -1,4 +1,4 @@
-//! `run SCRIPT LOG`: runs the seats of a script, each in a thread of its own.
+//! `run SCRIPT LOG`: runs the seats of a script, each in its own thread.
 ghost use Rattle.std.specs.Prelude.{◌≡◌, Err, IfErr, IfOk, List, OnOk, Option, ℕ};
 ghost use Rattle.std.specs.Io.KnownBytes.{Appends};
 ghost use Rattle.refusals.specs.declared.refusal.Refusal.TheVariants as refusals;
@@ -25,8 +25,8 @@ use std::io::Write;
 use std::sync::Wait;
 use std::thread::Threads;
 
-/// Executes `run SCRIPT LOG`: runs the seats of a script over a new log, each in a thread of its
-/// own, and returns how it ended. It ends as `record` does, by scripts of another kind.
+/// Executes `run SCRIPT LOG`: runs the seats of a script over a new log, each in its own thread,
+/// and returns how it ended. It ends like `record`, but takes the other kind of script.
 pub fn run<F: Files, O: Write, E: Write, H: Threads + Wait + Sync>(
     rt: &H,
     script: &str,
@@ -38,12 +38,12 @@ pub fn run<F: Files, O: Write, E: Write, H: Threads + Wait + Sync>(
         (O.contents session.old.out) (E.contents session.old.err))
         (seen (F.contents session.new.files) (F.writes session.new.files)
         (O.contents session.new.out) (E.contents session.new.err)) result }
-    // If both names are one, it is refused as a file.
+    // If both names are the same, the command is refused as a file.
     ensures same { script.now ≡ log.now →
         ReportsLine (err_stream session.old.explains (E.contents session.old.err)
         (E.contents session.new.err)) Exit.Refused
         (fault_line (refused_by refusals.File)) result }
-    // A script whose known bytes are too many is refused as a file, and nothing is printed.
+    // If a script is known to have more than 4 MiB, the command is refused.
     ensures within { IsTooLong 4194304 (F.contents session.old.files script.now)
         → result.exit ≡ Exit.Refused }
 {
@@ -88,8 +88,7 @@ fn run_named<F: Files, O: Write, H: Threads + Wait + Sync>(
     Ok(status)
 }
 
-// Runs the script that a text spells, and prints a line for
-// each seat and the log's status.
+// Runs the script with this text, and prints a line for each seat and the log's status.
 fn run_text<O: Write, H: Threads + Wait + Sync>(
     rt: &H,
     alloc: Global,

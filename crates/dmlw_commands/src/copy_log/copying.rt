@@ -19,16 +19,20 @@ use refusals::{Refusal, RunError};
 use std::alloc::Global;
 use std::io::Write;
 
-/// Executes `copy LOG OUT SECTORS`: copies the log in a file to a new log with sectors of 4,096
-/// bytes, on a disk of `sectors` sectors of 512 bytes, 8 to 1,048,576, and returns how it ended.
-/// The number of copied entries goes to `out` before the disk's image is written; a fault is
-/// reported to `err`, with what helps if the session `explains`. OUT is refused as a file if it is
-/// LOG.
+/// Executes `copy LOG OUT SECTORS`, and returns how it ended. It copies the log in the file LOG to
+/// a new log with sectors of 4,096 bytes. The new log's disk has `sectors` sectors of 512 bytes,
+/// from 8 to 1,048,576; the file OUT gets its image.
+///
+/// The number of copied entries goes to `out` before the image is written. A fault is reported to
+/// `err`, with advice if the session `explains`. If OUT and LOG are one file, the command is
+/// refused as a file.
 ///
 /// Each entry keeps its flags, its body, and its place and length in bytes. The copy stops before
-/// an entry whose place or length in bytes is no multiple of 4,096, before one that doesn't fit,
-/// and at a fault of the log; then nothing is written. If it is done, OUT
-/// holds the image of the new log's disk. If it is refused, each file holds what it held.
+/// an entry whose place or length isn't a multiple of 4,096 bytes. It also stops before an entry
+/// that doesn't fit, and at a fault of the log. Then nothing is written.
+///
+/// If the command is done, OUT holds the image of the new log's disk. If it is refused, each file
+/// holds what it held.
 pub fn copy<F: Files, O: Write, E: Write>(
     names: CopyNames,
     sectors: u64,
@@ -42,7 +46,7 @@ pub fn copy<F: Files, O: Write, E: Write>(
         (seen (F.contents session.new.files) (F.writes session.new.files)
         (O.contents session.new.out) (E.contents session.new.err)) result }
     ensures exits { (result.exit ≡ Exit.Done) ⊎ (result.exit ≡ Exit.Refused) }
-    // If both names are one, it is refused as a file.
+    // If LOG and OUT are the same name, the command is refused as a file.
     ensures same { names.entry.log.now ≡ names.entry.out.now →
         ReportsLine (err_stream session.old.explains (E.contents session.old.err)
         (E.contents session.new.err)) Exit.Refused
@@ -60,7 +64,7 @@ pub fn copy<F: Files, O: Write, E: Write>(
     )
 }
 
-// Copies the log in a file, prints the number of entries, and has the image written.
+// Copies the log in a file, prints the number of entries, and writes the image.
 fn copy_file<F: Files, O: Write>(
     alloc: Global,
     names: CopyNames,
@@ -85,7 +89,7 @@ fn copy_file<F: Files, O: Write>(
     Ok(count)
 }
 
-// Copies the log in a file.
+// Copies the log in the file `log`, and writes no file.
 fn copy_named<F: Files>(
     alloc: Global,
     log: &str,

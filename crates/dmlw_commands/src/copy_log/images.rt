@@ -24,9 +24,9 @@ pub(crate) struct Copied {
     pub(crate) disk: SectorDisk,
 }
 
-/// Copies the log in an image to a new log with sectors of 4,096 bytes, on a
-/// disk of `sectors` sectors of 512 bytes, 8 to 1,048,576. Both disks and one
-/// entry are in memory; the old log's disk is dropped at the end.
+/// Copies the log in an image to a new log with sectors of 4,096 bytes. The new log's disk has
+/// `sectors` sectors of 512 bytes, from 8 to 1,048,576. Both disks and one entry are in memory. The
+/// old log's disk is dropped at the end.
 pub(crate) fn copy_image(alloc: Global, log: Image, sectors: u64) -> Result<Copied, RunError>
     requires log { IsImage log }
     requires least { 8 ≤ sectors }
@@ -56,8 +56,8 @@ fn stopped(fault: CopyFault) -> RunError
     }
 }
 
-// Begins the new log, on a disk of `sectors` sectors of zeroes. Nothing was copied yet, so a lack
-// of memory is reported as such, and not as an end of logging.
+// Creates the new log, on a disk of `sectors` sectors of zeroes. If memory runs out, it reports
+// this, since no entry was copied that an end of logging could keep.
 fn begin_log(alloc: Global, sectors: u64) -> Result<LogStore<SectorDisk>, RunError>
     requires least { 8 ≤ sectors }
     requires most { sectors ≤ 1048576 }

@@ -1,5 +1,5 @@
-// What the image of a copy replays to: the law is a
-// function that does nothing, and its contract is the law.
+// The law that a copy replays like its log: a function that does nothing, and its contract is the
+// law.
 ghost use Rattle.std.specs.Prelude.{◌≡◌, List, None, Option, length, take, ℕ};
 ghost use Rattle.bio.specs.Content.{Content};
 ghost use Rattle.log_format.specs.declared.decode.Super.{Super};
@@ -9,8 +9,8 @@ ghost use Rattle.log_reader.specs.declared.fault.LogFault.{LogFault};
 ghost use Rattle.log_reader.specs.ImageLog.{IsReading};
 ghost use Rattle.dmlw_commands.specs.LogCopies.{IsCopied};
 
-/// The image of a copy has the same number of readable entries as the log, and no fault. On each
-/// disk its first n entries replay to the same content as the log's first n entries.
+/// The log in a copy's image has no fault and as many entries as the log that was copied. For each
+/// n, the first n entries of both logs replay to the same content.
 pub fn copies_replay_alike()
     ensures whole { (log image : List ℕ) (count sectors : ℕ) (new : Super) (copies : List Entry)
         (fault : Option LogFault) →

@@ -1,10 +1,10 @@
-//! What helps against a refusal, in general.
+//! General advice about each refusal.
 use log_format::MAGIC;
 use refusals::Refusal;
 use std::fmt;
 use std::fmt::Write;
 
-/// Writes what helps against a refusal of this file, if there is anything to say.
+/// Writes the advice about the refusal of the file `name`, if there is any.
 pub(crate) fn write_advice<W: Write>(name: &str, refusal: Refusal, to: &mut W) -> fmt::Result {
     match advice(refusal) {
         "" => Ok(()),
@@ -12,7 +12,7 @@ pub(crate) fn write_advice<W: Write>(name: &str, refusal: Refusal, to: &mut W) -
     }
 }
 
-/// Writes what this file should begin with, if it were a log, and what it begins with.
+/// Writes which bytes a log begins with, and which bytes the file `name` begins with.
 pub(crate) fn write_magic<W: Write>(name: &str, found: u64, to: &mut W) -> fmt::Result {
     write!(to, "  {name}: it doesn't begin with the 8 bytes of a log,")?;
     write_bytes(MAGIC, to)?;
@@ -25,7 +25,7 @@ pub(crate) fn write_magic<W: Write>(name: &str, found: u64, to: &mut W) -> fmt::
     )
 }
 
-// Writes the bytes of a number, the lowest first, with a space in front of each.
+// Writes a space and the byte for each byte of a number, the lowest byte first.
 fn write_bytes<W: Write>(number: u64, to: &mut W) -> fmt::Result {
     for byte in number.to_le_bytes() {
         write!(to, " {byte:02x}")?;
@@ -33,7 +33,8 @@ fn write_bytes<W: Write>(number: u64, to: &mut W) -> fmt::Result {
     Ok(())
 }
 
-/// Returns what helps against this refusal: one sentence, or none if its name says everything.
+/// Returns the advice about a refusal: one sentence, or an empty text if the refusal's message is
+/// enough.
 pub(crate) fn advice(refusal: Refusal) -> &'static str {
     match refusal {
         Refusal::Memory | Refusal::EndMemory => "memory ran out: try a smaller script or image",

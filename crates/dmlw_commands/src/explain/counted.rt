@@ -1,15 +1,15 @@
-//! A count with its word, as `1 entry` and `3 entries`.
-//! For the explanations of refusals and logs; the judge's explanation counts sectors with it too.
+//! A count with its noun: `1 entry`, `3 entries`. Explanations of refusals, logs and verdicts use
+//! it.
 use std::fmt;
 
-/// A number of things, with the word for one or for more of them: `1 entry`, `3 entries`.
+/// A count with its noun in the singular or the plural: `1 entry`, `3 entries`.
 #[derive(Clone, Copy, Debug)]
 pub struct Counted {
-    /// Their number.
+    /// The count.
     pub count: u64,
-    /// The word for one.
+    /// The noun for a count of 1.
     pub one: &'static str,
-    /// The word for any other number.
+    /// The noun for any other count.
     pub many: &'static str,
 }
 

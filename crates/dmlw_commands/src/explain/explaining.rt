@@ -1,4 +1,6 @@
-//! What `--explain` adds to how a command ended, from the result and the names of its files.
+//! What `--explain` adds after a command's report, given the command's result and the names of its
+//! files. Each function returns lines that begin with two spaces. The text is empty if not
+//! `explains`, if there is nothing to add, or if memory ran out.
 ghost use Rattle.std.specs.Prelude.{◌≡◌, [], false};
 ghost use Rattle.std.specs.String.{string_bytes};
 ghost use Rattle.dmlw_files.specs.Files.{KeepsFiles};
@@ -17,8 +19,7 @@ use std::alloc::Global;
 use std::fmt;
 use std::fmt::Write;
 
-/// Returns what `--explain` adds to how a recording ended: lines that each begin with two spaces.
-/// Empty if it isn't asked for, if there is nothing to add, or if there is no memory for it.
+/// Returns what `--explain` adds after a recording with the result `done`.
 pub fn explain_recording<F: Files>(
     alloc: Global,
     explains: bool,
@@ -46,7 +47,7 @@ pub fn explain_recording<F: Files>(
     }
 }
 
-/// Returns what `--explain` adds to how a run of seats ended, likewise.
+/// Returns what `--explain` adds after a run of seats.
 pub fn explain_running<F: Files>(
     alloc: Global,
     explains: bool,
@@ -74,7 +75,7 @@ pub fn explain_running<F: Files>(
     }
 }
 
-/// Returns what `--explain` adds to how a command on a log ended, likewise.
+/// Returns what `--explain` adds after `list` or `status`.
 pub fn explain_reading<F: Files>(
     alloc: Global,
     explains: bool,
@@ -96,7 +97,7 @@ pub fn explain_reading<F: Files>(
     }
 }
 
-/// Returns what `--explain` adds to how a judging of an image ended, likewise.
+/// Returns what `--explain` adds after a fault of `judge` or `path`.
 pub fn explain_judging<F: Files>(
     alloc: Global,
     explains: bool,
@@ -124,13 +125,13 @@ pub fn explain_judging<F: Files>(
 pub struct ReplayNames<'a> {
     /// The log that is replayed.
     pub log: &'a str,
-    /// The image that it is replayed on.
+    /// The image on which the log is replayed.
     pub first: &'a str,
     /// The image that is written.
     pub out: &'a str,
 }
 
-/// Returns what `--explain` adds to how a replay of these files ended, likewise.
+/// Returns what `--explain` adds after a replay.
 pub fn explain_replaying<F: Files>(
     alloc: Global,
     explains: bool,
@@ -152,7 +153,7 @@ pub fn explain_replaying<F: Files>(
     }
 }
 
-// Writes what there is to add about a replay with this result.
+// Writes the explanation of a replay with this result.
 fn write_replaying<F: Files, W: Write>(
     alloc: Global,
     done: Result<u64, RunError>,
@@ -188,7 +189,7 @@ pub struct CopyNames<'a> {
     pub out: &'a str,
 }
 
-/// Returns what `--explain` adds to how a copy of a log ended, likewise.
+/// Returns what `--explain` adds after a copy.
 pub fn explain_copying<F: Files>(
     alloc: Global,
     explains: bool,
@@ -210,7 +211,7 @@ pub fn explain_copying<F: Files>(
     }
 }
 
-// Writes what there is to add about a copy with this result.
+// Writes the explanation of a copy with this result.
 fn write_copying<F: Files, W: Write>(
     alloc: Global,
     done: Result<u64, RunError>,
@@ -240,7 +241,7 @@ fn write_copying<F: Files, W: Write>(
     }
 }
 
-// The names of the files of a recording or a run, and of which kind its script is.
+// The names of the files of a recording or a run, and the kind of its script.
 #[derive(Clone, Copy)]
 struct ScriptNames<'a> {
     grammar: Grammar,
@@ -248,7 +249,7 @@ struct ScriptNames<'a> {
     log: &'a str,
 }
 
-// Writes what there is to add about a recording or a run that had this fault, or none.
+// Writes the explanation of a recording or a run with this fault, or without a fault.
 fn write_recording<F: Files, W: Write>(
     alloc: Global,
     fault: Option<Fault>,
@@ -274,7 +275,7 @@ fn write_recording<F: Files, W: Write>(
     }
 }
 
-// Writes the line of a script that is at fault, and what helps.
+// Writes the faulty line of a script, and advice.
 fn write_line_of<F: Files, W: Write>(
     alloc: Global,
     grammar: Grammar,
@@ -291,7 +292,7 @@ fn write_line_of<F: Files, W: Write>(
     write_line(grammar, script, &text, number, refusal, to)
 }
 
-// Writes what there is to add about a command on a log with this result.
+// Writes the explanation of `list` or `status` with this result.
 fn write_reading<F: Files, W: Write>(
     alloc: Global,
     done: Result<(), RunError>,
@@ -311,7 +312,7 @@ fn write_reading<F: Files, W: Write>(
     }
 }
 
-// Writes what there is to add about a judging with this result.
+// Writes the explanation of `judge` or `path` with this result.
 fn write_judging<F: Files, W: Write>(
     alloc: Global,
     done: Result<(), RunError>,
@@ -334,7 +335,7 @@ fn write_judging<F: Files, W: Write>(
     }
 }
 
-// Returns the fault that ended a recording before its time, if one did.
+// Returns the fault that ended a recording early, if there is one.
 fn fault_of(done: Result<Status, RunError>) -> Option<Fault> {
     match done {
         Ok(status) => {
@@ -345,7 +346,7 @@ fn fault_of(done: Result<Status, RunError>) -> Option<Fault> {
     }
 }
 
-// Writes that a recorder's script has no `close`, if it has none.
+// Writes that the script of a recording has no `close`, if it has none.
 fn write_unclosed<F: Files, W: Write>(
     alloc: Global,
     grammar: Grammar,

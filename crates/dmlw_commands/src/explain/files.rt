@@ -1,5 +1,5 @@
-//! Which file of a command can't be used, and why. What was read is read again for it; if it can't
-//! be, nothing is printed.
+//! Explains which file of a command can't be used, and why. Files are read again to find this out.
+//! If a file can't be read again, nothing is printed about it.
 ghost use Rattle.std.specs.Prelude.{◌≡◌};
 ghost use Rattle.dmlw_files.specs.Files.{KeepsFiles};
 
@@ -9,7 +9,7 @@ use std::alloc::Global;
 use std::fmt::Write;
 use std::{fmt, io};
 
-/// Writes that two names are those of one file.
+/// Writes that two names are the same file.
 pub(crate) fn write_same<W: Write>(one: &str, other: &str, over: &str, to: &mut W) -> fmt::Result {
     writeln!(to, "  {one} and {other} are one file: {over}")
 }
@@ -37,7 +37,7 @@ pub(crate) fn write_file_of_recording<F: Files, W: Write>(
     write_output(to)
 }
 
-/// Writes which of a script and an image can't be used, and why.
+/// Writes whether the script or the image can't be used, and why.
 pub(crate) fn write_file_of_judging<F: Files, W: Write>(
     alloc: Global,
     script: &str,
@@ -54,7 +54,7 @@ pub(crate) fn write_file_of_judging<F: Files, W: Write>(
     write_output(to)
 }
 
-/// Writes why the file of a log can't be used, or that the output can't.
+/// Writes why the log's file can't be used, or that the output can't be used.
 pub(crate) fn write_file_of_reading<F: Files, W: Write>(
     alloc: Global,
     log: &str,
@@ -70,8 +70,8 @@ pub(crate) fn write_file_of_reading<F: Files, W: Write>(
     write_output(to)
 }
 
-/// Writes which of a log, a first image and an image that is written can't be used, and why; a copy
-/// has no first image, and names its log twice.
+/// Writes whether the log, the first image or the written image can't be used, and why. A copy has
+/// no first image, and passes its log as `first` too.
 pub(crate) fn write_file_of_writing<F: Files, W: Write>(
     alloc: Global,
     log: &str,
@@ -116,7 +116,7 @@ fn write_output<W: Write>(to: &mut W) -> fmt::Result {
     writeln!(to, "  the standard output can't be written")
 }
 
-// Writes why a script's file can't be read, and returns whether it can't.
+// Writes why a script's file can't be read. Returns true if it can't.
 fn write_script_file<F: Files, W: Write>(
     alloc: Global,
     script: &str,
@@ -133,7 +133,7 @@ fn write_script_file<F: Files, W: Write>(
     Ok(true)
 }
 
-// Writes why a file isn't an image, and returns whether it isn't, or can't be read again.
+// Writes why a file isn't an image. Returns true if it isn't, or if it can't be read again.
 fn write_image_file<F: Files, W: Write>(
     alloc: Global,
     image: &str,
@@ -155,7 +155,7 @@ fn write_image_file<F: Files, W: Write>(
     }
 }
 
-// Writes how a log that is too long is cut.
+// Writes how to cut a log that is too long.
 fn write_cut<W: Write>(image: &str, to: &mut W) -> fmt::Result {
     writeln!(
         to,
@@ -163,7 +163,7 @@ fn write_cut<W: Write>(image: &str, to: &mut W) -> fmt::Result {
     )
 }
 
-// Writes that an image can't have `length` bytes, if it can't, and returns whether that is so.
+// Writes that an image can't have `length` bytes. Returns true if it can't.
 fn write_length<W: Write>(image: &str, length: u64, to: &mut W) -> Result<bool, fmt::Error> {
     let over = length % SECTOR_BYTES;
     if length == 0 {
@@ -180,8 +180,8 @@ fn write_length<W: Write>(image: &str, length: u64, to: &mut W) -> Result<bool, 
     Ok(length == 0 || over != 0)
 }
 
-// Returns whether a read fails for this reason only if the file was read before. A refusal for lack
-// of memory is no refusal of a file.
+// Returns whether a read failed because the file was read before, or because memory ran out.
+// Neither is the fault of the file.
 fn is_of_rereading(kind: io::ErrorKind) -> bool {
     kind == io::ErrorKind::NotSeekable || kind == io::ErrorKind::OutOfMemory
 }

@@ -1,5 +1,5 @@
-//! What is printed of a wrong line of a layer: which of its words is at fault, and the form that
-//! the line should have.
+//! Explains a wrong line of a layer: which of its words is wrong, and which form the line should
+//! have.
 use crate::explain::line::Shown;
 use crate::explain::script_text::{is_space, number_at, word_at};
 use refusals::number_of;
@@ -16,8 +16,8 @@ const MAX_DELAY: u64 = 4_294_967_295;
 
 const MAX_BLOCK: u64 = 1_073_741_824;
 
-// The form of a layer's line after its first word, and which of its words are numbers. The first
-// word of the script's line is word 0.
+// The form of a layer's line after its first word, and the indexes of its words that are numbers.
+// Word 0 is the first word of the script's line.
 #[derive(Clone, Copy)]
 struct LayerForm {
     form: &'static str,
@@ -61,8 +61,7 @@ const DELAY: LayerForm = LayerForm {
     numbers: &[1, 2, 5, 6, 8, 9, 11, 12],
 };
 
-// Returns the form of the lines with the target that a script's line names, if there is such a
-// target.
+// Returns the form of lines with the target that `line` names. None if there is no such target.
 fn form_of(line: &[u8]) -> Option<LayerForm> {
     match word_at(line, 3)? {
         b"linear" => Some(LINEAR),
@@ -75,7 +74,7 @@ fn form_of(line: &[u8]) -> Option<LayerForm> {
     }
 }
 
-/// Writes that a layer's target is none.
+/// Writes that a layer's line names an unknown target.
 pub(crate) fn write_unknown_target<W: Write>(line: &[u8], to: &mut W) -> fmt::Result {
     let word = Shown(word_at(line, 3).unwrap_or_default());
     writeln!(
@@ -103,7 +102,7 @@ pub(crate) fn write_wrong_count<W: Write>(line: &[u8], to: &mut W) -> fmt::Resul
     }
 }
 
-/// Writes which word of a layer's line should be a number and isn't.
+/// Writes which word of a layer's line should be a number but isn't.
 pub(crate) fn write_bad_number<W: Write>(line: &[u8], to: &mut W) -> fmt::Result {
     let Some(LayerForm { form, numbers, .. }) = form_of(line) else {
         return Ok(());

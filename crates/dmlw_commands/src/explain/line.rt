@@ -1,5 +1,5 @@
-//! Explains a line that isn't one of a script's, or isn't in its place: by the usual cause, the
-//! first word that doesn't fit, or what its place asks for.
+//! Explains a line that a script can't have, or can't have at this point: by a usual mistake, the
+//! first wrong word, or what a line at this point needs.
 use crate::explain::places::write_place;
 use crate::explain::script_text::{Grammar, Numbered, is_space};
 use dmlw_script::{recorder_forms, seat_forms};
@@ -7,18 +7,18 @@ use refusals::number_of;
 use std::fmt;
 use std::fmt::Write;
 
-// Stands for a seat in a form.
+// The word for a seat in a form.
 const SEAT: &[u8] = b"s<k>";
 
-// The end of a crash line's form.
+// The end of the form of a crash line.
 const PICK: &[u8] = b"<pick> ..";
 
 // The most bytes of a line that are shown.
 const SHOWN_BYTES: usize = 100;
 
-/// Explains a line of a script's text that isn't one of a script's, or isn't in its place. Writes
-/// the usual cause if there is one, or else the first word that doesn't fit the form of its first
-/// word, or what its place asks for.
+/// Explains a line that a script can't have, or can't have at this point. Writes a usual mistake if
+/// there is one. Otherwise writes the first word that doesn't fit the line's form, or what a line
+/// at this point needs.
 pub(crate) fn explain_line<W: Write>(
     grammar: Grammar,
     text: &[u8],
@@ -42,7 +42,7 @@ pub(crate) fn explain_line<W: Write>(
     }
 }
 
-// Writes that no kind of line begins like this, and lists the kinds.
+// Writes that no line begins with this word, and lists the forms of lines.
 fn write_unknown<W: Write>(grammar: Grammar, line: &[u8], to: &mut W) -> fmt::Result {
     let word = Shown(line.split(is_space).next().unwrap_or_default());
     if form_of(other_of(grammar), line).is_some() {
@@ -68,7 +68,7 @@ fn write_unknown<W: Write>(grammar: Grammar, line: &[u8], to: &mut W) -> fmt::Re
     write_forms(grammar, to)
 }
 
-// Returns the other kind of scripts.
+// Returns the other kind of script.
 fn other_of(grammar: Grammar) -> Grammar {
     match grammar {
         Grammar::Recorder => Grammar::Seats,
@@ -91,7 +91,7 @@ fn forms_of(grammar: Grammar) -> &'static [&'static str] {
     }
 }
 
-/// Bytes of a script, printed with escapes, the first 100 at most.
+/// Bytes of a script, printed with escapes; at most the first 100.
 #[derive(Clone, Copy)]
 pub(crate) struct Shown<'a>(pub(crate) &'a [u8]);
 
@@ -141,8 +141,8 @@ fn cause_of(line: &[u8]) -> Option<&'static str> {
     None
 }
 
-// Returns whether the text of a line is taken as it is, as for a mark or a message, or its words
-// have their own rule, as for a layer's table line.
+// Returns whether a line has its own rules for words: a mark or a message, whose text is free, or a
+// layer's table line.
 fn has_own_words(line: &[u8]) -> bool {
     line.starts_with(b"mark ".as_slice())
         || line.starts_with(b"message ".as_slice())
@@ -150,7 +150,7 @@ fn has_own_words(line: &[u8]) -> bool {
         || line.starts_with(b"log-layer ".as_slice())
 }
 
-// Returns the form of the lines that begin as this one.
+// Returns the form of lines that begin like `line`.
 fn form_of(grammar: Grammar, line: &[u8]) -> Option<&'static str> {
     for form in forms_of(grammar) {
         if begins_as(form.as_bytes(), line) {
@@ -160,8 +160,8 @@ fn form_of(grammar: Grammar, line: &[u8]) -> Option<&'static str> {
     None
 }
 
-// Returns whether a line begins as a form: with its first word, of a seat's line with its second
-// one too.
+// Returns whether `line` begins like `form`: with the same first word, and in a seat's line also
+// the same second word.
 fn begins_as(form: &[u8], line: &[u8]) -> bool {
     let mut words = line.split(is_space);
     let mut wanted = form.split(is_space);
@@ -172,8 +172,8 @@ fn begins_as(form: &[u8], line: &[u8]) -> bool {
     first != SEAT || words.next() == wanted.next()
 }
 
-// Writes which word of a line is the first that doesn't fit a form. If all fit, writes what its
-// place asks for.
+// Writes the first word of a line that doesn't fit a form. If all words fit, writes what a line at
+// this point needs.
 fn write_bad_word<W: Write>(
     grammar: Grammar,
     text: &[u8],
@@ -204,14 +204,14 @@ fn write_bad_word<W: Write>(
     }
 }
 
-// What of a line doesn't fit a form.
+// How a line doesn't fit a form.
 enum BadWord<'a> {
     None,
     // A word of this kind is missing.
     Missing(&'a [u8]),
-    // The kind that is asked for, and the word in its place.
+    // The kind of word that is needed, and the word that is there.
     Misfit(&'a [u8], &'a [u8]),
-    // This word is after all that the form has.
+    // This word comes after all words of the form.
     TooMany(&'a [u8]),
 }
 
@@ -224,7 +224,7 @@ fn flaw_of<'a>(line: &'a [u8], form: &'a [u8]) -> BadWord<'a> {
     let mut next = words.next();
     for wanted in form.split(is_space) {
         match next {
-            // What follows is one text, or has a grammar of its own.
+            // The rest of the line is a free text, or has its own grammar.
             Some(_) if wanted == b"<text>".as_slice() || wanted == b"0".as_slice() =>
                 return BadWord::None,
             Some(word) if fits(wanted, word) => next = words.next(),
@@ -248,7 +248,7 @@ fn pick_flaw(line: &[u8]) -> BadWord<'_> {
     BadWord::None
 }
 
-// Returns whether a word is of the kind that a form has in its place.
+// Returns whether a word is of the kind `wanted`, a word of a form.
 fn fits(wanted: &[u8], word: &[u8]) -> bool {
     match wanted {
         b"<id>" => is_id(word),
@@ -261,7 +261,7 @@ fn fits(wanted: &[u8], word: &[u8]) -> bool {
     }
 }
 
-// Returns what a word of a kind means, in words.
+// Describes the words of the kind `wanted`.
 fn meaning_of(wanted: &[u8]) -> &'static str {
     match wanted {
         b"<id>" => "1 to 16 of the characters a to z and 0 to 9",
@@ -275,7 +275,7 @@ fn is_id(word: &[u8]) -> bool {
     !word.is_empty() && word.len() <= 16 && word.iter().all(is_letter_of_id)
 }
 
-// Returns whether a word names a seat, whether or not the script has that seat.
+// Returns whether a word has the form of a seat's name; the script may lack this seat.
 fn is_seat(word: &[u8]) -> bool {
     match word {
         [b's', number @ ..] => number_of(number).is_some(),

@@ -1,5 +1,5 @@
-//! Explains a message that a layer refused: whether the layer is there and takes messages, or what
-//! is known of the block.
+//! Explains why a layer refused a message: whether there is such a layer, whether it takes
+//! messages, and what the script did to the block before.
 use crate::explain::counted::Counted;
 use crate::explain::line::Shown;
 use crate::explain::script_text::{Numbered, count_of, nth_of, number_at, word_at};
@@ -7,7 +7,7 @@ use refusals::Refusal;
 use std::fmt;
 use std::fmt::Write;
 
-/// Writes why a message of a script of this text gets this refusal.
+/// Writes why a message in a script gets this refusal.
 pub(crate) fn write_message<W: Write>(
     text: &[u8],
     line: Numbered,
@@ -25,7 +25,7 @@ pub(crate) fn write_message<W: Write>(
     }
 }
 
-// Writes why a layer takes no such message.
+// Writes why a layer doesn't take the message.
 fn write_bad_message<W: Write>(text: &[u8], line: Numbered, to: &mut W) -> fmt::Result {
     let (disk, layers) = match word_at(line.text, 1) {
         Some(b"data") => ("data disk", b"data-layer".as_slice()),
@@ -54,7 +54,7 @@ fn write_bad_message<W: Write>(text: &[u8], line: Numbered, to: &mut W) -> fmt::
     write_words(layer, line, to)
 }
 
-// Writes which messages a dust layer takes, and how many blocks this one has.
+// Writes which messages a dust layer takes, and how many blocks the layer has.
 fn write_words<W: Write>(layer: &[u8], line: Numbered, to: &mut W) -> fmt::Result {
     if let (Some(block), Some(blocks)) = (number_at(line.text, 4), blocks_of(layer)) {
         if block >= blocks {
@@ -70,7 +70,7 @@ fn write_words<W: Write>(layer: &[u8], line: Numbered, to: &mut W) -> fmt::Resul
     )
 }
 
-// Returns how many blocks a dust layer has: the last may be cut short.
+// Returns how many blocks a dust layer has. The last block may be shorter.
 fn blocks_of(layer: &[u8]) -> Option<u64> {
     let sectors = number_at(layer, 2)?;
     let bytes = number_at(layer, 6)?;

@@ -1,4 +1,4 @@
-//! What the place of a script's line asks for, if its words are right.
+//! Explains why a script can't have a line at this point, though the line's words are right.
 use crate::explain::line::Shown;
 use crate::explain::script_text::{
     Grammar, Numbered, begins_with, count_of, first_of_body, line_of, number_at, word_at,
@@ -9,7 +9,8 @@ use std::fmt::Write;
 // The most layers over one disk.
 const MAX_LAYERS: u64 = 4;
 
-/// Writes why a line of right words isn't in its place, or which of its numbers isn't in its range.
+/// Writes why a line with right words can't be at this point, or which of its numbers is out of
+/// range.
 pub(crate) fn write_place<W: Write>(
     grammar: Grammar,
     text: &[u8],
@@ -30,7 +31,7 @@ pub(crate) fn write_place<W: Write>(
     }
 }
 
-// Returns the lines of a head, in their order.
+// Returns the lines of a script's head, in order.
 fn head_of(grammar: Grammar) -> &'static str {
     match grammar {
         Grammar::Recorder => "`data`, and then `log`",
@@ -38,7 +39,8 @@ fn head_of(grammar: Grammar) -> &'static str {
     }
 }
 
-// Returns the first word of the line that a script's head lacks before a line, if it lacks one.
+// Returns the first word of the next line that the head still lacks before the line `before`. None
+// if the head is complete.
 fn next_of_head(grammar: Grammar, text: &[u8], before: u64) -> Option<&'static str> {
     if line_of(text, before, b"data").is_none() {
         Some("data")
@@ -51,7 +53,7 @@ fn next_of_head(grammar: Grammar, text: &[u8], before: u64) -> Option<&'static s
     }
 }
 
-// Writes the range that the number of a head's line isn't in.
+// Writes the allowed range of the number in a line of the head.
 fn write_range<W: Write>(line: Numbered, to: &mut W) -> fmt::Result {
     let number = Shown(word_at(line.text, 1).unwrap_or_default());
     let range = match word_at(line.text, 0) {
@@ -62,8 +64,7 @@ fn write_range<W: Write>(line: Numbered, to: &mut W) -> fmt::Result {
     writeln!(to, "  the number {number} is out of range: it is {range}")
 }
 
-// Writes why a line can't come after the head's lines, or can't come here among the layers and the
-// others.
+// Writes why a line can't come after the head, or at this point among layers and other lines.
 fn write_behind_head<W: Write>(text: &[u8], line: Numbered, to: &mut W) -> fmt::Result {
     match word_at(line.text, 0) {
         Some(b"data") => write_twice(text, line, b"data", to),
@@ -77,7 +78,7 @@ fn write_behind_head<W: Write>(text: &[u8], line: Numbered, to: &mut W) -> fmt::
     }
 }
 
-// Writes that the script has this line already, which it may have once.
+// Writes that the script already has this line, and that it may have only one.
 fn write_twice<W: Write>(text: &[u8], line: Numbered, word: &[u8], to: &mut W) -> fmt::Result {
     let Some(Numbered { number, .. }) = line_of(text, line.number, word) else {
         return Ok(());
@@ -117,7 +118,7 @@ fn write_layer<W: Write>(text: &[u8], line: Numbered, word: &[u8], to: &mut W) -
     )
 }
 
-// Writes that a moment goes back.
+// Writes that a line's time is before an earlier line's time.
 fn write_moment<W: Write>(text: &[u8], line: Numbered, to: &mut W) -> fmt::Result {
     let Some(
         Numbered {
@@ -136,7 +137,7 @@ fn write_moment<W: Write>(text: &[u8], line: Numbered, to: &mut W) -> fmt::Resul
     )
 }
 
-// Writes that there is no such seat, and which seats there are.
+// Writes that the script doesn't have this seat, and which seats it has.
 fn write_seat<W: Write>(text: &[u8], line: Numbered, seat: &[u8], to: &mut W) -> fmt::Result {
     let Some(Numbered { text: seats, .. }) = line_of(text, line.number, b"seats") else {
         return Ok(());

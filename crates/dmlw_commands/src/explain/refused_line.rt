@@ -1,4 +1,4 @@
-//! What is printed of a line of a script at which a command was refused, from the lines before it.
+//! Explains the line of a script at which a command was refused, from the lines before it.
 use crate::explain::advice::advice;
 use crate::explain::counted::{Counted, counted_sectors};
 use crate::explain::layers::{
@@ -14,8 +14,8 @@ use refusals::{Refusal, number_of};
 use std::fmt;
 use std::fmt::Write;
 
-/// Writes the line of this number of a script's text, at which a command was refused by this, and
-/// what helps.
+/// Writes line `number` of a script, at which a command was refused, why it was refused, and
+/// advice.
 pub(crate) fn write_line<W: Write>(
     grammar: Grammar,
     script: &str,
@@ -24,7 +24,7 @@ pub(crate) fn write_line<W: Write>(
     refusal: Refusal,
     to: &mut W,
 ) -> fmt::Result {
-    // An empty line is at fault only if the script ends there.
+    // An empty line is faulty only if the script ends there.
     let Some(line) = line_at(text, number).filter(|line| !line.is_empty()) else {
         return write_too_short(grammar, script, text, number, to);
     };
@@ -48,7 +48,7 @@ pub(crate) fn write_line<W: Write>(
     }
 }
 
-// Returns the lines that a script begins with.
+// Returns the lines with which a script begins.
 fn head_of(grammar: Grammar) -> &'static str {
     match grammar {
         Grammar::Recorder => "`data` and `log`",
@@ -56,7 +56,7 @@ fn head_of(grammar: Grammar) -> &'static str {
     }
 }
 
-// Writes what helps against a refusal, if there is such a sentence.
+// Writes the advice about a refusal, if there is any.
 fn write_sentence<W: Write>(refusal: Refusal, to: &mut W) -> fmt::Result {
     match advice(refusal) {
         "" => Ok(()),
@@ -64,7 +64,7 @@ fn write_sentence<W: Write>(refusal: Refusal, to: &mut W) -> fmt::Result {
     }
 }
 
-// Writes that a script ends before its head is whole.
+// Writes that a script ends before its head is complete.
 fn write_too_short<W: Write>(
     grammar: Grammar,
     script: &str,
@@ -82,7 +82,8 @@ fn write_too_short<W: Write>(
     write_forms(grammar, to)
 }
 
-// Writes why an id can't be submitted or ended: an earlier line did so, or none submitted it.
+// Writes why an id can't be submitted or ended: an earlier line did it, or no line submitted the
+// id.
 fn write_id<W: Write>(text: &[u8], line: Numbered, to: &mut W) -> fmt::Result {
     let id = word_at(line.text, 1).unwrap_or_default();
     let shown = Shown(id);
@@ -107,9 +108,9 @@ fn write_id<W: Write>(text: &[u8], line: Numbered, to: &mut W) -> fmt::Result {
     }
 }
 
-// Returns the first sector and the number of sectors of a line's request, if the line names them.
+// Returns the first sector and the sector count of a line's request, if the line has them.
 fn range_of(grammar: Grammar, line: &[u8]) -> Option<(u64, u64)> {
-    // A line `r <first> <count>` has them as words 1 and 2, any other as words 2 and 3.
+    // In a line `r <first> <count>` they are words 1 and 2, in other lines words 2 and 3.
     let place = match grammar {
         Grammar::Recorder if word_at(line, 0) == Some(b"r".as_slice()) => 1,
         _ => 2,
@@ -119,8 +120,8 @@ fn range_of(grammar: Grammar, line: &[u8]) -> Option<(u64, u64)> {
     Some((first, count))
 }
 
-// Returns the number of sectors of a disk before a line, as seen from the top of its layers: that
-// of the disk, or of its last layer.
+// Returns a disk's sector count at a line, seen from the top of its layers: that of the last layer
+// before the line, or of the disk.
 fn sectors_of(text: &[u8], before: u64, disk: &[u8], layer: &[u8]) -> Option<u64> {
     match line_of(text, before, layer) {
         Some(Numbered { text: line, .. }) => number_at(line, 2),
@@ -128,7 +129,7 @@ fn sectors_of(text: &[u8], before: u64, disk: &[u8], layer: &[u8]) -> Option<u64
     }
 }
 
-// Writes how far a request reaches, and how far the data disk.
+// Writes where a request ends, and where the data disk ends.
 fn write_past_end<W: Write>(
     grammar: Grammar,
     text: &[u8],
@@ -152,7 +153,7 @@ fn write_past_end<W: Write>(
     }
 }
 
-// Writes how many sectors a request has, and how many it may have.
+// Writes a request's sector count, and the most that it may have.
 fn write_too_long<W: Write>(grammar: Grammar, line: Numbered, to: &mut W) -> fmt::Result {
     match range_of(grammar, line.text) {
         Some((_, count)) => writeln!(to, "  the request has {count} sectors; the maximum is 2048"),
@@ -160,7 +161,7 @@ fn write_too_long<W: Write>(grammar: Grammar, line: Numbered, to: &mut W) -> fmt
     }
 }
 
-// Writes how many requests are open at a close.
+// Writes how many requests are still open at a close.
 fn write_busy<W: Write>(text: &[u8], line: Numbered, to: &mut W) -> fmt::Result {
     let open = Counted {
         count: open_requests(text, line.number),
@@ -173,8 +174,8 @@ fn write_busy<W: Write>(text: &[u8], line: Numbered, to: &mut W) -> fmt::Result 
     )
 }
 
-// Writes that a layer ends past what is below it, if it does, and else that one of its numbers is
-// out of range.
+// Writes that a layer reaches past the end of the device below it. If it doesn't, writes that one
+// of the layer's numbers is out of range.
 fn write_out_of_range<W: Write>(text: &[u8], line: Numbered, to: &mut W) -> fmt::Result {
     let beneath = match word_at(line.text, 0) {
         Some(b"data-layer") => sectors_of(text, line.number, b"data", b"data-layer"),
@@ -192,8 +193,8 @@ fn write_out_of_range<W: Write>(text: &[u8], line: Numbered, to: &mut W) -> fmt:
     }
 }
 
-// Returns the place on what is below at which a layer begins, and its length, if its line has both.
-// An error layer begins at 0.
+// Returns the first sector that a layer uses on the device below it, and the layer's length. None
+// if the line lacks one. An error layer begins at 0.
 fn layer_range(line: &[u8]) -> Option<(u64, u64)> {
     let length = number_at(line, 2)?;
     match word_at(line, 5) {

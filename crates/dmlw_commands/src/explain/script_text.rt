@@ -1,8 +1,8 @@
-//! A script as a text: its lines by number and first word, which is all that an explanation of one
-//! line asks of the others.
+//! A script as text: finds lines by number and first word, and the ids of requests. The explanation
+//! of one line uses this to look at the other lines.
 use refusals::number_of;
 
-/// The two kinds of scripts, of which a text has to be one.
+/// The two kinds of script.
 #[derive(Clone, Copy, PartialEq, Eq)]
 pub(crate) enum Grammar {
     /// The scripts of `record`, `judge` and `path`.
@@ -26,13 +26,13 @@ pub(crate) fn is_space(byte: &u8) -> bool {
     *byte == b' '
 }
 
-/// Returns the line of this number, if a text has it.
+/// Returns line `number` of a text, if the text has this line.
 pub(crate) fn line_at(text: &[u8], number: u64) -> Option<&[u8]> {
     text.split(is_line_end)
         .nth(number.saturating_sub(1) as usize)
 }
 
-/// Returns whether one of a text's lines is this.
+/// Returns whether a text has the line `wanted`.
 pub(crate) fn has_line(text: &[u8], wanted: &[u8]) -> bool {
     for line in text.split(is_line_end) {
         if line == wanted {
@@ -42,12 +42,12 @@ pub(crate) fn has_line(text: &[u8], wanted: &[u8]) -> bool {
     false
 }
 
-/// Returns the word of a line at this place, counted from 0.
+/// Returns word `place` of a line, counted from 0.
 pub(crate) fn word_at(line: &[u8], place: usize) -> Option<&[u8]> {
     line.split(is_space).filter(is_filled).nth(place)
 }
 
-/// Returns the number that the word of a line at this place is, if it is one.
+/// Returns word `place` of a line as a number, if it is a number.
 pub(crate) fn number_at(line: &[u8], place: usize) -> Option<u64> {
     number_of(word_at(line, place)?)
 }
@@ -56,12 +56,12 @@ fn is_filled(word: &&[u8]) -> bool {
     !word.is_empty()
 }
 
-/// Returns whether the first word of a line is this.
+/// Returns whether the first word of a line is `word`.
 pub(crate) fn begins_with(line: &[u8], word: &[u8]) -> bool {
     word_at(line, 0) == Some(word)
 }
 
-/// Returns the last line before a number that begins with this word.
+/// Returns the last line before line `before` that begins with `word`.
 pub(crate) fn line_of<'a>(text: &'a [u8], before: u64, word: &[u8]) -> Option<Numbered<'a>> {
     let mut found = None;
     let mut number: u64 = 0;
@@ -77,7 +77,7 @@ pub(crate) fn line_of<'a>(text: &'a [u8], before: u64, word: &[u8]) -> Option<Nu
     found
 }
 
-/// Returns how many lines before a number begin with this word.
+/// Counts the lines before line `before` that begin with `word`.
 pub(crate) fn count_of(text: &[u8], before: u64, word: &[u8]) -> u64 {
     let mut count: u64 = 0;
     let mut number: u64 = 0;
@@ -93,8 +93,8 @@ pub(crate) fn count_of(text: &[u8], before: u64, word: &[u8]) -> u64 {
     count
 }
 
-/// Returns the line before a number that begins with this word, by its number among these, counted
-/// from 1.
+/// Returns one of the lines before line `before` that begin with `word`: the n-th of these lines,
+/// counted from 1.
 pub(crate) fn nth_of<'a>(
     text: &'a [u8],
     before: u64,
@@ -118,8 +118,8 @@ pub(crate) fn nth_of<'a>(
     None
 }
 
-/// Returns the first line before a number that is after the head: no comment, no empty line, and
-/// none of the head's lines.
+/// Returns the first line before line `before` that is after the head: not a comment, not empty,
+/// and not a line of the head.
 pub(crate) fn first_of_body(text: &[u8], before: u64) -> Option<Numbered<'_>> {
     let mut number: u64 = 0;
     for line in text.split(is_line_end) {
@@ -134,7 +134,7 @@ pub(crate) fn first_of_body(text: &[u8], before: u64) -> Option<Numbered<'_>> {
     None
 }
 
-// Returns whether a line is skipped, or is in a script's head.
+// Returns whether a line is skipped, or belongs to a script's head.
 fn is_of_head(line: &[u8]) -> bool {
     let first = line.split(is_space).next().unwrap_or_default();
     match first {
@@ -143,7 +143,7 @@ fn is_of_head(line: &[u8]) -> bool {
     }
 }
 
-/// Returns the line before a number that submits the request of this id.
+/// Returns the line before line `before` that submits the request `id`.
 pub(crate) fn submission_of<'a>(text: &'a [u8], before: u64, id: &[u8]) -> Option<Numbered<'a>> {
     let mut number: u64 = 0;
     for line in text.split(is_line_end) {
@@ -158,7 +158,7 @@ pub(crate) fn submission_of<'a>(text: &'a [u8], before: u64, id: &[u8]) -> Optio
     None
 }
 
-/// Returns the line before a number that ends the request of this id.
+/// Returns the line before line `before` that ends the request `id`.
 pub(crate) fn end_of<'a>(text: &'a [u8], before: u64, id: &[u8]) -> Option<Numbered<'a>> {
     let mut number: u64 = 0;
     for line in text.split(is_line_end) {
@@ -173,8 +173,8 @@ pub(crate) fn end_of<'a>(text: &'a [u8], before: u64, id: &[u8]) -> Option<Numbe
     None
 }
 
-/// Returns how many requests are submitted before a line, and ended nowhere before it, in a script
-/// that is read up to there.
+/// Counts the requests that are submitted but not ended before line `before`. The script has to be
+/// readable up to this line.
 pub(crate) fn open_requests(text: &[u8], before: u64) -> u64 {
     let mut open: u64 = 0;
     let mut number: u64 = 0;

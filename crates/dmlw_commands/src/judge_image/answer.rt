@@ -1,4 +1,4 @@
-//! A kind of answer about an image: how it is found, printed, and ends the command.
+//! A kind of answer about an image: how it is found and printed, and how it ends the command.
 ghost use Rattle.std.specs.Prelude.{◌≡◌, ◌/◌, ◌%◌, IfOk, OnOk, [], false, length, take, true};
 ghost use Rattle.std.specs.String.{string_bytes};
 ghost use Rattle.dmlw_files.specs.Files.{KeepsFiles};
@@ -14,14 +14,14 @@ use std::alloc::{AllocError, Global};
 use std::io;
 use std::io::Write;
 
-// An answer about an image. `judge` and `path` are one command, except for this.
+// An answer about an image. Only the kind of answer differs between `judge` and `path`.
 pub(crate) trait Answer: Drop {
-    // What an answer says, what is printed of it, and how it ends the command.
+    // What the answer claims, what is printed, and how it ends the command.
     ghost meaning: { Meaning Self };
 
-    // Finds the answer after the first `moment` of the events, if the device held zeroes before the
-    // first event. `events` is a list that a recorder of the device may have recorded; the image
-    // has the device's length in bytes, whole sectors of 512. Lack of memory is the only error.
+    // Finds the answer after the first `moment` events, on a device that held zeroes at first. A
+    // recorder of the device could have recorded `events`. The image has the device's size, in
+    // whole sectors of 512 bytes. The only error is that memory ran out.
     fn on_image(
         alloc: Global,
         events: &[CoreEvent],
@@ -39,8 +39,8 @@ pub(crate) trait Answer: Drop {
         ensures { OnOk result (Appends (O.contents out.old) (O.contents out.new)
             (meaning.printed self.now)) };
 
-    // Returns what `--explain` adds after the answer, by the script in a file: lines that each
-    // begin with two spaces. Empty if it isn't asked for.
+    // Returns what `--explain` adds after the answer: lines that each begin with two spaces.
+    // `script` is the script's file. The result is empty if not `explains`.
     fn explain<F: Files>(
         &self,
         alloc: Global,
@@ -52,7 +52,7 @@ pub(crate) trait Answer: Drop {
         ensures kept { KeepsFiles (F.contents files.old) (F.contents files.new) }
         ensures unwritten { F.writes files.new ≡ F.writes files.old };
 
-    // Returns how the answer ends the command.
+    // Returns the exit of a command with this answer.
     fn exit(&self) -> Exit
         ensures { result ≡ meaning.ends self.now };
 }

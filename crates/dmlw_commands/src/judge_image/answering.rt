@@ -1,5 +1,4 @@
-//! The form that `judge` and `path` share: a question about an
-//! image is answered by the script in a file.
+//! What `judge` and `path` share: they answer a question about an image, by the script in a file.
 ghost use Rattle.std.specs.Prelude.{◌≡◌, ◌⊎◌, ◌++◌, IfErr, IfOk, IsOk, [], false, length, take};
 ghost use Rattle.std.specs.Prelude.{true};
 ghost use Rattle.std.specs.String.{string_bytes};
@@ -30,8 +29,8 @@ use script_runner::events_of_run;
 use std::alloc::Global;
 use std::io::Write;
 
-/// The question: about the image in one file, had power failed after the first `moment` events of
-/// the script in another file. Both files are named.
+/// A question about the image in the file `image`, after the first `moment` events of the script in
+/// the file `script`.
 #[derive(Clone, Copy, Debug)]
 pub(crate) struct Asked<'a> {
     pub(crate) script: &'a str,
@@ -39,9 +38,9 @@ pub(crate) struct Asked<'a> {
     pub(crate) image: &'a str,
 }
 
-// Runs the script in a file as `record` does, and prints the answer about the image in another one,
-// after the first `moment` of the recorder's events, if the data disk held zeroes at first. A fault
-// is reported to `err`, with what helps if the session `explains`.
+// Runs the script in a file as `record` does, on a data disk of zeroes. Prints the answer about the
+// image in another file, after the first `moment` of the recorder's events. A fault is reported to
+// `err`, with advice if the session `explains`.
 pub(crate) fn ask<A: Answer, F: Files, O: Write, E: Write>(
     asked: Asked<'_>,
     session: &mut Session<F, O, E>,
@@ -76,8 +75,7 @@ pub(crate) fn ask<A: Answer, F: Files, O: Write, E: Write>(
     )
 }
 
-// Returns what `--explain` adds: lines for the answer, or what
-// helps against the fault.
+// Returns what `--explain` adds: lines for the answer, or advice for the fault.
 fn explain_answered<A: Answer, F: Files>(
     alloc: Global,
     explains: bool,
@@ -105,7 +103,7 @@ fn explain_answered<A: Answer, F: Files>(
     }
 }
 
-// Ends a command with this result of its question.
+// Ends a command with the result `answered`: by the answer's exit, or with the fault's line.
 fn end_answering<A: Answer, O: Write, E: Write>(
     alloc: Global,
     answered: &Result<A, RunError>,
@@ -146,7 +144,7 @@ fn answer_files<A: Answer, F: Files, O: Write>(
     print_answer(answer_text(alloc, &text, asked.moment, &image), out)
 }
 
-// Reads the image in a file, as one vector.
+// Reads the image in a file into one vector.
 fn read_bytes<F: Files>(alloc: Global, name: &str, files: &mut F) -> Result<Vec<u8>, RunError>
     ensures contents { IfOk result
         (λ image. MatchesContents (F.contents files.old name.now) image.items) }
@@ -161,7 +159,7 @@ fn read_bytes<F: Files>(alloc: Global, name: &str, files: &mut F) -> Result<Vec<
     Ok(image.into_vec(alloc)?)
 }
 
-// Prints an answer, if there is one.
+// Prints the answer if there is one, otherwise returns the fault.
 fn print_answer<A: Answer, O: Write>(
     answered: Result<A, RunError>,
     out: &mut O,
@@ -179,7 +177,7 @@ fn print_answer<A: Answer, O: Write>(
     Ok(answer)
 }
 
-// Finds the answer about an image, by the script that a text spells.
+// Finds the answer about `image`, if `text` is a script.
 fn answer_text<A: Answer>(
     alloc: Global,
     text: &[u8],
@@ -194,7 +192,7 @@ fn answer_text<A: Answer>(
     answer_script(alloc, text, &script, moment, image)
 }
 
-// Finds the answer about an image, by a script that was read from `text`.
+// Finds the answer about `image`, given the script and its text.
 fn answer_script<A: Answer>(
     alloc: Global,
     text: &[u8],
@@ -213,15 +211,16 @@ fn answer_script<A: Answer>(
     answered_by((rehearsed, answered))
 }
 
-// Finds the answer by a rehearsal, which is dropped.
+// Returns the answer, and drops the rehearsal.
 fn answered_by<D: Drop, A: Answer>(answered: (D, Result<A, RunError>)) -> Result<A, RunError>
     ensures { result ≡ answered.1 }
 {
     answered.1
 }
 
-// Finds the answer about an image, after the first events of
-// a device over zeroes.
+// Finds the answer about `image`, after the first `moment` events of a device that held zeroes at
+// first. It is refused if the moment is past the last one, or if the image hasn't the device's
+// size.
 fn answer_events<A: Answer>(
     alloc: Global,
     events: &[CoreEvent],

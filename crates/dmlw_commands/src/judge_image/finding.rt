@@ -1,4 +1,4 @@
-//! What `path` finds: a machine run that leaves an image, or what rules the image out.
+//! The answer of `path`: a machine run that leaves the image, or what rules the image out.
 ghost use Rattle.std.specs.Prelude.{OnOk};
 ghost use Rattle.std.specs.Io.KnownBytes.{Appends};
 ghost use Rattle.std.specs.List.{flat_map};
@@ -64,7 +64,7 @@ impl Answer for Finding {
     }
 }
 
-// Prints a run, one step a line.
+// Prints a line for each step of a run.
 fn print_run<O: Write>(run: &[Step], out: &mut O) -> io::Result<()>
     ensures { OnOk result (Appends (O.contents out.old) (O.contents out.new)
         (flat_map step_line run.now)) }

@@ -1,4 +1,5 @@
-//! `judge SCRIPT M IMAGE`: whether an image could have been on a script's data disk.
+//! `judge SCRIPT M IMAGE`: prints whether a power failure could leave an image on a script's data
+//! disk.
 ghost use Rattle.dmlw_commands.specs.Ends.{Ends};
 ghost use Rattle.dmlw_commands.specs.Judgements.{AnswersOf, exit_answered, verdict_meaning};
 ghost use Rattle.dmlw_commands.specs.Seen.{seen};
@@ -14,20 +15,21 @@ use std::alloc::{AllocError, Global};
 use std::io;
 use std::io::Write;
 
-/// Executes `judge SCRIPT M IMAGE`. Runs the script as `record` does, on a data disk of zeroes.
-/// Prints whether the image could have been on that disk, had power failed after the first `moment`
-/// of the recorder's events. `script` and `image` are names of files. Both are read first.
+/// Executes `judge SCRIPT M IMAGE`, and returns how it ended. Runs the script as `record` does, on
+/// a data disk of zeroes. Prints whether a power failure after the first `moment` of the recorder's
+/// events could leave the image on this disk. `script` and `image` are names of files, and both are
+/// read first.
 ///
-/// The disk is seen from the top of its layers. If the verdict is no, the exit is ruled out, and
-/// nothing is written to `err`. These are refused:
+/// The disk is seen from the top of its layers. If the verdict is no, the exit is `RuledOut`, and
+/// no fault is reported. These are refused:
 ///
-/// - a file that can't be read, is too long or no image (32);
-/// - the first line of the script that is at fault;
+/// - a file that can't be read, is too long, or is no image (32);
+/// - a script with a faulty line, which is named;
 /// - a run that fails;
 /// - a `moment` past the last event, or an image of another size than the disk (34).
 ///
-/// If no log can be made, logging has ended. A fault is reported to `err`, with what helps if the
-/// session `explains`.
+/// If no log can be made, the exit is `LoggingEnded`. A fault is reported to `err`, with advice if
+/// the session `explains`.
 pub fn judge<F: Files, O: Write, E: Write>(
     script: &str,
     moment: u64,

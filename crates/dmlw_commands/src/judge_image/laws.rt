@@ -19,10 +19,13 @@ use judge::laws::verdicts_differ;
 use pending::laws::prefixes_are_possible;
 use world::laws::possible_is_exact;
 
-/// What replaying a prefix of a script's log over zeroes leaves is judged possible. Each number of
-/// entries that belongs to a moment up to which logging goes on leaves a content on which the
-/// verdict at that moment is yes. Whoever judges an image of that content, by those events and at
-/// that moment, gets yes and never no. The log has sectors of any size that a log may have.
+/// The content after replaying a prefix of a script's log over zeroes is judged possible. The
+/// prefix has to belong to a moment up to which logging goes on (`BeginsLog`).
+/// - `content`: the verdict on this content after `moment` events is yes.
+/// - `judged`: if an image has this content, its verdict is yes, by the same events and moment.
+/// - `asked`: this also holds for the verdict on an image in a file.
+///
+/// The log may have any sector size that a log can have.
 pub fn replayed_prefixes_are_judged_possible()
     ensures content { (size : ℕ) (events : List CoreEvent) (moment count bytes : ℕ)
         → IsTrue (is_sector_size size) →
@@ -41,8 +44,8 @@ pub fn replayed_prefixes_are_judged_possible()
     prefixes_are_possible();
 }
 
-/// `path` and `judge` agree on an image. After the same events there is a run exactly if the
-/// verdict is yes. If there is none, the verdict is the no that is printed.
+/// `path` and `judge` agree on an image. If both see the same events, the verdict is yes if and
+/// only if there is a run. If there is no run, `path` prints the verdict of `judge`.
 pub fn findings_are_verdicts()
     ensures content { (sectors : ℕ) (events : List CoreEvent) (first now : Content)
         (verdict : Verdict) (finding : Finding) →

@@ -1,5 +1,5 @@
-//! The moments of a run that a question may name, and what
-//! `--explain` prints about one that it may not.
+//! The moments of a run that a question may name, and what `--explain` prints if the moment or the
+//! image's size is wrong.
 ghost use Rattle.std.specs.Prelude.{◌≡◌, ◌≤◌, [], Some, false, length};
 ghost use Rattle.std.specs.String.{string_bytes};
 ghost use Rattle.bio.specs.Events.{is_stop};
@@ -16,8 +16,8 @@ use std::alloc::Global;
 use std::fmt;
 use std::fmt::Write;
 
-/// Returns the last moment of a list of events: the number of events before the Stop, or of all.
-/// Each number up to it is a moment.
+/// Returns the last moment of `events`: the number of events before the first Stop, or of all
+/// events if there is no Stop. Each number from 0 up to it is a moment.
 pub fn last_moment(events: &[CoreEvent]) -> usize
     ensures last { result ≡ last_moment events.now }
     ensures within { result ≤ length events.now }
@@ -30,19 +30,20 @@ pub fn last_moment(events: &[CoreEvent]) -> usize
     events.len()
 }
 
-// The number of moments of a run, and why there are no more.
+// The last moment of a script's run, and what explains it.
 #[derive(Clone, Copy)]
 struct Moments {
     last: u64,
-    // Logging ended before the script did.
+    // Whether logging ended before the script did.
     has_stopped: bool,
-    // The sectors of the data disk, as seen from the top of its layers.
+    // The size of the data disk in sectors, seen from the top of its layers.
     sectors: u64,
     has_layers: bool,
 }
 
-/// Returns what `--explain` adds if a moment, or an image's size, isn't one of a script's: lines
-/// that each begin with two spaces. Empty if it isn't asked for, or there is no memory for it.
+/// Returns what `--explain` adds if the moment or the image's size is wrong: lines that each begin
+/// with two spaces. Empty if not `explains`, if a file can't be read or the script can't be
+/// rehearsed, or if memory ran out.
 pub(crate) fn explain_moment<F: Files>(
     alloc: Global,
     explains: bool,
@@ -63,7 +64,8 @@ pub(crate) fn explain_moment<F: Files>(
     }
 }
 
-// Writes how many events the run of a script has, or how many sectors its disk and an image.
+// Writes how many events the script's run has, if the moment is past the last one. Writes the sizes
+// of the disk and of the image, if they differ.
 fn write_moment<F: Files, W: Write>(
     alloc: Global,
     asked: Asked<'_>,
@@ -101,7 +103,7 @@ fn write_moment<F: Files, W: Write>(
     Ok(())
 }
 
-// Writes how many events a run has, if a moment is past the last of them.
+// Writes how many events the run has, if `moment` is past the last one.
 fn write_last<W: Write>(script: &str, moment: u64, moments: Moments, to: &mut W) -> fmt::Result {
     if moment <= moments.last {
         return Ok(());
@@ -122,7 +124,8 @@ fn write_last<W: Write>(script: &str, moment: u64, moments: Moments, to: &mut W)
     )
 }
 
-// Returns the moments of the run of the script that a text spells, if it has one.
+// Returns the moments of the run of the script with this text. None if the text isn't a script, or
+// its rehearsal fails.
 fn moments_of(alloc: Global, text: &[u8]) -> Option<Moments> {
     let script = read_script(alloc, text).ok()?;
     let rehearsed = events_of_run(alloc, text, &script).ok()?;

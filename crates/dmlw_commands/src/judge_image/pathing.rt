@@ -1,4 +1,4 @@
-//! `path SCRIPT M IMAGE`: how an image could have come to a script's data disk.
+//! `path SCRIPT M IMAGE`: prints how a power failure could leave an image on a script's data disk.
 ghost use Rattle.dmlw_commands.specs.Ends.{Ends};
 ghost use Rattle.dmlw_commands.specs.Judgements.{AnswersOf, exit_answered};
 ghost use Rattle.dmlw_commands.specs.Paths.{finding_meaning};
@@ -10,15 +10,15 @@ use dmlw_files::{Files, Session};
 use std::io::Write;
 use world::Finding;
 
-/// Executes `path SCRIPT M IMAGE`: runs a script as `record` does, and prints a machine run that
-/// submits and ends the requests of the first `moment` of the recorder's events in their order, and
-/// leaves the image, if the data disk held zeroes at first. Each step is a line, the last one
-/// `power`; ids are places of events. `script` and `image` are names of files; both are read before
-/// either is judged.
+/// Executes `path SCRIPT M IMAGE`, and returns how it ended. Runs a script as `record` does, on a
+/// data disk of zeroes, and prints a machine run that leaves the image. The machine run submits and
+/// ends the requests of the first `moment` of the recorder's events, in their order.
+///
+/// Each step is a line, and the last line is `power`. An id is the index of an event. `script` and
+/// `image` are names of files, and both are read first.
 ///
 /// The disk is seen from the top of its layers. If no run leaves the image, the verdict's line is
-/// printed, and it exits as ruled out, with nothing on `err`. Refusals and reports are those of
-/// `judge`.
+/// printed, the exit is `RuledOut`, and no fault is reported. Faults are those of `judge`.
 pub fn path<F: Files, O: Write, E: Write>(
     script: &str,
     moment: u64,

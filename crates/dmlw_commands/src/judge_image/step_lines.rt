@@ -1,8 +1,11 @@
-//! What `--explain` adds after a run: the script's line for each step; and after a no, the line of
-//! the event that rules the sector out.
+//! What `--explain` adds for `judge` and `path`. After a run it adds each step with the script's
+//! line for the step. After a no, it adds the line of the event that rules the sector out.
 //!
-//! A request's submission and its landings belong to the line that submits it, its end to the line
-//! that ends it, a destage to what landed last, and power goes after the line of the last call.
+//! Which line a step gets:
+//! - a submission or a landing: the line that submits the request;
+//! - an end: the line that ends the request;
+//! - a destage: the line of the request that landed last;
+//! - power: the line of the last submission or end before it.
 ghost use Rattle.std.specs.Prelude.{◌≡◌, [], false};
 ghost use Rattle.std.specs.String.{string_bytes};
 ghost use Rattle.dmlw_files.specs.Files.{KeepsFiles};
@@ -17,22 +20,22 @@ use world::Step;
 // A line of a script that is an event of its run: a submission, an end, a mark or the close.
 #[derive(Clone, Copy)]
 struct EventLine<'a> {
-    // Counted from 1.
+    // The line's number, counted from 1.
     number: u64,
     text: &'a [u8],
 }
 
-// How far a run has been printed.
+// How far the steps of a run were matched to lines.
 #[derive(Drop)]
 struct Told {
-    // The place of the event that comes next.
+    // The index after the last event that was a submission or an end.
     next: usize,
-    // The place of the request that landed last.
+    // The index of the request that landed last.
     landed: usize,
 }
 
-// Returns the steps of a run, each followed by its line of the script in a file: lines that begin
-// with two spaces. Empty if it isn't asked for, or there is no memory for it.
+// Returns the steps of a run, each with its line of the script in the file `script`: lines that
+// begin with two spaces. Empty if not `explains`, or if the script can't be read or memory ran out.
 pub(crate) fn explain_run<F: Files>(
     alloc: Global,
     explains: bool,
@@ -54,8 +57,9 @@ pub(crate) fn explain_run<F: Files>(
     }
 }
 
-/// Returns the line of an event of a run, by the script in a file: a line that begins with two
-/// spaces. Empty if it isn't asked for, there is none, or there is no memory for it.
+/// Returns which line of the script in the file `script` an event is: a line that begins with two
+/// spaces. Empty if not `explains`, if no line is this event, or if the script can't be read or
+/// memory ran out.
 pub(crate) fn explain_event<F: Files>(
     alloc: Global,
     explains: bool,
@@ -100,7 +104,7 @@ fn write_event<F: Files, W: Write>(
     }
 }
 
-// Writes the steps of a run with their lines of the script in a file.
+// Writes the steps of a run, each with its line of the script in the file `script`.
 fn write_run<F: Files, W: Write>(
     alloc: Global,
     run: &[Step],
@@ -163,8 +167,8 @@ fn write_steps<W: Write>(lines: &[EventLine], run: &[Step], to: &mut W) -> fmt::
     Ok(())
 }
 
-// Writes a step with its line, or the step only if it has none, as for power that fails before the
-// first event.
+// Writes a step with its line, or only the step if it has no line. Power has no line if it fails
+// before the first submission or end.
 fn write_step<W: Write>(step: Step, line: Option<&EventLine>, to: &mut W) -> fmt::Result {
     let Some(EventLine { number, text }) = line else {
         return writeln!(to, "    {step}");
@@ -177,8 +181,8 @@ fn write_step<W: Write>(step: Step, line: Option<&EventLine>, to: &mut W) -> fmt
 }
 
 impl Told {
-    // Returns the place of the event that a step belongs to, after the steps before it. None for
-    // power that fails before the first event.
+    // Returns the index of the event that a step belongs to, after the steps before it. None if
+    // power fails before the first submission or end.
     fn place_of(&mut self, lines: &[EventLine], step: Step) -> Option<usize> {
         match step {
             Step::Submit(id) => Some(self.pass(id.place() as usize)),
@@ -192,14 +196,14 @@ impl Told {
         }
     }
 
-    // Goes past an event, and returns its place.
+    // Goes past the event with this index, and returns the index.
     fn pass(&mut self, place: usize) -> usize {
         self.next = place.saturating_add(1);
         place
     }
 }
 
-// Returns the place of the first end at or after a place.
+// Returns the index of the first event at or after `from` that ends a request.
 fn end_from(lines: &[EventLine], from: usize) -> usize {
     for place in from..lines.len() {
         if lines[place].text.starts_with(b"c ".as_slice()) {

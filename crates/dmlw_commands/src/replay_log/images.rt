@@ -23,8 +23,8 @@ pub(crate) struct Replayed {
     pub(crate) disk: SectorDisk,
 }
 
-/// Replays a log on the disk that a first image becomes, up to the named entry, by the call that
-/// carries the headline; the log's disk is dropped at the end.
+/// Replays a log on the disk that the image `first` becomes, up to the entry that `upto` names. It
+/// calls `reopen_and_replay`, which carries the headline. The log's disk is dropped at the end.
 pub(crate) fn replay_images(
     alloc: Global,
     log: Image,
@@ -46,7 +46,7 @@ pub(crate) fn replay_images(
     }
 }
 
-// Returns why a log couldn't be reopened, or its replay stopped.
+// Returns the command's fault if a log can't be opened, or its replay stopped.
 fn stop_of(error: ReopenError) -> RunError
     ensures { result ≡ stop_by error }
 {

@@ -1,4 +1,5 @@
-//! `replay LOG FIRST OUT WHAT`: applies a log, up to the named entry, to an image.
+//! `replay LOG FIRST OUT WHAT`: applies a log's entries to an image, up to the entry that WHAT
+//! names.
 ghost use Rattle.std.specs.Prelude.{◌≡◌, ◌⊎◌, Err, IfErr, IfOk, List, OnOk, Option, ℕ};
 ghost use Rattle.std.specs.Io.KnownBytes.{Appends};
 ghost use Rattle.refusals.specs.Errors.{IsFileError, refused_by};
@@ -20,14 +21,17 @@ use replay::Upto;
 use std::alloc::Global;
 use std::io::Write;
 
-/// Executes `replay LOG FIRST OUT WHAT`: applies the entries of a log, up to the named one, to a
-/// first image, and returns how it ended. Their number goes to `out` before the resulting image is
-/// written; a fault is reported to `err`, with what helps if the session `explains`. OUT may be the
-/// file FIRST, and is refused as a file if it is LOG.
+/// Executes `replay LOG FIRST OUT WHAT`, and returns how it ended. It applies the entries of the
+/// log in the file LOG to the image in the file FIRST, up to the entry that `upto` names. The file
+/// OUT gets the resulting image.
 ///
-/// An entry's sectors are the log's; a FUA entry is applied as any other. Both images are whole
-/// sectors of 512 bytes, 1 to 1,048,576. If it is done, OUT holds the image.
-/// If it is refused, each file holds what it held.
+/// The number of applied entries goes to `out` before the image is written. A fault is reported to
+/// `err`, with advice if the session `explains`. OUT may be FIRST. If OUT and LOG are one file, the
+/// command is refused as a file.
+///
+/// An entry's place and length count sectors of the log. A FUA entry is applied as any other. Both
+/// images have whole sectors of 512 bytes, from 1 to 1,048,576. If the command is done, OUT holds
+/// the image. If it is refused, each file holds what it held.
 pub fn replay<F: Files, O: Write, E: Write>(
     names: ReplayNames,
     upto: &Upto,
@@ -40,7 +44,7 @@ pub fn replay<F: Files, O: Write, E: Write>(
         (seen (F.contents session.new.files) (F.writes session.new.files)
         (O.contents session.new.out) (E.contents session.new.err)) result }
     ensures exits { (result.exit ≡ Exit.Done) ⊎ (result.exit ≡ Exit.Refused) }
-    // If both names are one, it is refused as a file.
+    // If LOG and OUT are the same name, the command is refused as a file.
     ensures same { names.entry.log.now ≡ names.entry.out.now →
         ReportsLine (err_stream session.old.explains (E.contents session.old.err)
         (E.contents session.new.err)) Exit.Refused
@@ -58,7 +62,7 @@ pub fn replay<F: Files, O: Write, E: Write>(
     )
 }
 
-// Replays the log in a file, prints the number of entries, and has the image written.
+// Replays the log in a file, prints the number of entries, and writes the image.
 fn replay_files<F: Files, O: Write>(
     alloc: Global,
     names: ReplayNames,
@@ -82,7 +86,7 @@ fn replay_files<F: Files, O: Write>(
     Ok(count)
 }
 
-// Replays the log in a file on the image in another one.
+// Replays the log in the file `log` on the image in the file `first`, and writes no file.
 fn replay_named<F: Files>(
     alloc: Global,
     log: &str,

@@ -1,12 +1,14 @@
-//! The word of `replay` that names the end of a replay.
+//! The word of `replay` that names the end of the replay.
 ghost use Rattle.std.specs.Prelude.{◌≡◌, IfSome, None};
 ghost use Rattle.dmlw_commands.specs.Whats.{IsNoWhat, IsWhat};
 
 use refusals::number_of;
 use replay::Upto;
 
-/// Parses the end of a replay that a word names: `entries:<n>`, with 1 to 20 decimal digits of a
-/// value below 2^64, `mark:<text>`, whose text may be empty, or `flush`. None for any other word.
+/// Parses a word that names the end of a replay; None for any other word.
+/// - `entries:<n>`: after n entries; n has 1 to 20 decimal digits and is below 2^64.
+/// - `mark:<text>`: after the first mark with this text, which may be empty.
+/// - `flush`: after the first flush.
 pub fn upto_of(word: &[u8]) -> Option<Upto<'_>>
     ensures some { IfSome result (IsWhat word.now) }
     ensures none { result ≡ None → IsNoWhat word.now }

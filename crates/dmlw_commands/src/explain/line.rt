@@ -76,7 +76,7 @@ fn other_of(grammar: Grammar) -> Grammar {
     }
 }
 
-/// Writes the lines that a script can have.
+/// Writes the forms of the lines that a script can have.
 pub(crate) fn write_forms<W: Write>(grammar: Grammar, to: &mut W) -> fmt::Result {
     for form in forms_of(grammar) {
         writeln!(to, "    {form}")?;
@@ -141,7 +141,7 @@ fn cause_of(line: &[u8]) -> Option<&'static str> {
     None
 }
 
-// Returns whether a line has its own rules for words: the text of a mark or a message is taken as
+// Returns whether a line's words have their own rules. The text of a mark or a message is taken as
 // it is, and a layer's table line has its own grammar.
 fn has_own_words(line: &[u8]) -> bool {
     line.starts_with(b"mark ".as_slice())

@@ -40,7 +40,8 @@ abbrev pub exit_after : Result Status RunError → Exit
 exit_after (Ok status) = exit_at status.end
 exit_after (Err fault) = exit_of fault
 
--- The exit is one after which each file holds what it held (`EndsCommand` in `dmlw_cli`).
+-- The exit is `Refused`, `Usage` or `RuledOut`. After such an exit each file holds what it held
+-- (`EndsCommand` in `dmlw_cli`).
 abbrev pub IsRefusal : Exit → Type 0
 IsRefusal exit = (exit ≡ Refused) ⊎ (exit ≡ Usage) ⊎ (exit ≡ RuledOut)
 

@@ -24,7 +24,8 @@ pub(crate) struct Replayed {
 }
 
 /// Replays a log on the disk that the image `first` becomes, up to the end that `upto` names. It
-/// calls `reopen_and_replay`, whose contract is the headline. The log's disk is dropped at the end.
+/// calls `reopen_and_replay`, whose contract has the headline. The log's disk is dropped at the
+/// end.
 pub(crate) fn replay_images(
     alloc: Global,
     log: Image,

@@ -1,4 +1,4 @@
--- The commands that chains of builder calls make for clap.
+-- What chains of clap's builder calls make: the program, its commands and their arguments.
 use Rattle.std.proofs.Common.{◌≡◌, ◌∙◌, Result, Ok, Err, IfOk, ap, false, refl}
 use Rattle.clap.specs.declared.builder.arg.Arg.{Arg}
 use Rattle.clap.specs.declared.builder.command.Command.{Command}

@@ -1,4 +1,4 @@
--- Which command some words enter, and which task it asks for.
+-- Which command the words of a command line enter, and which task the command asks for.
 use Rattle.std.proofs.Common.{◌≡◌, ◌∙◌, ℕ, List, [], ◌∷◌, ap, drop, map, refl, subst, sym, true}
 use Rattle.std.specs.List.{list_any}
 use Rattle.clap.proofs.OnLiterals.{clap_on_literals}

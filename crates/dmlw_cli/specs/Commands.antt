@@ -79,8 +79,8 @@ pub record EndsCommand (old new : Seen) (exit : Exit) : Type 0 where
       → KeepsFiles old.files new.files ⊎ AsksForOneWrite old.writes new.writes
 
 -- What the error stream gets if the command only shows clap's text. If memory ran out, it gets the
--- line of this fault. For help and the version, `ReportsPrinting` says it. For other kinds nothing
--- is claimed.
+-- line of this fault. For help and the version, see `ReportsPrinting`. For other kinds nothing is
+-- claimed.
 abbrev pub ReportsUntasked : ErrorKind → ErrStream → Ended → Type 0
 ReportsUntasked OutOfMemory t ended = Tells {T = Unit {0}} t (Err memory_error) ended
 ReportsUntasked DisplayHelp t ended = ReportsPrinting t ended
@@ -90,8 +90,8 @@ ReportsUntasked _ t ended = Unit {0}
 -- How a command ends that only shows clap's text of the kind `kind`. It asks for no file write, and
 -- each file holds what it held.
 --
--- `EndsUntasked` says its exit, and `ReportsUntasked` what the error stream gets. Nothing goes to
--- the output, unless the user asked for help or the version.
+-- Its exit is as `EndsUntasked` says, and the error stream as `ReportsUntasked` says. Nothing goes
+-- to the output, unless the user asked for help or the version.
 pub record EndsText (kind : ErrorKind) (explains : Bool) (old new : Seen)
     (ended : Ended) : Type 0 where
   pub unwritten : new.writes ≡ old.writes

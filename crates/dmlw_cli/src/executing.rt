@@ -1,4 +1,4 @@
-//! Executes a command line: the program calls only `execute`.
+//! Executes a command line (`execute`), or reports that its words can't be read (`refuse`).
 ghost use Rattle.std.specs.Prelude.{◌≡◌, Bool, IfErr, OnOk, false, map, true};
 ghost use Rattle.std.specs.Io.KnownBytes.{Appends, Keeps};
 ghost use Rattle.std.specs.IoError.{error_kind};
@@ -117,8 +117,8 @@ fn perform<F: Files, O: Write, E: Write, H: Threads + Wait + Sync>(
     }
 }
 
-/// Prints why the words of a command line can't be read. Returns the exit status: 2 if a word isn't
-/// UTF-8 text, otherwise 1.
+/// Writes to `err` why the words of a command line can't be read. Returns the exit status: 2 if a
+/// word isn't UTF-8 text, otherwise 1.
 pub fn refuse<E: Write>(alloc: Global, error: io::Error, err: &mut E) -> u8
     ensures { result ≡ status_of (unread_exit (error_kind error)) }
 {

@@ -1,4 +1,4 @@
-// The page of the formats, which has the text of docs/FORMATS.md.
+// The page that `dmlw help formats` prints.
 
 /// The page that `dmlw help formats` prints. docs/FORMATS.md has the same text.
 pub const FORMATS: &str = r#"# Formats

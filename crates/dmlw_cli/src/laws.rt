@@ -28,7 +28,7 @@ pub fn names_are_distinct()
     ensures again { (name : Name) → name_of (name_text name) ≡ Some name }
 {}
 
-/// In these laws, a word that doesn't begin with a hyphen is a file's name.
+/// In these laws, the words for files don't begin with a hyphen.
 ///
 /// `record SCRIPT LOG` records the script in the file SCRIPT. If it is done, the file LOG holds the
 /// script's log.

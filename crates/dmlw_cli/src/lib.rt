@@ -1,8 +1,8 @@
 //! Runs command lines of dmlw, with files and writers of any kind.
 //!
 //! `execute` runs one command line. Its contract says, for each command, what is printed and which
-//! file write is asked for (`specs/Commands`). The commands are in `dmlw_commands`. `command_line`
-//! parses the words. `laws` says how command lines are parsed whose file names don't begin with a
+//! file write is asked for (`specs/Commands`). `command_line` parses the words, and `dmlw_commands`
+//! has the commands. `laws` says what each command does if its file names don't begin with a
 //! hyphen.
 #![tactic(auto)]
 

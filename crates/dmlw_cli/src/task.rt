@@ -10,12 +10,13 @@ use replay::Upto;
 /// What a command line asks for. `script`, `log` and `image` are names of files.
 #[derive(Debug, Drop)]
 pub enum Task<'a> {
-    /// Record the requests of a script in a new log.
+    /// Record the requests of the script in the file `script`, in a new log.
     Record {
         script: &'a str,
         log: &'a str,
     },
-    /// Run the seats of a script, each in a thread, and record their requests in a new log.
+    /// Run the seats of the script in the file `script`, each in its own thread, and record their
+    /// requests in a new log.
     Run {
         script: &'a str,
         log: &'a str,
@@ -39,15 +40,15 @@ pub enum Task<'a> {
         names: CopyNames<'a>,
         sectors: SectorCount,
     },
-    /// Judge whether the disk of a script could hold an image after the script's first `moment`
-    /// events.
+    /// Print whether a power failure after the first `moment` events could leave the image on the
+    /// script's data disk.
     Judge {
         script: &'a str,
         moment: u64,
         image: &'a str,
     },
-    /// Print a run of the disk of a script that leaves an image after the script's first `moment`
-    /// events.
+    /// Print how a power failure after the first `moment` events could leave the image on the
+    /// script's data disk.
     Path {
         script: &'a str,
         moment: u64,

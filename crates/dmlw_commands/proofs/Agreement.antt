@@ -1,4 +1,4 @@
--- That a finding has the verdict that judging gives.
+-- `path` and `judge` agree: the verdict of a finding is the verdict on the image.
 use Rattle.std.proofs.Common.{◌≡◌, ℕ, List, arith, length, subst, sym, take}
 use Rattle.std.proofs.lemmas.List.{take_all}
 use Rattle.bio.specs.Content.{Content, sector_of}

@@ -1,4 +1,4 @@
--- How every command ends: what it did stays so while its end is reported.
+-- How every command ends: what the command did still holds after its end was reported.
 use Rattle.std.proofs.Common.{◌≡◌, ◌∙◌, ◌⊎◌, ℕ, Bool, List, Option, Result, Ok, Err, ap, inl, inr}
 use Rattle.std.proofs.Common.{subst, sym}
 use Rattle.std.specs.Io.KnownBytes.{Appends, Keeps}

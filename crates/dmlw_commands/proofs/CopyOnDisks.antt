@@ -1,4 +1,4 @@
--- What copying the log of an image comes to on disks in memory.
+-- The result of copying the log in an image, on disks in memory.
 use Rattle.std.proofs.Common.{◌⊎◌, ◌≡◌, ◌∙◌, ℕ, ◌+◌, ◌*◌, ◌/◌, ◌<◌, ◌≤◌, true, false, List, [], ◌++◌}
 use Rattle.std.proofs.Common.{map, take, Option, None, Some, Result, Ok, Err, IfErr, IfOk, ap}
 use Rattle.std.proofs.Common.{arith, inl, inr, length, refl, subst, sym}

@@ -1,4 +1,4 @@
--- What is read of the image of a copy, and what it replays to.
+-- The log that is read in a copy's image, and the content that it replays to.
 use Rattle.std.proofs.Common.{◌≡◌, ◌∙◌, ℕ, ◌/◌, List, map, take, Option, None, ap, arith, length}
 use Rattle.std.proofs.Common.{refl, subst, sym}
 use Rattle.std.proofs.lemmas.List.{length-map}

@@ -1,4 +1,5 @@
--- The lemmas of `dmlw_commands`; the proof of a function stands in the folder of its source file.
+-- The lemmas of `dmlw_commands`. The proof of a function is in the folder named after its source
+-- file.
 pub mod ImageLog
 pub mod ListLines
 pub mod RecordEnds

@@ -1,4 +1,4 @@
--- That what a beginning of a log leaves is judged possible.
+-- The content after replaying a prefix of a script's log is judged possible.
 use Rattle.std.proofs.Common.{◌≡◌, ◌⊎◌, ℕ, ◌*◌, ◌/◌, ◌<◌, ◌≤◌, true, false, IsTrue, Some, List}
 use Rattle.std.proofs.Common.{arith, length, refl, subst, sym}
 use Rattle.std.specs.Prelude.{slice_get, take}

@@ -1,4 +1,4 @@
--- What a question on an image comes to.
+-- The result of a question about an image.
 use Rattle.std.proofs.Common.{◌≡◌, ◌∙◌, ◌⊎◌, ℕ, true, Option, Some, None, List, Result, Ok, Err}
 use Rattle.std.proofs.Common.{◌≤◌, IfErr, IfOk, ap, inl, inr, length, refl, subst, sym}
 use Rattle.std.specs.Prelude.{IsOk, take}

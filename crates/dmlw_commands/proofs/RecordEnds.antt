@@ -1,4 +1,4 @@
--- How the recording of the script in a file ends, of either kind.
+-- How `record` and `run` end, which take two kinds of script.
 use Rattle.std.proofs.Common.{◌≡◌, ◌≤◌, ◌++◌, ℕ, List, None, Option, Some, ap, arith, inl, inr, length}
 use Rattle.std.proofs.Common.{refl, subst, sym}
 use Rattle.std.specs.Io.KnownBytes.{Appends, Keeps}

@@ -1,4 +1,4 @@
--- What replaying the log of an image on a disk comes to.
+-- The result of replaying the log in an image, on disks in memory.
 use Rattle.std.proofs.Common.{◌≡◌, ◌∙◌, ◌⊎◌, ℕ, ◌+◌, ◌*◌, ◌/◌, ◌<◌, ◌≤◌, List, Option, Result, Ok}
 use Rattle.std.proofs.Common.{Err, IfErr, IfOk, ap, arith, inl, inr, length, refl, subst, sym}
 use Rattle.std.proofs.lemmas.Option.{slice_get_within}

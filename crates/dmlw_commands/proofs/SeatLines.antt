@@ -1,4 +1,4 @@
--- The lines of several seats.
+-- The lines that `run` prints for seats.
 use Rattle.std.proofs.Common.{◌≡◌, ◌∙◌, ℕ, zero, suc, ◌+◌, List, [], ◌∷◌, ◌++◌, Option, Some}
 use Rattle.std.proofs.Common.{append_assoc, append-nil, ap, arith, length, refl, slice_get, subst}
 use Rattle.std.proofs.Common.{sym, take}

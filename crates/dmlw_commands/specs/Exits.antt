@@ -1,5 +1,4 @@
--- The exit of a command by its result, the exit status of the program, and the line that reports a
--- fault.
+-- The exit of a command with a given result, its exit status, and the line that reports its fault.
 use Rattle.std.specs.Prelude.{◌⊎◌, ◌≡◌, ℕ, List, [], ◌++◌, None, Option, Result, Ok, Err, Some}
 use Rattle.std.specs.Prelude.{codes}
 use Rattle.refusals.specs.declared.end.End.{End}
@@ -35,12 +34,14 @@ abbrev pub exit_at : Option End → Exit
 exit_at None = Done
 exit_at (Some cause) = LoggingEnded
 
--- The exit of a recording with this result: by whether logging ended early, or by its fault.
+-- The exit of a recording with this result. If the result is Ok, it is `LoggingEnded` or `Done`;
+-- otherwise the exit of the fault.
 abbrev pub exit_after : Result Status RunError → Exit
 exit_after (Ok status) = exit_at status.end
 exit_after (Err fault) = exit_of fault
 
--- The exit is one after which each file holds what it held (`EndsCommand` in `dmlw_cli`).
+-- The exit is `Refused`, `Usage` or `RuledOut`. After such an exit each file holds what it held
+-- (`EndsCommand` in `dmlw_cli`).
 abbrev pub IsRefusal : Exit → Type 0
 IsRefusal exit = (exit ≡ Refused) ⊎ (exit ≡ Usage) ⊎ (exit ≡ RuledOut)
 

@@ -1,6 +1,5 @@
--- A question about an image: whether, or how, power failure could leave it on a script's data disk.
--- `judge` and `path` answer such a question; this file states the answer, and the verdict of
--- `judge`.
+-- Questions about an image, and their answers. `judge` answers whether a power failure could leave
+-- the image on a script's data disk, and `path` answers how. The answers of `path` are in `Paths`.
 use Rattle.std.specs.Prelude.{◌≡◌, ◌⊎◌, ◌<◌, ◌≤◌, ◌*◌, ℕ, true, List, ◌++◌, Option, Some, Result}
 use Rattle.std.specs.Prelude.{Ok, Err, codes, length, replicate, take}
 use Rattle.std.specs.Io.KnownBytes.{Appends, Keeps}
@@ -58,8 +57,8 @@ pub record Meaning (A : Type 0) : Type 1 where
 -- `answer` holds for `image` after the first `moment` events of the script `plan`, on a data disk
 -- of zeroes.
 --
--- `events` are those of a rehearsal of `plan`. They are lawful for a device with the size of the
--- data disk's top, and each request is aligned to the log's sectors.
+-- A rehearsal of `plan` has the events `events`. They are lawful for a device with the size of the
+-- data disk's top. Each request is aligned to the log's sectors.
 pub record IsAnswered {A : Type 0} (meaning : Meaning A) (plan : ScriptValue) (moment : ℕ)
     (image : List ℕ) (answer : A) : Type 0 where
   pub events : List CoreEvent
@@ -70,8 +69,7 @@ pub record IsAnswered {A : Type 0} (meaning : Meaning A) (plan : ScriptValue) (m
   pub holds : meaning.says (top_of plan.data_disk) (take moment events) (blank (length image))
       (sector_of image) answer
 
--- A question: what is known about the content of the script's file and of the image's file, and the
--- moment.
+-- A question: the contents of the script's file and of the image's file, if known, and the moment.
 pub record Question : Type 0 where
   pub script : Option (List ℕ)
   pub image : Option (List ℕ)
@@ -81,15 +79,15 @@ pub record Question : Type 0 where
 abbrev pub question : List ℕ → List ℕ → ℕ → Question
 question text image moment = record { script = Some text; image = Some image; moment = moment }
 
--- `text` and `image` are the contents of the files, as far as these are known, and `image` is an
--- image.
+-- The script's file holds `text` and the image's file holds `image`, if their contents are known.
+-- `image` is an image.
 pub record AreRead (asked : Question) (text image : List ℕ) : Type 0 where
   pub script_holds : MatchesContents asked.script text
   pub image_holds : MatchesContents asked.image image
   pub whole : IsImage image
 
--- The script's file holds the text of a script, and `answer` is the answer about the image by this
--- script.
+-- There is an answer: the script's file holds the text of a script, and `answer` is that script's
+-- answer about the image.
 pub record HasAnswer {A : Type 0} (meaning : Meaning A) (asked : Question)
     (answer : A) : Type 0 where
   pub text : List ℕ
@@ -124,9 +122,9 @@ pub data HasNoVerdict (asked : Question) : RunError → Type 0 where
       → IsRehearsed plan events → CannotJudge (top_of plan.data_disk) events asked.moment image
       → HasNoVerdict asked (refused_by refusals.BadMoment)
 
--- The result of a question, and what the output got. If the result is Ok, it is the answer, which
--- was printed. If it is a fault, there is no answer and nothing was printed; or there is an answer,
--- but printing it failed.
+-- The result of a question, and what the output got. If the result is Ok, it is the answer, and the
+-- answer was printed. If it is a fault, there is no answer and nothing was printed, or there is an
+-- answer but printing it failed.
 abbrev pub Answers : {A : Type 0} → Meaning A → Question → Option (List ℕ) → Option (List ℕ)
     → Result A RunError → Type 0
 Answers meaning asked before after (Ok answer) =
@@ -165,12 +163,12 @@ exit_by_verdict (verdicts.No sector by) = exits.RuledOut
 abbrev pub verdict_meaning : Meaning Verdict
 verdict_meaning = record { says = IsVerdict; printed = verdict_line; ends = exit_by_verdict }
 
--- `verdict` is that on `image`, after the first `count` events of the script `plan` on a disk of
--- zeroes.
+-- `verdict` is the verdict on `image` after the first `count` events of the script `plan`, on a
+-- disk of zeroes.
 abbrev pub IsJudged : ScriptValue → ℕ → List ℕ → Verdict → Type 0
 IsJudged plan count image verdict = IsAnswered verdict_meaning plan count image verdict
 
--- The script's file holds the text of a script, and `verdict` is the verdict on the image by this
--- script.
+-- There is a verdict: the script's file holds the text of a script, and `verdict` is that script's
+-- verdict on the image.
 abbrev pub HasVerdict : Question → Verdict → Type 0
 HasVerdict asked verdict = HasAnswer verdict_meaning asked verdict

@@ -56,7 +56,8 @@ pub record LacksRoom (from : ℕ) (es : List Entry) (place sectors : ℕ) : Type
       (map (resized from 4096) (take place es)) + sectors_of (resized from 4096 next)
 
 -- Why a copy stopped after `applied` entries. The old log has the super block `head`, the entries
--- `es` and the fault `fault`. The new log's disk has `sectors` sectors.
+-- `es` and the fault `fault`. The new log's disk has `sectors` sectors. If memory ran out, nothing
+-- more is claimed.
 abbrev pub HasStopCause : Super → List Entry → Option LogFault → ℕ → ℕ → CopyError → Type 0
 HasStopCause head es fault sectors applied (copies.Log (reads.Log found)) =
     (fault ≡ Some found) × (applied ≡ length es)

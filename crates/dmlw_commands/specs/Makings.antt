@@ -24,7 +24,7 @@ pub record Asks {T : Type 0} (making : Making T) (name : List ℕ) (old new : Se
   pub printed : Appends old.out new.out lines
   pub asked : new.writes ≡ one_more old.writes name image
 
--- As `Asks`, and the file `name` holds the image, if its content is known.
+-- The same as `Asks`, and the file `name` holds the image, if its content is known.
 pub record IsMade {T : Type 0} (making : Making T) (name : List ℕ) (old new : Seen)
     (result : T) : Type 0 where
   pub asks : Asks making name old new result

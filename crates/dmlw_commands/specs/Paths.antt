@@ -36,7 +36,7 @@ exit_by_finding (RuledOut sector by) = exits.RuledOut
 abbrev pub finding_meaning : Meaning Finding
 finding_meaning = record { says = IsFinding; printed = finding_text; ends = exit_by_finding }
 
--- `finding` is that about `image`, after the first `moment` events of the script `plan` on a disk
--- of zeroes.
+-- `finding` is the finding about `image` after the first `moment` events of the script `plan`, on a
+-- disk of zeroes.
 abbrev pub IsFound : ScriptValue → ℕ → List ℕ → Finding → Type 0
 IsFound plan moment image finding = IsAnswered finding_meaning plan moment image finding

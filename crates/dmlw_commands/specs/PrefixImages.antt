@@ -15,8 +15,8 @@ replayed_first size events count bytes =
     replay size (entries_of (take count (completion_list (dm_log_writes size) events)))
     (blank bytes)
 
--- The first `count` entries of the log of `events` belong to `moment` (`BelongsTo`), and `moment`
--- isn't past the last one.
+-- The first `count` entries of the log of `events` belong to `moment` (`BelongsTo`). `moment` isn't
+-- past the last moment of `events`.
 pub record BeginsLog (size : ℕ) (events : List CoreEvent) (moment count : ℕ) : Type 0 where
   pub safe : moment ≤ last_moment events
   pub belongs : BelongsTo (dm_log_writes size) events moment count

@@ -51,8 +51,8 @@ pub record Kind (S : Type 0) : Type 1 where
   pub runs : S → List ℕ → Status → List ℕ → Type 0
   pub fails : List ℕ → S → Option (List ℕ) → Option (List ℕ) → RunError → Type 0
 
--- The file's script was run. It printed `lines`, its log has `status`, and `image` is that of the
--- log's disk.
+-- The script in the file was run. It printed `lines`, its log has `status`, and `image` is the
+-- image of the log's disk.
 pub record IsLogged {S : Type 0} (kind : Kind S) (contents : Option (List ℕ)) (status : Status)
     (lines image : List ℕ) : Type 0 where
   pub text : List ℕ
@@ -61,7 +61,7 @@ pub record IsLogged {S : Type 0} (kind : Kind S) (contents : Option (List ℕ)) 
   pub spelled : kind.spells text script
   pub ran : kind.runs script lines status image
 
--- The file's script was run, with `status` and `image`, and its lines were printed.
+-- The script in the file was run, with `status` and `image`, and its lines were printed.
 abbrev pub PrintsLog : {S : Type 0} → Kind S → Option (List ℕ) → Status → List ℕ → Option (List ℕ)
     → Option (List ℕ) → Type 0
 PrintsLog kind contents status image before after =
@@ -97,8 +97,8 @@ recording kind contents =
 abbrev pub Records : {S : Type 0} → Kind S → List ℕ → List ℕ → Does Status
 Records kind script log = Makes (λ files. recording kind (files script)) script log
 
--- `script` was recorded with `status`, and `image` is that of the log's disk. `lines` are the
--- output of the script's lines, then the lines at the end.
+-- `script` was recorded: its log has `status`, and `image` is the image of the log's disk. `lines`
+-- are the output of the script's lines, then the lines at the end.
 pub record IsRecordedBy (script : ScriptValue) (lines : List ℕ) (status : Status)
     (image : List ℕ) : Type 0 where
   pub ran : List ℕ

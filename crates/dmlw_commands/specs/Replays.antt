@@ -51,7 +51,8 @@ pub record IsReplayed (log first : List ℕ) (upto : Upto) (count : ℕ) (image 
       (replay head.sectorsize (entries_from entries 0 count) (sector_of first)) (sector_of image)
 
 -- Why a replay stopped after `applied` entries on a disk of `disk` sectors. The log has the super
--- block `head`, the entries `es` and the fault `fault`. Its reader had not failed before.
+-- block `head`, the entries `es` and the fault `fault`. Its reader had not failed before. If memory
+-- ran out, nothing more is claimed.
 abbrev pub HasStopCause : Upto → Super → List Entry → Option LogFault → ℕ → ℕ → ReplayError → Type 0
 HasStopCause upto head es fault disk applied replays.PastEntries =
     (applied ≡ 0) × AsksTooMany upto head.count 0

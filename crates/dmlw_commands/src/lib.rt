@@ -1,12 +1,15 @@
 //! The commands of dmlw, over files and writers of any kind.
 //!
-//! `record` runs a script by `script_runner`, and asks for its log to be written (`specs/Records`).
-//! `list` and `status` print what is read of an image (`specs/Lists`). `replay` and `copy` make an
-//! image of a log (`specs/Replays`, `specs/LogCopies`). `judge` and `path` print whether an image
-//! could have been on a script's data disk (`specs/Judgements`, `specs/Paths`). Each reports its
-//! fault and returns how it ended (`specs/Ends`). `run` runs a script of several seats by
-//! `script_runner` (`specs/LogRuns`). `explain` has what `--explain` adds after a fault's line. What
-//! a command asks of a file system is `Files` of `dmlw_files`.
+//! - `record` runs a script of one recorder, and asks for its log to be written (`specs/Records`).
+//! - `run` does this for a script of several seats (`specs/LogRuns`).
+//! - `list` and `status` print what a log's image holds (`specs/Lists`).
+//! - `replay` and `copy` make an image of a log (`specs/Replays`, `specs/LogCopies`).
+//! - `judge` and `path` print whether a power failure could leave an image on a script's data disk
+//!   (`specs/Judgements`, `specs/Paths`).
+//!
+//! Each command reports its fault and returns how it ended (`specs/Ends`). `explain` has what
+//! `--explain` adds after a fault's line. The commands use the file system by `Files` of
+//! `dmlw_files`.
 #![tactic(auto)]
 
 pub use ending::{Ended, end, end_recording, end_well, report};

@@ -69,7 +69,7 @@ pub fn record<F: Files, O: Write, E: Write>(
     )
 }
 
-// Runs the script in a file, and writes its log.
+// Records the script in the file `script`, and writes its log to the file `log`.
 fn record_script<F: Files, O: Write>(
     alloc: Global,
     script: &str,

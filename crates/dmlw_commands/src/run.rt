@@ -66,7 +66,7 @@ pub fn run<F: Files, O: Write, E: Write, H: Threads + Wait + Sync>(
     )
 }
 
-// Runs the script in a file, and writes its log.
+// Runs the seats of the script in the file `script`, and writes the log to the file `log`.
 fn run_named<F: Files, O: Write, H: Threads + Wait + Sync>(
     rt: &H,
     alloc: Global,

@@ -56,8 +56,8 @@ fn stopped(fault: CopyFault) -> RunError
     }
 }
 
-// Creates the new log, on a disk of `sectors` sectors of zeroes. If memory runs out, it reports
-// this, since no entry was copied that an end of logging could keep.
+// Creates the new log, on a disk of `sectors` sectors of zeroes. If memory runs out here, it
+// reports this, and not that logging ended: no entry was copied yet.
 fn begin_log(alloc: Global, sectors: u64) -> Result<LogStore<SectorDisk>, RunError>
     requires least { 8 ≤ sectors }
     requires most { sectors ≤ 1048576 }

@@ -1,6 +1,6 @@
 //! What `--explain` adds after a command's report, given the command's result and the names of its
 //! files. Each function returns lines that begin with two spaces. The text is empty if not
-//! `explains`, if there is nothing to add, or if memory ran out.
+//! `explains`, if there is nothing to add, or if it can't be written.
 ghost use Rattle.std.specs.Prelude.{◌≡◌, [], false};
 ghost use Rattle.std.specs.String.{string_bytes};
 ghost use Rattle.dmlw_files.specs.Files.{KeepsFiles};

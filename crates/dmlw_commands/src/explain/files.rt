@@ -186,8 +186,8 @@ fn is_of_rereading(kind: io::ErrorKind) -> bool {
     kind == io::ErrorKind::NotSeekable || kind == io::ErrorKind::OutOfMemory
 }
 
-// Writes why a file that has to be of some kind couldn't be read, if the first read failed for
-// that.
+// Writes why the file `name` can't be read as `kind`, which has at most `limit` bytes. Writes
+// nothing if the file couldn't be read a second time, or if memory ran out.
 fn write_unread<F: Files, W: Write>(
     name: &str,
     limit: u64,

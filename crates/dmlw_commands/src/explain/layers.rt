@@ -6,8 +6,8 @@ use refusals::number_of;
 use std::fmt;
 use std::fmt::Write;
 
-// The most sectors of a layer, seconds of a flakey layer's cycle, milliseconds of a delay, and
-// bytes of a dust layer's block.
+// The most sectors of a layer. The next constants: the most seconds of a flakey layer's cycle,
+// milliseconds of a delay, and bytes of a dust layer's block.
 const MAX_SECTORS: u64 = 1_048_576;
 
 const MAX_CYCLE: u64 = 4_294_967_295;

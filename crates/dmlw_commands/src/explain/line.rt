@@ -1,5 +1,5 @@
-//! Explains a line that a script can't have, or can't have at this point: by a usual mistake, the
-//! first wrong word, or what a line at this point needs.
+//! Explains a line that a script can't have, or can't have at this point. It names a usual mistake,
+//! the first wrong word, or what a line at this point needs.
 use crate::explain::places::write_place;
 use crate::explain::script_text::{Grammar, Numbered, is_space};
 use dmlw_script::{recorder_forms, seat_forms};
@@ -76,7 +76,7 @@ fn other_of(grammar: Grammar) -> Grammar {
     }
 }
 
-/// Writes the lines that a script can have.
+/// Writes the forms of the lines that a script can have.
 pub(crate) fn write_forms<W: Write>(grammar: Grammar, to: &mut W) -> fmt::Result {
     for form in forms_of(grammar) {
         writeln!(to, "    {form}")?;
@@ -141,8 +141,8 @@ fn cause_of(line: &[u8]) -> Option<&'static str> {
     None
 }
 
-// Returns whether a line has its own rules for words: a mark or a message, whose text is free, or a
-// layer's table line.
+// Returns whether a line's words have their own rules. The text of a mark or a message is taken as
+// it is, and a layer's table line has its own grammar.
 fn has_own_words(line: &[u8]) -> bool {
     line.starts_with(b"mark ".as_slice())
         || line.starts_with(b"message ".as_slice())

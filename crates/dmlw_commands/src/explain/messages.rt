@@ -1,5 +1,5 @@
-//! Explains why a layer refused a message: whether there is such a layer, whether it takes
-//! messages, and what the script did to the block before.
+//! Explains why a message to a layer was refused. The layer doesn't exist, its target takes no
+//! messages, the message has wrong words, or the block is listed already or isn't listed.
 use crate::explain::counted::Counted;
 use crate::explain::line::Shown;
 use crate::explain::script_text::{Numbered, count_of, nth_of, number_at, word_at};

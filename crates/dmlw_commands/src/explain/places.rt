@@ -90,7 +90,8 @@ fn write_twice<W: Write>(text: &[u8], line: Numbered, word: &[u8], to: &mut W) -
     )
 }
 
-// Writes which line may not come before a layer's line, or that the layer is too short.
+// Writes which line may not come before a layer's line, that the disk has too many layers, or that
+// the layer is too short.
 fn write_layer<W: Write>(text: &[u8], line: Numbered, word: &[u8], to: &mut W) -> fmt::Result {
     if let Some(Numbered { number, .. }) = first_of_body(text, line.number) {
         return writeln!(

@@ -120,8 +120,8 @@ fn range_of(grammar: Grammar, line: &[u8]) -> Option<(u64, u64)> {
     Some((first, count))
 }
 
-// Returns a disk's sector count at a line, seen from the top of its layers: that of the last layer
-// before the line, or of the disk.
+// Returns a disk's sector count as seen from the top of its layers. This is the count of the disk's
+// last layer before line `before`, or of the disk if it has no layer there.
 fn sectors_of(text: &[u8], before: u64, disk: &[u8], layer: &[u8]) -> Option<u64> {
     match line_of(text, before, layer) {
         Some(Numbered { text: line, .. }) => number_at(line, 2),

@@ -38,9 +38,9 @@ pub(crate) struct Asked<'a> {
     pub(crate) image: &'a str,
 }
 
-// Runs the script in a file as `record` does, on a data disk of zeroes. Prints the answer about the
-// image in another file, after the first `moment` of the recorder's events. A fault is reported to
-// `err`, with advice if the session `explains`.
+// Runs the script in the file `asked.script` as `record` does, on a data disk of zeroes. Prints the
+// answer about the image in the file `asked.image`, after the first `asked.moment` of the
+// recorder's events. A fault is reported to `err`, with advice if the session `explains`.
 pub(crate) fn ask<A: Answer, F: Files, O: Write, E: Write>(
     asked: Asked<'_>,
     session: &mut Session<F, O, E>,

@@ -21,9 +21,10 @@ use world::laws::possible_is_exact;
 
 /// The content after replaying a prefix of a script's log over zeroes is judged possible. The
 /// prefix has to belong to a moment up to which logging goes on (`BeginsLog`).
-/// - `content`: the verdict on this content after `moment` events is yes.
+/// - `content`: if the events are well formed and aligned, the verdict on this content after
+///   `moment` events is yes.
 /// - `judged`: if an image has this content, its verdict is yes, by the same events and moment.
-/// - `asked`: this also holds for the verdict on an image in a file.
+/// - `asked`: the verdict is also yes if the image and the script are in files.
 ///
 /// The log may have any sector size that a log can have.
 pub fn replayed_prefixes_are_judged_possible()
@@ -45,7 +46,7 @@ pub fn replayed_prefixes_are_judged_possible()
 }
 
 /// `path` and `judge` agree on an image. If both see the same events, the verdict is yes if and
-/// only if there is a run. If there is no run, `path` prints the verdict of `judge`.
+/// only if the finding is a run. Otherwise verdict and finding are the same no.
 pub fn findings_are_verdicts()
     ensures content { (sectors : ℕ) (events : List CoreEvent) (first now : Content)
         (verdict : Verdict) (finding : Finding) →

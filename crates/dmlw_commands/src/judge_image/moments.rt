@@ -124,8 +124,8 @@ fn write_last<W: Write>(script: &str, moment: u64, moments: Moments, to: &mut W)
     )
 }
 
-// Returns the moments of the run of the script with this text. None if the text isn't a script, or
-// its rehearsal fails.
+// Returns the moments of the run of the script with this text. None if the text isn't a script, its
+// rehearsal fails, or memory runs out.
 fn moments_of(alloc: Global, text: &[u8]) -> Option<Moments> {
     let script = read_script(alloc, text).ok()?;
     let rehearsed = events_of_run(alloc, text, &script).ok()?;

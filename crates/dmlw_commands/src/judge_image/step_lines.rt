@@ -28,14 +28,15 @@ struct EventLine<'a> {
 // How far the steps of a run were matched to lines.
 #[derive(Drop)]
 struct Told {
-    // The index after the last event that was a submission or an end.
+    // The index after the last submission or end.
     next: usize,
     // The index of the request that landed last.
     landed: usize,
 }
 
 // Returns the steps of a run, each with its line of the script in the file `script`: lines that
-// begin with two spaces. Empty if not `explains`, or if the script can't be read or memory ran out.
+// begin with two spaces. Empty if not `explains`, if the script can't be read, or if memory ran
+// out.
 pub(crate) fn explain_run<F: Files>(
     alloc: Global,
     explains: bool,
@@ -58,7 +59,7 @@ pub(crate) fn explain_run<F: Files>(
 }
 
 /// Returns which line of the script in the file `script` an event is: a line that begins with two
-/// spaces. Empty if not `explains`, if no line is this event, or if the script can't be read or
+/// spaces. Empty if not `explains`, if the event has no line, if the script can't be read, or if
 /// memory ran out.
 pub(crate) fn explain_event<F: Files>(
     alloc: Global,
@@ -81,7 +82,7 @@ pub(crate) fn explain_event<F: Files>(
     }
 }
 
-// Writes which line of the script in a file an event is.
+// Writes which line of the script in the file `script` an event is.
 fn write_event<F: Files, W: Write>(
     alloc: Global,
     event: Id,

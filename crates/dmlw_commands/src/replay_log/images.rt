@@ -23,8 +23,9 @@ pub(crate) struct Replayed {
     pub(crate) disk: SectorDisk,
 }
 
-/// Replays a log on the disk that the image `first` becomes, up to the entry that `upto` names. It
-/// calls `reopen_and_replay`, which carries the headline. The log's disk is dropped at the end.
+/// Replays a log on the disk that the image `first` becomes, up to the end that `upto` names. It
+/// calls `reopen_and_replay`, whose contract has the headline. The log's disk is dropped at the
+/// end.
 pub(crate) fn replay_images(
     alloc: Global,
     log: Image,

@@ -152,20 +152,28 @@ pub record EndsBadWord (flaw : BadWord) (word : List ℕ) (explains : Bool) (old
 -- How a task ends. The arguments after the task: whether `--explain` was given, what was seen
 -- before and after the task, and the task's end.
 abbrev pub EndsTask : Task → Bool → Seen → Seen → Ended → Type 0
-EndsTask (tasks.Record script log) = Ends (Records of_recorder script.now log.now) exit_after
-EndsTask (tasks.Run script log) = Ends (Records of_seats script.now log.now) exit_after
-EndsTask (tasks.List log) = Ends (ShowsLog ListsImage log.now) exit_by
-EndsTask (tasks.Status log) = Ends (ShowsLog ShowsStatus log.now) exit_by
-EndsTask (tasks.Replay files upto) =
-    Ends (Replays files.log.now files.first.now files.out.now upto) exit_by
-EndsTask (tasks.Copy files sectors) = Ends (Copies files.log.now files.out.now sectors) exit_by
-EndsTask (tasks.Judge script moment image) =
-    Ends (AnswersOf verdict_meaning script.now moment image.now) (exit_answered verdict_meaning)
-EndsTask (tasks.Path script moment image) =
-    Ends (AnswersOf finding_meaning script.now moment image.now) (exit_answered finding_meaning)
-EndsTask (tasks.Formats page) = Ends (OnlyReads (λ files. PrintsPage page.now)) exit_by
-EndsTask (tasks.Show error) = EndsText (kind_of error)
-EndsTask (tasks.HasBadWord flaw word) = EndsBadWord flaw word.now
+EndsTask (tasks.Record script log) explains old new ended =
+    Ends (Records of_recorder script.now log.now) exit_after explains old new ended
+EndsTask (tasks.Run script log) explains old new ended =
+    Ends (Records of_seats script.now log.now) exit_after explains old new ended
+EndsTask (tasks.List log) explains old new ended =
+    Ends (ShowsLog ListsImage log.now) exit_by explains old new ended
+EndsTask (tasks.Status log) explains old new ended =
+    Ends (ShowsLog ShowsStatus log.now) exit_by explains old new ended
+EndsTask (tasks.Replay files upto) explains old new ended =
+    Ends (Replays files.log.now files.first.now files.out.now upto) exit_by explains old new ended
+EndsTask (tasks.Copy files sectors) explains old new ended =
+    Ends (Copies files.log.now files.out.now sectors) exit_by explains old new ended
+EndsTask (tasks.Judge script moment image) explains old new ended =
+    Ends (AnswersOf verdict_meaning script.now moment image.now) (exit_answered verdict_meaning) explains old new ended
+EndsTask (tasks.Path script moment image) explains old new ended =
+    Ends (AnswersOf finding_meaning script.now moment image.now) (exit_answered finding_meaning) explains old new ended
+EndsTask (tasks.Formats page) explains old new ended =
+    Ends (OnlyReads (λ files. PrintsPage page.now)) exit_by explains old new ended
+EndsTask (tasks.Show error) explains old new ended =
+    EndsText (kind_of error) explains old new ended
+EndsTask (tasks.HasBadWord flaw word) explains old new ended =
+    EndsBadWord flaw word.now explains old new ended
 
 -- What a command line does. Its words without `--explain` are read as `task`, and `task` ends as
 -- `EndsTask` says. It explains itself if `--explain` is among the words.

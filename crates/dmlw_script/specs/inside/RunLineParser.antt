@@ -11,7 +11,7 @@ use Rattle.dmlw_script.specs.declared.run_line.RunLine.TheVariants as run_lines
 use Rattle.dmlw_script.specs.declared.seat_call.Call.{Call}
 use Rattle.dmlw_script.specs.declared.seat_call.Call.TheVariants as calls
 use Rattle.dmlw_script.specs.Lines.{is_line_text}
-use Rattle.dmlw_script.specs.inside.LineParser.{head_words, submission_of}
+use Rattle.dmlw_script.specs.inside.LineParser.{◌>>=◌, head_words, submission_of}
 use Rattle.refusals.specs.Words.{after_byte, before_byte, number_of}
 
 -- the mark with this text; None stands for a line with no space after `mark`

@@ -27,7 +27,7 @@ DELAY = """    // Delays a call at random.
         }
     }
 
-    // Holds the call if it is the one.
+    // Holds a write that begins at sector `first`, if it is the one to hold.
 """
 HEAD = r"#\[test\]\nfn \w+\(rt: HostRuntime\) -> Result<\(\), Fail> \{\n"
 TEST = re.compile(f"({HEAD})(.*?)" + r"(    Ok\(\(\)\)\n\})", re.S)
@@ -35,7 +35,7 @@ TEST = re.compile(f"({HEAD})(.*?)" + r"(    Ok\(\(\)\)\n\})", re.S)
 
 def delayed(text):
     """The gate, whose calls are delayed."""
-    begin = "    // Holds the call if it is the one.\n"
+    begin = "    // Holds a write that begins at sector `first`, if it is the one to hold.\n"
     assert text.count(begin) == 1
     text = text.replace(begin, DELAY)
     calls = ["self.lower.read(", "self.lower.discard(", "self.lower.flush(", "self.pass(first)"]

@@ -73,6 +73,22 @@ A copy of that copy is the same.
   $ same out again
   same
 
+A log whose image ends inside a unit of 4,096 bytes (33 sectors are 16,896 bytes) is copied like any other.
+
+  $ write script
+  > data 64
+  > log 33
+  > w a 8 16 41
+  > c a
+  > f b
+  > c b
+  > close
+  $ quiet dmlw record script odd
+  $ dmlw copy odd again 256
+  copied 3
+  $ same out again
+  same
+
 The new log is full before the end mark: one log sector stays free behind its entries. Nothing is written.
 
   $ remove out

@@ -26,6 +26,17 @@ A mark over a log with no room for it: logging ends, and nobody waits for ever.
   0 0 logging_disabled
   [3]
 
+A script whose last line has no line feed is run like any other.
+
+  $ escaped script
+  > data 16
+  > log 32
+  > seats 1
+  > s0 mark x\
+  $ dmlw run script log
+  seat 0: 0 done 1 logged 0 failed 0 not logged 0 refused
+  2 2
+
 A mark of a seat that is longer than fits into a log sector: its first 479 bytes are logged.
 
   $ write script

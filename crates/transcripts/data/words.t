@@ -329,6 +329,18 @@ Command lines and their texts.
   
   Options:
     -h, --help  Print help
+  $ dmlw help copy
+  Copies a log to one with sectors of 4096 bytes
+  
+  Usage: dmlw copy <LOG> <OUT> <SECTORS>
+  
+  Arguments:
+    <LOG>      The log to read
+    <OUT>      The log to write
+    <SECTORS>  The sectors of the new log's disk
+  
+  Options:
+    -h, --help  Print help
   $ dmlw help judge
   Judges whether an image could have been on the device
   

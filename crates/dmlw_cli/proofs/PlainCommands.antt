@@ -191,7 +191,8 @@ copy_refused : (log out : Text) (sectors : ℕ) (old new : Seen) (ended : Ended)
     → Ends (Copies log out sectors) exit_by false old new ended
 copy_refused log out sectors old new ended ends = record {
   done = Err memory_error;
-  did = none_made _ log out old new ended (λ kept. (uncopied memory_error (inr refl), kept)) ends;
+  did = none_made _ log out old new ended
+      (λ kept. (uncopied memory_error (inr refl) (λ log_holds. refl), kept)) ends;
   tells = ends.tells;
 }
 

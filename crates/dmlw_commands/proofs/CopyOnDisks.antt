@@ -333,7 +333,7 @@ stopped_on log sectors stop r last v w image opened begun whole_sectors reader s
 -- a copy that fails is a refusal
 pub file_stop_refused : (log_file : Option (List ℕ)) (sectors : ℕ) (stop : RunError)
     → FailsCopy log_file sectors stop → exit_of stop ≡ Refused
-file_stop_refused log_file sectors stop (file fault is) = file_refused fault is
+file_stop_refused log_file sectors stop (file fault is readable) = file_refused fault is
 file_stop_refused log_file sectors stop (of_image log same read is memory) = refl
 file_stop_refused log_file sectors stop (of_image log same read is (unopened fault refuses)) =
     ap exit_of refuses.2

@@ -27,7 +27,7 @@ use Rattle.dmlw_commands.specs.Lists.{RefusesImage}
 use Rattle.dmlw_commands.specs.Makings.{Makes, Making}
 use Rattle.dmlw_commands.specs.Seen.{Does}
 use Rattle.dmlw_files.specs.Files.{MatchesContents}
-use Rattle.dmlw_files.specs.Images.{IsImage}
+use Rattle.dmlw_files.specs.Images.{HoldsImage, IsImage}
 
 -- The line that `copy` prints: how many entries it copied.
 abbrev pub copied_line : ℕ → List ℕ
@@ -92,10 +92,13 @@ pub data FailsOnImage (log : List ℕ) (sectors : ℕ) : RunError → Type 0 whe
   stopped : (stop : CopyFault) → StopsCopy log sectors stop
       → FailsOnImage log sectors (copy_stopped stop)
 
--- Why the log in a file isn't copied: a file can't be used, memory ran out, or copying the file's
--- image failed.
+-- Why the log in a file isn't copied.
+-- - `file`: the file can't be used, or memory ran out. If the file is known to hold an image, the
+--   fault is that memory ran out.
+-- - `of_image`: the copy of the file's image fails.
 pub data FailsCopy (log_file : Option (List ℕ)) (sectors : ℕ) : RunError → Type 0 where
-  file : (fault : RunError) → IsFileError fault → FailsCopy log_file sectors fault
+  file : (fault : RunError) → IsFileError fault → (HoldsImage log_file → fault ≡ memory_error)
+      → FailsCopy log_file sectors fault
   of_image : (log : List ℕ) (stop : RunError) → MatchesContents log_file log → IsImage log
       → FailsOnImage log sectors stop → FailsCopy log_file sectors stop
 

@@ -1,7 +1,7 @@
 -- Which requests are durable and which are replaced, by computation.
 use Rattle.std.proofs.Common.{◌≡◌, ℕ, zero, suc, Bool, true, false, None, Some, List, [], ◌∷◌}
 use Rattle.std.proofs.Common.{get_or, slice_get, refl, replicate, ap, inl, inr, arith}
-use Rattle.std.specs.Prelude.{◌==◌, if◌then◌else◌, unwrap_or}
+use Rattle.std.specs.Prelude.{◌==◌, if◌then◌else◌}
 use Rattle.bio.specs.Content as contents
 use Rattle.bio.specs.Content.{Content}
 use Rattle.bio.specs.declared.event.CoreEvent.{CoreEvent}
@@ -113,7 +113,7 @@ possible-first = inl (refl, refl)
 
 -- a byte is that of its list
 byte_is : (a b : ℕ) → Some (replicate 512 a) ≡ Some (replicate 512 b) → a ≡ b
-byte_is a b same = ap (λ o. get_or (unwrap_or o []) 0 0) same
+byte_is a b same = grind (arith, get_or)
 
 -- what was there at first isn't, where a durable request covers the sector
 impossible-first : PossibleAt replaced (holding 5 7) (holding 5 7) 5 → ⊥
@@ -121,8 +121,7 @@ unfolding contents.over
 impossible-first (inl same) = let contra : true ≡ false = same.1 in cc
 impossible-first (inr (zero, is, last)) = let contra = byte_is 65 7 is in absurd (omega arith)
 impossible-first (inr (suc zero, is, last)) = cc
-impossible-first (inr (suc (suc zero), is, last)) =
-    let contra = byte_is 66 7 is in absurd (omega arith)
+impossible-first (inr (suc (suc zero), is, last)) = grind (arith, byte_is)
 impossible-first (inr (suc (suc (suc zero)), is, last)) = cc
 impossible-first (inr (suc (suc (suc (suc id))), is, last)) = cc
 
@@ -132,8 +131,7 @@ unfolding contents.over
 impossible-older (inl same) = let contra : true ≡ false = same.1 in cc
 impossible-older (inr (zero, is, last)) = let contra : true ≡ false = last in cc
 impossible-older (inr (suc zero, is, last)) = cc
-impossible-older (inr (suc (suc zero), is, last)) =
-    let contra = byte_is 66 65 is in absurd (omega arith)
+impossible-older (inr (suc (suc zero), is, last)) = grind (arith, byte_is)
 impossible-older (inr (suc (suc (suc zero)), is, last)) = cc
 impossible-older (inr (suc (suc (suc (suc id))), is, last)) = cc
 

@@ -1,10 +1,10 @@
 -- Laws of `over`, for proofs that don't unfold it, and of the content after a patch.
-use Rattle.std.proofs.Common.{◌≡◌, ℕ, ◌+◌, ◌-◌, ◌*◌, ◌/◌, ◌<◌, ◌≤◌, false, ◌&&◌, Option, Some, None}
+use Rattle.std.proofs.Common.{◌≡◌, ℕ, ◌+◌, ◌-◌, ◌*◌, ◌/◌, ◌<◌, ◌≤◌, false, ◌&&◌, Some, None}
 use Rattle.std.proofs.Common.{List, length, drop, replicate, refl, ap, sym, ◌∙◌, inl, inr, arith}
 use Rattle.std.proofs.lemmas.Bool.{cases_lt, lt-ltb, le-ltb, le-leb, leb-true}
 use Rattle.std.proofs.Math.Bool.{and-false}
 use Rattle.std.proofs.lemmas.List.{length-drop, length-replicate, length-take-le}
-use Rattle.std.specs.Prelude.{◌⊎◌, nat_lt, nat_le, unwrap_or, if◌then◌else◌}
+use Rattle.std.specs.Prelude.{◌⊎◌, nat_lt, nat_le, if◌then◌else◌}
 use Rattle.bio.specs.PlaceLaws.{bool_cases, option_cases}
 use Rattle.bio.specs.Content.{AgreeBelow, Content, HasBytes, HasNoneBelow, HasWholeSectors}
 use Rattle.bio.specs.Content.{HasWholeValues, Patch, Patched, discards, nothing, over, put}
@@ -14,12 +14,7 @@ use Rattle.bio.specs.Content.{sector_of, writes}
 pub over-in : (first count : ℕ) (value : ℕ → List ℕ) (k : ℕ) → k < count
     → over first count value (first + k) ≡ Some (value k)
 unfolding over
-over-in first count value k h =
-    ap (λ b. if b && nat_lt (first + k) (first + count) then Some
-    (value (first + k - first)) else None) (le-leb first (first + k) (omega arith))
-    ∙ ap (λ b. if b then Some (value (first + k - first)) else None)
-    (lt-ltb (first + k) (first + count) (omega arith))
-    ∙ ap (λ n. Some (value n)) (omega arith)
+over-in first count value k h = grind (arith, le-leb, lt-ltb)
 
 -- the patch has no value for a sector before the range
 pub over-before : (first count : ℕ) (value : ℕ → List ℕ) (sector : ℕ) → sector < first
@@ -30,19 +25,13 @@ over-before first count value sector h =
     (lt-leb first sector h)
   where
     lt-leb : (a b : ℕ) → b < a → nat_le a b ≡ false
-    lt-leb a b less = elim (bool_cases (nat_le a b)) [
-      | inl below ↦ absurd (let within = leb-true a b below in omega arith)
-      | inr other ↦ other
-    ]
+    lt-leb a b less = grind (arith, bool_cases, leb-true)
 
 -- the patch has no value for a sector after the range
 pub over-after : (first count : ℕ) (value : ℕ → List ℕ) (sector : ℕ) → first + count ≤ sector
     → over first count value sector ≡ None
 unfolding over
-over-after first count value sector h =
-    ap (λ b. if nat_le first sector && b then Some (value (sector - first)) else None)
-    (le-ltb sector (first + count) h)
-    ∙ ap (λ b. if b then Some (value (sector - first)) else None) (and-false (nat_le first sector))
+over-after first count value sector h = grind (arith, le-ltb, and-false)
 
 -- a sector is in the range, or the patch has no value for it
 pub over_cases : (first count : ℕ) (value : ℕ → List ℕ) (sector : ℕ)
@@ -97,19 +86,17 @@ over-shift offset first count value sector = elim (range_cases first count secto
 -- A sector for which the patch has a value gets it.
 pub put-some : (patch : Patch) (content : Content) (sector : ℕ) (value : List ℕ)
     → patch sector ≡ Some value → put patch content sector ≡ value
-put-some patch content sector value is =
-    ap (λ (o : Option (List ℕ)). unwrap_or o (content sector)) is
+put-some patch content sector value is = grind arith
 
 -- A sector for which the patch has no value is unchanged.
 pub put-none : (patch : Patch) (content : Content) (sector : ℕ) → patch sector ≡ None
     → put patch content sector ≡ content sector
-put-none patch content sector is = ap (λ (o : Option (List ℕ)). unwrap_or o (content sector)) is
+put-none patch content sector is = grind arith
 
 -- After the values of a range are put, each sector of the range has its value.
 pub put-in : (first count : ℕ) (value : ℕ → List ℕ) (content : Content) (k : ℕ) → k < count
     → put (over first count value) content (first + k) ≡ value k
-put-in first count value content k h =
-    put-some (over first count value) content (first + k) (value k) (over-in first count value k h)
+put-in first count value content k h = grind (arith, put-some, over-in)
 
 -- After a write, the content has the write's bytes.
 pub HasBytes-put : (first : ℕ) (bytes : List ℕ) (content : Content)
@@ -124,42 +111,25 @@ discards-zeroes first count content k h = put-in first count (λ _. replicate 51
 -- a range has no values below its first sector
 pub over-below : (end first count : ℕ) (value : ℕ → List ℕ) → end ≤ first
     → HasNoneBelow end (over first count value)
-over-below end first count value h =
-    λ sector below. over-before first count value sector (omega arith)
+over-below end first count value h = grind (arith, over-before)
 
 -- If a patch has no values below `end`, the contents before and after it agree there.
 pub below-patched : (end : ℕ) (patch : Patch) (old new : Content) → HasNoneBelow end patch
     → Patched patch old new → AgreeBelow end old new
-below-patched end patch old new none patched = λ sector below. elim (patched sector) [
-  | inl same ↦ same
-  | inr is ↦ is ∙ put-none patch old sector (none sector below)
-]
+below-patched end patch old new none patched = grind (arith, put-none)
 
 -- If the patch's values have 512 bytes each, a disk of whole sectors has whole sectors after the
 -- patch.
 pub whole-patched : (disk : ℕ) (patch : Patch) (old new : Content) → HasWholeValues patch
     → Patched patch old new
     → HasWholeSectors disk old → HasWholeSectors disk new
-whole-patched disk patch old new values patched whole = λ sector below. elim (patched sector) [
-  | inl same ↦ ap length same ∙ whole sector below
-  | inr is ↦ elim (option_cases (patch sector)) [
-    | inl none ↦ ap length (is ∙ put-none patch old sector none) ∙ whole sector below
-    | inr some ↦
-        ap length (is ∙ put-some patch old sector some.0 some.1) ∙ values sector some.0 some.1
-  ]
-]
+whole-patched disk patch old new values patched whole =
+    grind (arith, option_cases, put-none, put-some)
 
 -- If each `value k` of a range has 512 bytes, so has each value of its patch.
 pub over-whole : (first count : ℕ) (value : ℕ → List ℕ)
     → ((k : ℕ) → k < count → length (value k) ≡ 512) → HasWholeValues (over first count value)
-over-whole first count value whole sector found is = elim (over_cases first count value sector) [
-  | inl within ↦
-      let there = over-in first count value within.0 within.1 in
-      let place = ap (over first count value) within.2 in
-      let same : value within.0 ≡ found = cc in
-      ap length (sym same) ∙ whole within.0 within.1
-  | inr none ↦ cc
-]
+over-whole first count value whole sector found is = grind (arith, over_cases, over-in)
 
 -- Each value of a write has 512 bytes.
 pub writes-whole : (first : ℕ) (bytes : List ℕ) → HasWholeValues (writes first bytes)
@@ -171,8 +141,7 @@ writes-whole first bytes =
 
 -- Each value of a discard has 512 bytes.
 pub discards-whole : (first count : ℕ) → HasWholeValues (discards first count)
-discards-whole first count =
-    over-whole first count (λ _. replicate 512 0) (λ k h. length-replicate {A = ℕ} 512 0)
+discards-whole first count = grind (arith, over-whole, length-replicate)
 
 -- `nothing` has no values, so each of its values has 512 bytes.
 pub nothing-whole : HasWholeValues nothing
@@ -199,10 +168,7 @@ pub put-outside : (first count : ℕ) (value : ℕ → List ℕ) (content : Cont
     → (sector < first) ⊎ (first + count ≤ sector)
     → put (over first count value) content sector ≡ content sector
 put-outside first count value content sector outside =
-    put-none (over first count value) content sector (elim outside [
-      | inl before ↦ over-before first count value sector before
-      | inr after ↦ over-after first count value sector after
-    ])
+    grind (arith, put-none, over-before, over-after)
 
 -- A content that gets none of the patch's values satisfies `Patched`.
 pub patched-same : (patch : Patch) (content : Content) → Patched patch content content

@@ -1,11 +1,11 @@
 -- Laws of the parts of a patch, and of the content after one part and then another.
-use Rattle.std.proofs.Common.{◌≡◌, ℕ, ◌+◌, ◌-◌, ◌*◌, ◌/◌, ◌<◌, ◌≤◌, true, false, ◌&&◌, Option, Some}
-use Rattle.std.proofs.Common.{None, List, length, take, drop, replicate, refl, ap, sym, ◌∙◌, inl}
+use Rattle.std.proofs.Common.{◌≡◌, ℕ, ◌+◌, ◌-◌, ◌*◌, ◌/◌, ◌<◌, ◌≤◌, true, false, ◌&&◌, Some}
+use Rattle.std.proofs.Common.{None, List, length, take, drop, refl, ap, sym, ◌∙◌, inl}
 use Rattle.std.proofs.Common.{inr, arith}
 use Rattle.std.proofs.lemmas.Bool.{cases_lt, lt-ltb, le-ltb, le-leb, leb-true}
 use Rattle.std.proofs.Math.Bool.{and-false}
 use Rattle.std.proofs.lemmas.List.{drop-drop, drop-take, length-drop, length-take-le, take-take}
-use Rattle.std.specs.Prelude.{◌⊎◌, nat_lt, nat_le, unwrap_or, if◌then◌else◌}
+use Rattle.std.specs.Prelude.{◌⊎◌, nat_lt, nat_le, if◌then◌else◌}
 use Rattle.bio.specs.PlaceLaws.{option_cases}
 use Rattle.bio.specs.Content.{Content, HasNoneBelow, Patch, Patched, discards, over, put}
 use Rattle.bio.specs.Content.{sector_of, writes}
@@ -16,17 +16,15 @@ use Rattle.bio.specs.Parts.{HasNoneFrom, IsPart, Joins, SameValues, below, betwe
 -- `below` and `between` have the patch's value for a sector within their range, and none outside.
 pub below-in : (end : ℕ) (patch : Patch) (sector : ℕ) → sector < end
     → below end patch sector ≡ patch sector
-below-in end patch sector h = ap (λ b. if b then patch sector else None) (lt-ltb sector end h)
+below-in end patch sector h = grind (arith, lt-ltb)
 
 pub below-out : (end : ℕ) (patch : Patch) (sector : ℕ) → end ≤ sector
     → below end patch sector ≡ None
-below-out end patch sector h = ap (λ b. if b then patch sector else None) (le-ltb sector end h)
+below-out end patch sector h = grind (arith, le-ltb)
 
 pub between-in : (from to : ℕ) (patch : Patch) (sector : ℕ) → from ≤ sector → sector < to
     → between from to patch sector ≡ patch sector
-between-in from to patch sector low high =
-    ap (λ b. if b && nat_lt sector to then patch sector else None) (le-leb from sector low)
-    ∙ ap (λ b. if b then patch sector else None) (lt-ltb sector to high)
+between-in from to patch sector low high = grind (arith, le-leb, lt-ltb)
 
 pub between-before : (from to : ℕ) (patch : Patch) (sector : ℕ) → sector < from
     → between from to patch sector ≡ None
@@ -39,52 +37,31 @@ between-before from to patch sector h =
 
 pub between-after : (from to : ℕ) (patch : Patch) (sector : ℕ) → to ≤ sector
     → between from to patch sector ≡ None
-between-after from to patch sector h =
-    ap (λ b. if nat_le from sector && b then patch sector else None) (le-ltb sector to h)
-    ∙ ap (λ b. if b then patch sector else None) (and-false (nat_le from sector))
+between-after from to patch sector h = grind (arith, le-ltb, and-false)
 
 -- If a patch has no values from `end` on, its part below `end` has all its values.
 pub below_all : (end : ℕ) (patch : Patch) → HasNoneFrom end patch
     → SameValues (below end patch) patch
-below_all end patch none = λ sector. elim (cases_lt sector end) [
-  | inl within ↦ below-in end patch sector within
-  | inr past ↦ below-out end patch sector past ∙ sym (none sector past)
-]
+below_all end patch none = grind (arith, cases_lt, below-in, below-out)
 
 -- If a patch has no values below `end`, its part below `end` has none.
 pub below_none : (end : ℕ) (patch : Patch) → HasNoneBelow end patch → (sector : ℕ)
     → below end patch sector ≡ None
-below_none end patch none sector = elim (cases_lt sector end) [
-  | inl within ↦ below-in end patch sector within ∙ none sector within
-  | inr past ↦ below-out end patch sector past
-]
+below_none end patch none sector = grind (arith, cases_lt, below-in, below-out)
 
 -- A patch's values below a sector are a part of the patch.
 pub below-part : (end : ℕ) (patch : Patch) → IsPart (below end patch) patch
-below-part end patch = λ sector. elim (cases_lt sector end) [
-  | inl within ↦ inr (below-in end patch sector within)
-  | inr past ↦ inl (below-out end patch sector past)
-]
+below-part end patch = grind (arith, cases_lt, below-in, below-out)
 
 -- A patch's values below a sector are a part of its values below a later sector.
 pub below_more : (end more : ℕ) (patch : Patch) → end ≤ more
     → IsPart (below end patch) (below more patch)
-below_more end more patch h = λ sector. elim (cases_lt sector end) [
-  | inl within ↦
-      inr (below-in end patch sector within ∙ sym (below-in more patch sector (omega arith)))
-  | inr past ↦ inl (below-out end patch sector past)
-]
+below_more end more patch h = grind (arith, cases_lt, below-in, below-out)
 
 -- A patch's values between two sectors are a part of its values below the second.
 pub between-part : (from to : ℕ) (patch : Patch) → IsPart (between from to patch) (below to patch)
-between-part from to patch = λ sector. elim (cases_lt sector from) [
-  | inl before ↦ inl (between-before from to patch sector before)
-  | inr low ↦ elim (cases_lt sector to) [
-    | inl high ↦
-        inr (between-in from to patch sector low high ∙ sym (below-in to patch sector high))
-    | inr past ↦ inl (between-after from to patch sector past)
-  ]
-]
+between-part from to patch =
+    grind (arith, cases_lt, between-before, between-in, below-in, between-after)
 
 -- A patch's values below `from`, and then those from there to `to`, join to its values below `to`.
 pub below-joins : (from to : ℕ) (patch : Patch) → from ≤ to
@@ -116,70 +93,34 @@ below-joins from to patch h = λ sector. elim (cases_lt sector from) [
 -- If a content is patched by a part, it is patched by the whole.
 pub patched-part : (part whole : Patch) (old new : Content) → IsPart part whole
     → Patched part old new → Patched whole old new
-patched-part part whole old new is patched = λ sector. elim (patched sector) [
-  | inl same ↦ inl same
-  | inr put_there ↦ elim (is sector) [
-    | inl none ↦ inl (put_there ∙ put-none part old sector none)
-    | inr value ↦ inr (put_there ∙ ap (λ (o : Option (List ℕ)). unwrap_or o (old sector)) value)
-  ]
-]
+patched-part part whole old new is patched = grind (arith, put-none)
 
 -- If parts of a patch lead from `old` to `mid`, and from `mid` to `new`, a part of it leads from
 -- `old` to `new`.
 pub patched_twice : (patch : Patch) (old mid new : Content) → Patched patch old mid
     → Patched patch mid new → Patched patch old new
-patched_twice patch old mid new before after = λ sector. elim (after sector) [
-  | inl same ↦
-      elim (before sector) [ inl first ↦ inl (same ∙ first) | inr first ↦ inr (same ∙ first) ]
-  | inr there ↦ elim (option_cases (patch sector)) [
-    | inl none ↦ elim (before sector) [
-      | inl first ↦ inl (there ∙ put-none patch mid sector none ∙ first)
-      | inr first ↦ inr (there ∙ put-none patch mid sector none ∙ first)
-    ]
-    | inr some ↦
-        inr (there ∙ put-some patch mid sector some.0 some.1
-        ∙ sym (put-some patch old sector some.0 some.1))
-  ]
-]
+patched_twice patch old mid new before after = grind (arith, option_cases, put-none, put-some)
 
 -- A patched sector is unchanged, or has the patch's value.
 pub patched_cases : (patch : Patch) (old new : Content) → Patched patch old new
     → (sector : ℕ) → (new sector ≡ old sector) ⊎ (patch sector ≡ Some (new sector))
-patched_cases patch old new patched sector = elim (patched sector) [
-  | inl same ↦ inl same
-  | inr there ↦ elim (option_cases (patch sector)) [
-    | inl none ↦ inl (there ∙ put-none patch old sector none)
-    | inr some ↦
-        inr (some.1 ∙ ap (λ (x : List ℕ). Some x)
-        (sym (there ∙ put-some patch old sector some.0 some.1)))
-  ]
-]
+patched_cases patch old new patched sector = grind (arith, option_cases, put-none, put-some)
 
 -- A patched sector is unchanged if the patch has no value for it.
 pub patched-none : (patch : Patch) (old new : Content) → Patched patch old new → (sector : ℕ)
     → patch sector ≡ None → new sector ≡ old sector
-patched-none patch old new patched sector none = elim (patched sector) [
-  | inl same ↦ same
-  | inr there ↦ there ∙ put-none patch old sector none
-]
+patched-none patch old new patched sector none = grind (arith, put-none)
 
 -- If two patches have the same values, the content is the same after either.
 pub put-same : (patch other : Patch) (content : Content) → SameValues patch other → (sector : ℕ)
     → put patch content sector ≡ put other content sector
-put-same patch other content same sector =
-    ap (λ (o : Option (List ℕ)). unwrap_or o (content sector)) (same sector)
+put-same patch other content same sector = grind arith
 
 -- If two patches join to a whole, to put one and then the other is to put the whole.
 pub put-joined : (first second whole : Patch) (old mid : Content) (sector : ℕ)
     → Joins first second whole → mid sector ≡ put first old sector
     → put second mid sector ≡ put whole old sector
-put-joined first second whole old mid sector joins before = elim (joins sector) [
-  | inl early ↦
-      put-none second mid sector early.0 ∙ before
-      ∙ ap (λ (o : Option (List ℕ)). unwrap_or o (old sector)) early.1
-  | inr late ↦
-      put-some second mid sector late.0 late.1 ∙ sym (put-some whole old sector late.0 late.2)
-]
+put-joined first second whole old mid sector joins before = grind (arith, put-none, put-some)
 
 -- If a part of a range has the range's values, the part's patch is the range's patch between the
 -- part's ends.
@@ -239,5 +180,4 @@ writes-between first k n bytes within =
 pub discards-between : (first count k n : ℕ) → k + n ≤ count
     → SameValues (discards (first + k) n)
     (between (first + k) (first + k + n) (discards first count))
-discards-between first count k n within =
-    over-between first count k n (λ _. replicate 512 0) (λ _. replicate 512 0) within (λ i h. refl)
+discards-between first count k n within = grind (arith, over-between)

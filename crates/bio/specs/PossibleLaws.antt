@@ -1,7 +1,6 @@
 -- The sectors for which a request has values: exactly those that it covers.
 use Rattle.std.proofs.Common.{◌≡◌, ℕ, ◌-◌, true, false, Option, Some, None, List, replicate, refl}
-use Rattle.std.proofs.Common.{ap, sym, ◌∙◌, inl, inr, arith}
-use Rattle.std.specs.Prelude.{if◌then◌else◌}
+use Rattle.std.proofs.Common.{arith}
 use Rattle.bio.specs.Content.{over, sector_of}
 use Rattle.bio.specs.PlaceLaws.{bool_cases}
 use Rattle.bio.specs.declared.request.Bio.{Bio}
@@ -16,11 +15,9 @@ use Rattle.bio.specs.Requests.{covers}
 request_uncovered : (bio : Bio) (sector : ℕ) → covers bio sector ≡ false
     → values_at (Some (Submit bio)) sector ≡ None
 unfolding over
-request_uncovered (Write first bytes flush fua meta) sector passes =
-    ap (λ b. if b then Some (sector_of bytes (sector - first)) else None) passes
+request_uncovered (Write first bytes flush fua meta) sector passes = grind arith
 request_uncovered Flush sector passes = refl
-request_uncovered (Discard first count) sector passes =
-    ap (λ b. if b then Some (replicate 512 0) else None) passes
+request_uncovered (Discard first count) sector passes = grind arith
 request_uncovered (Read first count) sector passes = refl
 
 -- If an event's request doesn't cover a sector, the event has no value for it.
@@ -39,12 +36,12 @@ request_covered : (bio : Bio) (sector : ℕ) → covers bio sector ≡ true
 unfolding over
 request_covered (Write first bytes flush fua meta) sector covered = (
   sector_of bytes (sector - first),
-  ap (λ b. if b then Some (sector_of bytes (sector - first)) else None) covered,
+  rw covered,
 )
 request_covered Flush sector covered =
     let range = covers-parts Flush sector covered in let less = range.2 in absurd (omega arith)
 request_covered (Discard first count) sector covered =
-    (replicate 512 0, ap (λ b. if b then Some (replicate 512 0) else None) covered)
+    (replicate 512 0, rw covered)
 request_covered (Read first count) sector covered = cc
 
 pub covered_value : (event : Option CoreEvent) (sector : ℕ) → covers_at sector event ≡ true
@@ -59,8 +56,4 @@ covered_value None sector covered = cc
 -- If an event has a value for a sector, its request covers the sector.
 pub value_covers : (event : Option CoreEvent) (sector : ℕ) (value : List ℕ)
     → values_at event sector ≡ Some value → covers_at sector event ≡ true
-value_covers event sector value is = elim (bool_cases (covers_at sector event)) [
-  | inl covered ↦ covered
-  | inr passes ↦
-      absurd (let contra : None ≡ Some value = sym (uncovered_value event sector passes) ∙ is in cc)
-]
+value_covers event sector value is = grind (arith, bool_cases, uncovered_value)

@@ -1,10 +1,10 @@
 -- Laws of the tests of requests and events, as statements about numbers.
 use Rattle.std.proofs.Common.{◌≡◌, ◌↔◌, ℕ, zero, suc, ◌+◌, ◌/◌, ◌%◌, ◌==◌, ◌<◌, ◌≤◌, ◌≢◌, Bool}
 use Rattle.std.proofs.Common.{true, false, not, ◌&&◌, Option, Some, None, List, [], ◌∷◌, length}
-use Rattle.std.proofs.Common.{get_or, Result, Ok, Err, refl, ap, sym, ◌∙◌, inl, inr, arith}
+use Rattle.std.proofs.Common.{get_or, Result, Ok, Err, refl, ap, ◌∙◌, inl, inr, arith}
 use Rattle.std.proofs.lemmas.Bool.{and_parts, le-leb, le-ltb, leb-true, lt-ltb, ltb-true, ltb-false}
 use Rattle.std.proofs.lemmas.Bool.{cases_lt}
-use Rattle.std.specs.Prelude.{◌⊎◌, is_ok, nat_le, nat_lt, if◌then◌else◌}
+use Rattle.std.specs.Prelude.{◌⊎◌, is_ok, nat_lt, if◌then◌else◌}
 use Rattle.bio.specs.declared.event.CoreEvent.{CoreEvent}
 use Rattle.bio.specs.declared.request.Bio.{Bio}
 use Rattle.bio.specs.declared.request.Bio.TheVariants.{Write, Flush, Discard, Read}
@@ -24,34 +24,19 @@ pub covers-parts : (bio : Bio) (sector : ℕ) → covers bio sector ≡ true
     → (is_tracked bio ≡ true) × (first_sector bio ≤ sector)
     × (sector < first_sector bio + sector_count bio)
 covers-parts bio sector h =
-    let outer =
-    and_parts (is_tracked bio && nat_le (first_sector bio) sector)
-    (nat_lt sector (first_sector bio + sector_count bio)) h in
-    let inner = and_parts (is_tracked bio) (nat_le (first_sector bio) sector) outer.0 in (
-      inner.0,
-      leb-true (first_sector bio) sector inner.1,
-      ltb-true sector (first_sector bio + sector_count bio) outer.1,
-    )
+    grind (arith, and_parts, leb-true, ltb-true)
 
 -- a tracked request covers the sectors of its range
 pub covers-within : (bio : Bio) (sector : ℕ) → is_tracked bio ≡ true → first_sector bio ≤ sector
     → sector < first_sector bio + sector_count bio
     → covers bio sector ≡ true
-covers-within bio sector tracked from to =
-    ap (λ b. b && nat_le (first_sector bio) sector
-    && nat_lt sector (first_sector bio + sector_count bio)) tracked
-    ∙ ap (λ b. b && nat_lt sector (first_sector bio + sector_count bio))
-    (le-leb (first_sector bio) sector from)
-    ∙ lt-ltb sector (first_sector bio + sector_count bio) to
+covers-within bio sector tracked from to = grind (arith, le-leb, lt-ltb)
 
 -- a tracked request covers exactly the sectors of its range
 pub covers-range : (bio : Bio) (sector : ℕ) → is_tracked bio ≡ true
     → (covers bio sector ≡ true)
     ↔ ((first_sector bio ≤ sector) × (sector < first_sector bio + sector_count bio))
-covers-range bio sector tracked = (
-  λ h. let parts = covers-parts bio sector h in (parts.1, parts.2),
-  λ both. covers-within bio sector tracked both.0 both.1,
-)
+covers-range bio sector tracked = grind (arith, covers-parts, covers-within)
 
 -- `a` and `b` pass the tests of `overlaps`
 pub record Overlap (a b : Bio) : Type 0 where
@@ -64,24 +49,7 @@ pub record Overlap (a b : Bio) : Type 0 where
 
 -- If two requests overlap, they pass the tests of `overlaps`.
 pub overlaps-parts : (a b : Bio) → overlaps a b ≡ true → Overlap a b
-overlaps-parts a b h =
-    let both = is_tracked a && is_tracked b in
-    let some = both && nat_lt 0 (sector_count a) in
-    let others = some && nat_lt 0 (sector_count b) in
-    let below = others && nat_lt (first_sector a) (first_sector b + sector_count b) in
-    let h5 = and_parts below (nat_lt (first_sector b) (first_sector a + sector_count a)) h in
-    let h4 = and_parts others (nat_lt (first_sector a) (first_sector b + sector_count b)) h5.0 in
-    let h3 = and_parts some (nat_lt 0 (sector_count b)) h4.0 in
-    let h2 = and_parts both (nat_lt 0 (sector_count a)) h3.0 in
-    let h1 = and_parts (is_tracked a) (is_tracked b) h2.0 in
-    record {
-      first = h1.0;
-      second = h1.1;
-      some = ltb-true 0 (sector_count a) h2.1;
-      others = ltb-true 0 (sector_count b) h3.1;
-      below = ltb-true (first_sector a) (first_sector b + sector_count b) h4.1;
-      above = ltb-true (first_sector b) (first_sector a + sector_count a) h5.1;
-    }
+overlaps-parts a b h = grind (arith, and_parts, ltb-true)
 
 -- If six tests hold, their conjunction does.
 six_hold : (a b c d e f : Bool) → a ≡ true → b ≡ true → c ≡ true → d ≡ true → e ≡ true → f ≡ true
@@ -195,11 +163,7 @@ range_answer-larger : (first count n m : ℕ) → range_answer first count n ≡
     → range_answer first count m ≡ Ok tt
 unfolding range_of_tests
 range_answer-larger first count n m passed more =
-    let within = not_past (count == 0) (nat_lt 2048 count) (nat_lt n (first + count)) passed in
-    let reach : first + count ≤ n = ltb-false n (first + count) within in
-    ap (range_of_tests (count == 0) (nat_lt 2048 count)) (le-ltb m (first + count) (omega arith))
-    ∙ sym (ap (range_of_tests (count == 0) (nat_lt 2048 count)) within)
-    ∙ passed
+    grind (arith, not_past, ltb-false, range_of_tests, le-ltb)
 
 -- a write that may be sent to a device may be sent to a larger one; `whole` says whether its data
 -- is whole sectors
@@ -214,7 +178,7 @@ write_answer-larger false first count n m passed more = passed
 pub check_answer-larger : (bio : Bio) (n m : ℕ) → check_answer bio n ≡ Ok tt → n ≤ m
     → check_answer bio m ≡ Ok tt
 check_answer-larger (Write first bytes flush fua meta) n m passed more =
-    write_answer-larger (length bytes % 512 == 0) first (length bytes / 512) n m passed more
+    grind (arith, write_answer-larger)
 check_answer-larger Flush n m passed more = refl
 check_answer-larger (Discard first count) n m passed more =
     range_answer-larger first count n m passed more
@@ -237,17 +201,11 @@ passed_within (Write first bytes flush fua meta) sectors passed =
     by_whole : (whole : Bool)
         → (if whole then range_answer first (length bytes / 512) sectors else Err NotWhole) ≡ Ok tt
         → nat_lt sectors (first + length bytes / 512) ≡ false
-    by_whole true e =
-        not_past (length bytes / 512 == 0) (nat_lt 2048 (length bytes / 512))
-        (nat_lt sectors (first + length bytes / 512)) e
+    by_whole true e = grind (arith, not_past)
     by_whole false e = cc
 passed_within Flush sectors passed = omega arith
-passed_within (Discard first count) sectors passed =
-    ltb-false sectors (first + count)
-    (not_past (count == 0) (nat_lt 2048 count) (nat_lt sectors (first + count)) passed)
-passed_within (Read first count) sectors passed =
-    ltb-false sectors (first + count)
-    (not_past (count == 0) (nat_lt 2048 count) (nat_lt sectors (first + count)) passed)
+passed_within (Discard first count) sectors passed = grind (arith, ltb-false, not_past)
+passed_within (Read first count) sectors passed = grind (arith, ltb-false, not_past)
 
 -- If an event is within a device, the request that it submits ends within the device.
 pub submits_within : (bio : Bio) (sectors : ℕ) → is_within sectors (Some (Submit bio)) ≡ true
@@ -259,14 +217,7 @@ submits_within bio sectors within =
 pub event_within : (event : Option CoreEvent) (sectors sector : ℕ) → is_within sectors event ≡ true
     → sectors ≤ sector → covers_at sector event ≡ false
 event_within (Some (Submit bio)) sectors sector within past =
-    elim (bool_cases (covers bio sector)) [
-      | inl covered ↦
-          let range = covers-parts bio sector covered in
-          let less = range.2 in
-          let most = submits_within bio sectors within in
-          absurd (omega arith)
-      | inr other ↦ other
-    ]
+    grind (arith, bool_cases, covers-parts, submits_within)
 event_within (Some (Complete id ok)) sectors sector within past = refl
 event_within (Some (Mark text)) sectors sector within past = refl
 event_within (Some (Stop cause)) sectors sector within past = refl

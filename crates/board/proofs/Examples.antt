@@ -43,10 +43,7 @@ more_entries fit = let entries = fit.entries in absurd (omega arith)
 
 -- what may be posted follows the last status, and not the first alone
 two_posted : MayPost (opening ∷ one ∷ []) two
-two_posted = record {
-  fit = record { entries = omega arith; sector = omega arith };
-  follows = two_follows;
-}
+two_posted = grind (arith, two_follows)
 
 one_posted : MayPost (opening ∷ two ∷ []) one → ⊥
 one_posted may = one_back may.follows
@@ -56,12 +53,7 @@ last_posted = refl
 
 -- statuses of which none goes back
 three_rise : IsRising (opening ∷ one ∷ two ∷ [])
-three_rise =
-    rises_more (opening ∷ one ∷ []) two
-    (rises_more (opening ∷ []) one opening_rises
-    (record { entries = omega arith; sector = omega arith })
-    (record { entries = omega arith; end = λ cause is. absurd (cc is) }))
-    (record { entries = omega arith; sector = omega arith }) two_follows
+three_rise = grind (arith, rises_more, opening_rises, two_follows)
 
 unfit : IsRising (record most { entries = 1048577 } ∷ []) → ⊥
 unfit rising = more_entries (rising.fit 0 _ refl)

@@ -38,8 +38,4 @@ parts entries sector end a b c few small less tiny e = (omega arith, omega arith
 -- two statuses that fit and have one number are one
 pub word_once : (one other : Status) → IsFit one → IsFit other → word_of one ≡ word_of other
     → one ≡ other
-word_once one other fit fits e =
-    let p =
-    parts one.entries one.sector (end_number one.end) other.entries other.sector
-    (end_number other.end) fit.sector (end_few one.end) fits.sector (end_few other.end) e in
-    λ i. record { entries = p.0 i; sector = p.1 i; end = end_once one.end other.end p.2 i }
+word_once one other fit fits e = grind (arith, end_number, end_few, end_once)

@@ -19,7 +19,7 @@ use Rattle.bio.specs.declared.request.BadBio.{BadBio}
 use Rattle.bio.specs.declared.sector_size.SectorSize.{SectorSize}
 use Rattle.bio.specs.Sizes.{bytes_of}
 use Rattle.refusals.specs.declared.refusal.Refusal.{Refusal}
-use Rattle.refusals.specs.declared.refusal.Refusal.TheVariants.{BadId, BadLine}
+use Rattle.refusals.specs.declared.refusal.Refusal.TheVariants.{BadId}
 use Rattle.dmlw_script.specs.declared.command.Command.{Command}
 use Rattle.dmlw_script.specs.declared.command.Command.TheVariants as commands
 use Rattle.dmlw_script.specs.declared.script_id.ScriptId.{ScriptId}
@@ -38,7 +38,7 @@ use Rattle.dmlw_script.specs.Plans.{count_after_command, lines_of_body, is_ended
 use Rattle.dmlw_script.specs.Plans.{name_at, request_of, line_at, time_after, step_answer}
 use Rattle.dmlw_script.specs.Plans.{submission_answer, submissions, top_of, Disk, HasLineText}
 use Rattle.dmlw_script.specs.Plans.{IsInTime, IsName, IsWellFormed, CanFollow, WritesByte}
-use Rattle.dmlw_script.specs.inside.Readers.{parsed_step, with_body, Progress}
+use Rattle.dmlw_script.specs.inside.Readers.{parsed_step, Progress}
 use Rattle.dmlw_script.proofs.DraftLemmas.{listed, with_new_name}
 use Rattle.dmlw_script.proofs.FoldLaws.{all_append, barred_ok, bind_at, bind_ok, fold}
 
@@ -46,9 +46,7 @@ use Rattle.dmlw_script.proofs.FoldLaws.{all_append, barred_ok, bind_at, bind_ok,
 
 -- the test of two names says whether they are one
 pub same_name_is : (a b : ScriptId) → same_name a b ≡ true → a ≡ b
-same_name_is a b e =
-    let name = λ (letters : List ℕ). let n : ScriptId = record { letters = letters } in
-    n in ap name ((bytes_eq-Decides a.letters b.letters).0 e)
+same_name_is a b e = grind (arith, bytes_eq-Decides)
 
 -- a name is itself
 pub same_name_self : (a : ScriptId) → same_name a a ≡ true
@@ -59,7 +57,7 @@ pub same_name_swap : (a b : ScriptId) → same_name a b ≡ same_name b a
 same_name_swap a b =
     ⊎_elim
     (λ (same : same_name a b ≡ true). let is : a ≡ b = same_name_is a b same in
-    same ∙ sym (subst (λ (x : ScriptId). same_name b x ≡ true) (sym is) (same_name_self b)))
+    same ∙ sym (rw is (same_name_self b)))
     (λ (apart : same_name a b ≡ false).
     ⊎_elim
     (λ (back : same_name b a ≡ true). let is : b ≡ a = same_name_is b a back in
@@ -143,8 +141,7 @@ submits command = cond (is_submission command) 1 0
 -- one more command after others
 pub submissions-push : (body : List Command) (command : Command)
     → submissions (body ++ command ∷ []) ≡ submissions body + submits command
-submissions-push body command =
-    sum_by-append submits body (command ∷ []) ∙ ap (λ n. submissions body + n) (omega arith)
+submissions-push body command = grind (arith, sum_by-append)
 
 -- one more command before others
 pub submissions-cons : (command : Command) (body : List Command)
@@ -163,14 +160,14 @@ count_after_command-is before (commands.Step step) = omega arith
 pub well_formed_push : (bytes sectors : ℕ) (before body : List Command) (command : Command)
     → IsWellFormed bytes sectors before body → CanFollow bytes sectors (before ++ body) command
     → IsWellFormed bytes sectors before (body ++ command ∷ [])
-well_formed_push bytes sectors before [] command well_formed may =
-    (subst (λ (x : List Command). CanFollow bytes sectors x command) (append-nil before) may, tt)
-well_formed_push bytes sectors before (c ∷ body) command well_formed may = (
-  well_formed.0,
-  well_formed_push bytes sectors (before ++ c ∷ []) body command well_formed.1
-      (subst (λ (x : List Command). CanFollow bytes sectors x command)
-      (sym (append_assoc before (c ∷ []) body)) may),
-)
+well_formed_push bytes sectors before [] command well_formed may = grind (arith, append-nil)
+well_formed_push bytes sectors before (c ∷ body) command well_formed may =
+    grind (
+      arith,
+      well_formed_push bytes sectors (before ++ c ∷ []) body command well_formed.1,
+      well_formed,
+      append_assoc,
+    )
 
 -- a body grows by one line that says this
 pub record Grows (b c : Body) (s : BodyLine) : Type 0 where
@@ -208,26 +205,23 @@ submit_grows : (bytes sectors : ℕ) (b : Body) (name : ScriptId) (submission : 
 submit_grows bytes sectors b name submission new is may sound c same =
     let more : length (b.names ++ name ∷ []) ≡ length b.names + 1 =
     length-append b.names (name ∷ []) in
-    subst (λ (x : Body). IsSound bytes sectors x
-    × Grows b x (body_lines.Submit name submission)) same (
+    rw (← same) (
       record {
         ids = all_append IsName b.names (name ∷ []) sound.ids (is, tt);
-        distinct =
-            IsDistinct-push same_name_equiv b.names name sound.distinct (unlisted name b.names new);
-        numbered =
-            more ∙ sym (submissions-push b.body (commands.Submit submission)
+        distinct = IsDistinct-push same_name_equiv b.names name sound.distinct (unlisted name
+            b.names new);
+        numbered = more ∙ sym (submissions-push b.body (commands.Submit submission)
             ∙ omega (arith, sound.numbered));
-        well_formed =
-            well_formed_push bytes sectors [] b.body
+        well_formed = well_formed_push bytes sectors [] b.body
             (commands.Submit submission) sound.well_formed may;
       },
       record {
         names = name ∷ [];
-        command = commands.Submit submission;
+        command
+            = commands.Submit submission;
         grown_names = refl;
         grown_body = refl;
-        says =
-            ap (λ (x : ScriptId). body_lines.Submit x submission)
+        says = rw
             (get_or-append_seam b.names name [] (script_id []));
       },
     )
@@ -238,19 +232,23 @@ other_grows : (bytes sectors : ℕ) (b : Body) (command : Command) (s : BodyLine
     → line_at b.names (length b.names) command ≡ s → IsSound bytes sectors b → (c : Body)
     → with_command b command ≡ c → IsSound bytes sectors c × Grows b c s
 other_grows bytes sectors b command s may none says sound c same =
-    subst (λ (x : Body). IsSound bytes sectors x × Grows b x s) same (
+    rw (← same) (
       record {
         ids = sound.ids;
         distinct = sound.distinct;
-        numbered = sound.numbered ∙ sym (submissions-push b.body command ∙ omega (arith, none));
-        well_formed = well_formed_push bytes sectors [] b.body command sound.well_formed may;
+        numbered = sound.numbered
+            ∙ sym (submissions-push b.body command ∙ omega (arith, none));
+        well_formed =
+            well_formed_push bytes sectors [] b.body command sound.well_formed may;
       },
       record {
-        names = [];
+        names
+            = [];
         command = command;
         grown_names = sym (append-nil b.names);
         grown_body = refl;
-        says = says;
+        says =
+            says;
       },
     )
 
@@ -263,8 +261,7 @@ told_ok (Err bad) x e = absurd (cc)
 step_ok : (bytes sectors moment : ℕ) (step : Step) (x : Unit {0})
     → step_test bytes sectors moment step ≡ Ok x
     → (step_answer bytes sectors step ≡ Ok tt) × IsInTime moment step
-step_ok bytes sectors moment (steps.At later) x e =
-    (refl, ltb-false _ _ (barred_ok (nat_lt later moment) BadLine (Ok tt) x e).0)
+step_ok bytes sectors moment (steps.At later) x e = grind (arith, ltb-false, barred_ok)
 step_ok bytes sectors moment step x e = (told_ok (step_answer bytes sectors step) x e, tt)
 
 -- so is one that may come
@@ -286,7 +283,7 @@ end_grows bytes sectors b c name (Some request) is e sound =
     (Ok (with_command b (commands.Complete request))) c e in
     other_grows bytes sectors b (commands.Complete request) (body_lines.Complete name)
     (omega (arith, p.0, sound.numbered), q.0) refl
-    (ap (λ (n : ScriptId). body_lines.Complete n) p.1) sound c (let last = q.1 in cc)
+    (rw p.1) sound c (let last = q.1 in cc)
 
 -- one more line keeps a body sound, and adds a line that says this
 pub step_grows : (bytes sectors : ℕ) (b c : Body) (s : BodyLine)
@@ -334,11 +331,9 @@ line_kept : (bytes sectors : ℕ) (names more : List ScriptId) (done : List Comm
     → length names ≡ submissions done + (submits command + rest)
     → line_at (names ++ more) (submissions done) command ≡ line_at names (submissions done) command
 line_kept bytes sectors names more done (commands.Submit submission) rest may numbered =
-    ap (λ (x : ScriptId). body_lines.Submit x submission)
-    (get_or_append_left names more (script_id []) (submissions done) (omega (arith, numbered)))
+    rw (get_or_append_left names more (script_id []) (submissions done) (omega (arith, numbered)))
 line_kept bytes sectors names more done (commands.Complete request) rest may numbered =
-    ap (λ (x : ScriptId). body_lines.Complete x)
-    (get_or_append_left names more (script_id []) request (omega (arith, numbered, may.0)))
+    rw (get_or_append_left names more (script_id []) request (omega (arith, numbered, may.0)))
 line_kept bytes sectors names more done (commands.Step step) rest may numbered = refl
 
 -- nor do those of a body
@@ -406,7 +401,7 @@ with_name_again : (front more names : List ScriptId) (name : ScriptId) (before :
 with_name_again front more names name before whole distinct =
     with_new_name (record { names = front; body = before }) name
     (new_name front more name
-    (subst (λ (x : List ScriptId). IsDistinct same_name x) whole distinct))
+    (rw (← whole) distinct))
 
 -- one line of a body, and the lines after it
 again_step : (d l : Disk) (size : SectorSize) (names front next : List ScriptId)
@@ -422,13 +417,7 @@ again_step : (d l : Disk) (size : SectorSize) (names front next : List ScriptId)
     (lines_of_body names (length front) (command ∷ body))
     ≡ Ok (in_draft d l size (record { names = names; body = before ++ command ∷ body }))
 again_step d l size names front next before body command one counts others =
-    let done = λ (x : List Command). let b : Body = record { names = names; body = x } in
-    in_draft d l size b in
-    let old : Body = record { names = front; body = before } in
-    let start : Body = record { names = next; body = before ++ command ∷ [] } in
-    bind_at _ _ _ _ (ap (with_body (in_draft d l size old)) one)
-    (ap (λ n. run (in_draft d l size start) (lines_of_body names n body)) counts ∙ others
-    ∙ ap (λ x. Ok (done x)) (append_assoc before (command ∷ []) body))
+    grind (arith, bind_at, append_assoc)
 
 -- what is known of the next submission of names = front ++ rest
 record NextName (names front rest : List ScriptId) (before body : List Command)
@@ -448,24 +437,15 @@ next_name : (names front rest : List ScriptId) (before body : List Command)
     length front ≡ submissions before → length rest ≡ submissions (command ∷ body)
     → NextName names front rest before body command
 next_name names front rest before body command one whole numbered left =
-    let sum = submissions-cons command body in
-    let f = first_of rest (omega (arith, left, sum, one)) in
-    let split : names ≡ front ++ f.0 ∷ f.1 = whole ∙ ap (λ x. front ++ x) f.2 in
-    let more : length (front ++ f.0 ∷ []) ≡ length front + 1 =
-    length-append front (f.0 ∷ []) in
-    let long : length rest ≡ length (f.0 ∷ f.1) = ap length f.2 in
-    record {
-      name = f.0;
-      more = f.1;
-      here =
-          ap (λ x. name_at x (length front)) split
-          ∙ get_or-append_seam front f.0 f.1 (script_id []);
-      split = split;
-      whole = split ∙ sym (append_assoc front (f.0 ∷ []) f.1);
-      counts = sym more;
-      numbered = more ∙ sym (submissions-push before command ∙ omega (arith, one, numbered));
-      left = omega (arith, long, left, sum, one);
-    }
+    grind (
+      arith,
+      submissions-cons,
+      first_of,
+      length-append,
+      get_or-append_seam,
+      append_assoc,
+      submissions-push,
+    )
 
 -- the front of names of which no two are one
 front_distinct : (front rest : List ScriptId) → IsDistinct same_name (front ++ rest)
@@ -495,7 +475,7 @@ end_again names front rest before request whole distinct inside going =
     let place : request_of (name_at names request) front ≡ Some request =
     ap (λ x. request_of x front) here ∙ request_of_name front request (script_id [])
     (front_distinct front rest
-    (subst (λ (x : List ScriptId). IsDistinct same_name x) whole distinct)) inside in
+    (rw (← whole) distinct)) inside in
     ap (λ o. ended_next o b) place ∙ cond-false _ _ _ going
 
 -- the lines of a body give it again: those after its beginning lead from there to all of it
@@ -507,11 +487,7 @@ pub run_again : (d l : Disk) (size : SectorSize) (names front rest : List Script
     (lines_of_body names (length front) body)
     ≡ Ok (in_draft d l size (record { names = names; body = before ++ body }))
 run_again d l size names front rest before [] whole distinct numbered left well_formed =
-    let all : front ≡ names =
-    sym (whole ∙ ap (λ x. front ++ x) (no_names rest left) ∙ append-nil front) in
-    let b = λ (ns : List ScriptId) (cs : List Command). let x :
-    Body = record { names = ns; body = cs } in in_draft d l size x in
-    ap (λ ns. Ok (b ns before)) all ∙ ap (λ cs. Ok (b names cs)) (sym (append-nil before))
+    grind (arith, no_names, append-nil)
 run_again d l size names front rest before
     (commands.Submit submission ∷ body) whole distinct numbered left well_formed =
     let n =

@@ -2,8 +2,8 @@
 -- Serves the laws `each_script_has_a_text` and `lines_make_a_text`.
 use Rattle.std.proofs.Common.{◌≡◌, ◌≢◌, ℕ, ◌+◌, ◌^◌, ◌<◌, ◌≤◌, Bool, true, false}
 use Rattle.std.proofs.Common.{not, ◌&&◌, cond, List, [], ◌∷◌, ◌++◌, length, Option, Some, None, Ok}
-use Rattle.std.proofs.Common.{refl, ap, ◌∙◌, sym, subst, arith, append_assoc}
-use Rattle.std.specs.Prelude.{◌==◌, flat_map, map, nat_eq, nat_lt, unwrap_or}
+use Rattle.std.proofs.Common.{refl, ap, ◌∙◌, sym, arith, append_assoc}
+use Rattle.std.specs.Prelude.{◌==◌, flat_map, map, nat_lt, unwrap_or}
 use Rattle.std.specs.List.{join_with_byte, AllByRecursion}
 use Rattle.std.proofs.lemmas.Bool.Decides.{nat_tests}
 use Rattle.std.proofs.lemmas.List.Elements.{All-from_recursion}
@@ -126,18 +126,8 @@ line_sets : (one same : Bool) (offset write flush : ℕ) → offset < 2 ^ 64 →
     → AllByRecursion IsLineText
     (cond one [] (set_words offset write ++ cond same [] (set_words offset flush)))
 line_sets true same offset write flush low write_low flush_low = tt
-line_sets false true offset write flush low write_low flush_low =
-    (refl, (line_number offset low, (line_number write write_low, tt)))
-line_sets false false offset write flush low write_low flush_low = (
-  refl,
-  (
-    line_number offset low,
-    (
-      line_number write write_low,
-      (refl, (line_number offset low, (line_number flush flush_low, tt))),
-    ),
-  ),
-)
+line_sets false true offset write flush low write_low flush_low = grind (arith, line_number)
+line_sets false false offset write flush low write_low flush_low = grind (arith, line_number)
 
 -- so may those of a target
 line_target : (offset : ℕ) (target : Target) → offset < 2 ^ 64 → IsTargetInRange offset target
@@ -145,33 +135,10 @@ line_target : (offset : ℕ) (target : Target) → offset < 2 ^ 64 → IsTargetI
 line_target offset targets.Linear low has = (refl, (refl, (line_number offset low, tt)))
 line_target offset targets.Error low has = (refl, tt)
 line_target offset (targets.Flakey up down feature) low has =
-    let few : up + down ≤ 4294967295 = has.few in (
-      refl,
-      (
-        refl,
-        (
-          line_number offset low,
-          (
-            line_number up (omega (arith, few)),
-            (line_number down (omega (arith, few)), line_feature feature),
-          ),
-        ),
-      ),
-    )
-line_target offset (targets.Fuse calls) low has =
-    (refl, (refl, (line_number offset low, (line_number calls has, tt))))
-line_target offset (targets.Dust bytes) low has =
-    let few : bytes ≤ 1073741824 = has.few in
-    (refl, (refl, (line_number offset low, (line_number bytes (omega (arith, few)), tt))))
-line_target offset (targets.Delay read write flush) low has =
-    let r : read ≤ 4294967295 = has.reads in
-    let w : write ≤ 4294967295 = has.writes in
-    let f : flush ≤ 4294967295 = has.flushes in
-    let read_low : read < 2 ^ 64 = omega (arith, r) in
-    let later =
-    line_sets (nat_eq read write && nat_eq write flush)
-    (nat_eq write flush) offset write flush low (omega (arith, w)) (omega (arith, f)) in
-    (refl, (refl, (line_number offset low, (line_number read read_low, later))))
+    grind (arith, line_number, line_feature)
+line_target offset (targets.Fuse calls) low has = grind (arith, line_number)
+line_target offset (targets.Dust bytes) low has = grind (arith, line_number)
+line_target offset (targets.Delay read write flush) low has = grind (arith, line_sets, line_number)
 
 -- a layer's line
 pub layer_fits : (over : DiskName) (spec : LayerSpec) → IsLayerSpec spec
@@ -253,9 +220,8 @@ body_written : (bytes sectors : ℕ) (names : List ScriptId) (n : ℕ) (done bod
 body_written bytes sectors names n done [] small ids counted numbered well_formed = tt
 body_written bytes sectors names n done (command ∷ body) small ids counted numbered well_formed =
     let count = count_after_command-is n command in (
-      subst (λ (k : ℕ). IsWritten (parsed_lines.Body (line_at names k command))) (sym counted)
-          (command_written bytes sectors names done command body small ids
-          (numbered ∙ ap (λ (k : ℕ). k + submissions (command ∷ body)) counted) well_formed.0),
+      rw counted (command_written bytes sectors names done command body small ids (numbered ∙ rw
+          counted) well_formed.0),
       body_written bytes sectors names (count_after_command n command)
           (done ++ command ∷ []) body small ids
           (count ∙ sym (submissions-push done command ∙ omega (arith, counted)))
@@ -296,16 +262,16 @@ pub written_text : {A : Type 0} (fields : A → Fields)
     (lines_of (flat_map (λ s. text_of (fields s) ++ 10 ∷ []) ss)) ss
 written_text fields kept [] lines = record { plain = tt; says = tt }
 written_text fields kept (s ∷ ss) lines =
-    let text = text_of (fields s) in
-    let one : IsWrittenAs fields s = lines.0 in
-    let rest = flat_map (λ s. text_of (fields s) ++ 10 ∷ []) ss in
-    let whole : lines_of ((text ++ 10 ∷ []) ++ rest) ≡ text ∷ lines_of rest =
-    ap lines_of (append_assoc text (10 ∷ []) rest)
-    ∙ fed_line text rest (all_weaker _ _ line_not_feed text one.good) in
-    subst (λ (x : List (List ℕ)). Tells (λ line s. IsLineWith line (fields s)) x (s ∷ ss)) (sym whole)
-    (tells_said (λ line s. IsLineWith line (fields s)) text (lines_of rest) s ss
-    (all_weaker _ _ line_plain text one.good)
-    (kept text s one.says) one.says (written_text fields kept ss lines.1))
+    grind (
+      arith,
+      written_text fields kept ss lines.1,
+      append_assoc,
+      fed_line,
+      all_weaker,
+      line_not_feed,
+      tells_said,
+      line_plain,
+    )
 
 -- the spelling of a script is a text of it
 pub spelling_spells : (plan : ScriptValue) → IsPlan plan → IsTextOf (canonical_text plan) plan
@@ -318,26 +284,18 @@ spelling_spells plan is =
 -- a line with no line feed after it
 fed_last : (line : List ℕ) → IsUnbroken line → line ≢ [] → lines_of line ≡ line ∷ []
 fed_last [] whole some = absurd (some refl)
-fed_last (b ∷ line) whole some =
-    let c = cut_alone 10 (b ∷ line) whole in
-    first_line b line ∙ ap (λ (l : List ℕ). l ∷ lines_of (after_line (b ∷ line))) c.0
-    ∙ ap (λ (o : Option (List ℕ)). (b ∷ line) ∷ lines_of (unwrap_or o [])) c.1
+fed_last (b ∷ line) whole some = grind (arith, cut_alone, first_line)
 
 -- lines with a line feed after each
 pub ended_lines : (lines : List (List ℕ)) → AllByRecursion IsUnbroken lines
     → lines_of (with_line_feeds lines) ≡ lines
 ended_lines [] whole = refl
 ended_lines (line ∷ lines) whole =
-    ap lines_of (append_assoc line (10 ∷ []) (with_line_feeds lines))
-    ∙ fed_line line (with_line_feeds lines) whole.0
-    ∙ ap (λ x. line ∷ x) (ended_lines lines whole.1)
+    grind (arith, ended_lines lines whole.1, append_assoc, fed_line)
 
 -- the same, and a last line with none
 pub ended_but_last : (lines : List (List ℕ)) (last : List ℕ) → AllByRecursion IsUnbroken lines
     → IsUnbroken last → last ≢ [] → lines_of (with_line_feeds lines ++ last) ≡ lines ++ last ∷ []
 ended_but_last [] last whole unbroken some = fed_last last unbroken some
 ended_but_last (line ∷ lines) last whole unbroken some =
-    ap lines_of (append_assoc (line ++ 10 ∷ []) (with_line_feeds lines) last
-    ∙ append_assoc line (10 ∷ []) (with_line_feeds lines ++ last))
-    ∙ fed_line line (with_line_feeds lines ++ last) whole.0
-    ∙ ap (λ x. line ∷ x) (ended_but_last lines last whole.1 unbroken some)
+    grind (arith, ended_but_last lines last whole.1 unbroken some, append_assoc, fed_line)

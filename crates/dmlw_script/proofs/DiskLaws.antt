@@ -1,7 +1,7 @@
 -- Laws of disks and their layers: the number of sectors at the top, and one more layer.
-use Rattle.std.proofs.Common.{◌≡◌, ℕ, suc, ◌+◌, ◌-◌, ◌≤◌, ◌<◌, true, List, [], ◌∷◌, ◌++◌, length}
-use Rattle.std.proofs.Common.{Some, refl, ap, ◌∙◌, sym, arith}
-use Rattle.std.specs.Prelude.{nat_le, slice_get}
+use Rattle.std.proofs.Common.{◌≡◌, ℕ, ◌+◌, ◌-◌, ◌≤◌, ◌<◌, true, List, [], ◌∷◌, ◌++◌, length}
+use Rattle.std.proofs.Common.{Some, refl, arith}
+use Rattle.std.specs.Prelude.{slice_get}
 use Rattle.std.specs.List.{AllByRecursion}
 use Rattle.std.proofs.lemmas.Bool.{and_parts, leb-true}
 use Rattle.std.proofs.lemmas.List.{length-append}
@@ -15,13 +15,9 @@ use Rattle.dmlw_script.specs.FirstFault.{bare, with_layer}
 pub top_is_last : (sectors : ℕ) (layers : List LayerSpec) (layer : LayerSpec)
     → slice_get layers (length layers - 1) ≡ Some layer → top_sectors sectors layers ≡ layer.length
 top_is_last sectors [] layer e = absurd (cc)
-top_is_last sectors (first ∷ []) layer e =
-    let same : first ≡ layer = cc in ap (λ (x : LayerSpec). x.length) same
+top_is_last sectors (first ∷ []) layer e = grind arith
 top_is_last sectors (first ∷ second ∷ layers) layer e =
-    let place : length (first ∷ second ∷ layers) - 1 ≡ suc (length (second ∷ layers) - 1) =
-    omega arith in
-    top_is_last first.length (second ∷ layers) layer
-    (ap (slice_get (first ∷ second ∷ layers)) (sym place) ∙ e)
+    grind (arith, top_is_last first.length (second ∷ layers) layer)
 
 -- one more layer is on top
 pub top_push : (sectors : ℕ) (layers : List LayerSpec) (layer : LayerSpec)
@@ -44,19 +40,11 @@ bare_disk sectors size = record { size = size; few = omega arith; stand = tt }
 -- so is a disk with one more layer
 pub disk_push : (disk : Disk) (layer : LayerSpec) → IsDisk disk → length disk.layers < 4
     → IsLayerSpec layer → is_within layer (top_of disk) ≡ true → IsDisk (with_layer disk layer)
-disk_push disk layer is few fine within = record {
-  size = is.size;
-  few = omega (arith, few, length-append disk.layers (layer ∷ []));
-  stand =
-      stand_push disk.sectors disk.layers layer is.stand fine
-      (leb-true (layer.offset + layer.length) (top_of disk) within);
-}
+disk_push disk layer is few fine within = grind (arith, length-append, stand_push, leb-true)
 
 -- a disk has few sectors
 pub disk_small : (disk : Disk) → IsDisk disk → disk.sectors ≤ 1048576
-disk_small disk is =
-    leb-true disk.sectors 1048576
-    (and_parts (nat_le 1 disk.sectors) (nat_le disk.sectors 1048576) is.size).1
+disk_small disk is = grind (arith, leb-true, and_parts)
 
 -- layers that may stand are layers
 pub layer_specs : (sectors : ℕ) (layers : List LayerSpec) → IsAllowed sectors layers
@@ -91,13 +79,10 @@ pub long_below : (least sectors : ℕ) (layers : List LayerSpec) → IsAllowed s
     → least ≤ top_sectors sectors layers → AreLong least layers
 long_below least sectors [] stand long = tt
 long_below least sectors (layer ∷ layers) stand long =
-    let above : top_sectors layer.length layers ≤ layer.length =
-    top_within layer.length layers stand.2 in
-    (omega (arith, long), long_below least layer.length layers stand.2 long)
+    grind (arith, long_below least layer.length layers stand.2 long, top_within)
 
 -- layers that stand have a sector each
 pub long_enough : (sectors : ℕ) (layers : List LayerSpec) → IsAllowed sectors layers
     → AreLong 1 layers
 long_enough sectors [] stand = tt
-long_enough sectors (layer ∷ layers) stand =
-    ((let lengths = stand.0.sectors in lengths.some), long_enough layer.length layers stand.2)
+long_enough sectors (layer ∷ layers) stand = grind (arith, long_enough layer.length layers stand.2)

@@ -12,7 +12,7 @@ use Rattle.std.proofs.Math.Bool.{or-false, or-true}
 use Rattle.std.proofs.lemmas.List.{length-append, length-set}
 use Rattle.dmlw_script.specs.declared.command.Command.{Command}
 use Rattle.dmlw_script.specs.declared.command.Command.TheVariants as commands
-use Rattle.dmlw_script.specs.inside.Drafts.{named_next, with_name, Body, IsFlags}
+use Rattle.dmlw_script.specs.inside.Drafts.{with_name, Body, IsFlags}
 use Rattle.dmlw_script.specs.Ids.{same_name}
 use Rattle.dmlw_script.specs.Plans.{is_end_of, is_ended, time_at, time_from, request_of}
 use Rattle.dmlw_script.specs.declared.script_id.ScriptId.{ScriptId}
@@ -21,9 +21,7 @@ use Rattle.refusals.specs.declared.refusal.Refusal.TheVariants.{BadId}
 -- one more command
 pub is_ended-push : (request : ℕ) (body : List Command) (command : Command)
     → is_ended request (body ++ command ∷ []) ≡ (is_ended request body || is_end_of request command)
-is_ended-push request body command =
-    list_any-append (is_end_of request) body (command ∷ [])
-    ∙ ap (λ b. is_ended request body || b) (or-false (is_end_of request command))
+is_ended-push request body command = grind (arith, list_any-append, or-false)
 
 -- an absent flag is like one that is false
 push_default : (flags : List Bool) (i : ℕ)
@@ -36,10 +34,7 @@ push_default (flag ∷ flags) (suc i) = push_default flags i
 -- one more request
 pub flags_submit : (n : ℕ) (flags : List Bool) (body : List Command) → IsFlags n flags body
     → IsFlags (n + 1) (flags ++ false ∷ []) body
-flags_submit n flags body old = record {
-  in_step = length-append flags (false ∷ []) ∙ ap (λ k. k + 1) old.in_step;
-  each = λ request. push_default flags request ∙ old.each request;
-}
+flags_submit n flags body old = grind (arith, length-append, push_default)
 
 -- one more command that ends no request
 pub flags_say : (n : ℕ) (flags : List Bool) (body : List Command) (command : Command)
@@ -49,8 +44,8 @@ flags_say n flags body command quiet old = record {
   in_step = old.in_step;
   each =
       λ request. old.each request
-      ∙ sym (is_ended-push request body command
-      ∙ ap (λ b. is_ended request body || b) (quiet request) ∙ or-false (is_ended request body));
+      ∙ sym (is_ended-push request body command ∙ rw (quiet request) (or-false (is_ended request
+      body)));
 }
 
 -- the end of a request
@@ -80,8 +75,7 @@ listed_step : (t any : Bool) (n length : ℕ) → nat_lt n length ≡ any
     → nat_lt (cond (not t) (1 + n) 0) (suc length) ≡ (t || any)
 listed_step true any n length same = grind (arith, nat_tests)
 listed_step false any n length
-    same = (let test : nat_lt (1 + n) (suc length) ≡ nat_lt n length = grind (arith, nat_tests) in
-    test) ∙ same
+    same = grind (arith, nat_tests)
 
 -- an element passes exactly if the first that does has a place
 pub listed : {X : Type 0} (p : X → Bool) (xs : List X)
@@ -95,7 +89,7 @@ pub with_new_name : (b : Body) (name : ScriptId) → list_any (same_name name) b
 with_new_name b name new =
     let none : request_of name b.names ≡ None =
     cond-false _ _ _ (listed (same_name name) b.names ∙ new) in
-    ap (λ o. named_next o b name) none
+    rw none
 
 -- an id that was submitted
 pub with_old_name : (b : Body) (name : ScriptId) → list_any (same_name name) b.names ≡ true
@@ -103,7 +97,7 @@ pub with_old_name : (b : Body) (name : ScriptId) → list_any (same_name name) b
 with_old_name b name old =
     let some : request_of name b.names ≡ Some (position_or_len (same_name name) b.names) =
     cond-true _ _ _ (listed (same_name name) b.names ∙ old) in
-    ap (λ o. named_next o b name) some
+    rw some
 
 -- one more command
 pub moment_push : (moment : ℕ) (body : List Command) (command : Command)

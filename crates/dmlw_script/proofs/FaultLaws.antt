@@ -145,7 +145,7 @@ module _ {S W A P : Type 0} (r : Reader S W A) (f : Faults r P) where
       append_assoc before (line ∷ []) b.0 in
       let read =
       sym (spelled_lines r 1 (before ++ line ∷ b.0) b.1
-      (subst (λ (x : List (List ℕ)). r.Spells x b.1) whole b.2))
+      (rw (← whole) b.2))
       ∙ read_behind before (line ∷ b.0) s here
       ∙ ap (λ x. and_then (at_line (1 + length before) x)
       (λ t. read_by (takes r) r.finish t (1 + length before + 1) b.0)) step in
@@ -171,7 +171,7 @@ module _ {S W A P : Type 0} (r : Reader S W A) (f : Faults r P) where
       one_told r (unskipped before) p.2 (r.lines_so_far s) p.3 here.tells.says in
       let there : f.after p.2 ≡ f.prefix_of s = ap f.after told ∙ f.after_lines s here.begun in
       never (subst (λ (x : W). f.Stands (f.prefix_of s) x) same
-      (subst (λ (prefix : P). f.Stands prefix v) there p.4))
+      (rw (← there) p.4))
 
   -- why a line that says this is refused
   said_fault : (before : List (List ℕ)) (s : S) (line : List ℕ) (w : W) (refusal : Refusal)
@@ -186,7 +186,7 @@ module _ {S W A P : Type 0} (r : Reader S W A) (f : Faults r P) where
       × (f.line_refusal plan w ≡ Some refusal)).
       f.refused before line w h.1 refusal
       (f.line_after before line w (r.lines_so_far s) plain says here.tells.says
-      (subst (λ (prefix : P). f.Stands prefix w) (sym (f.after_lines s here.begun)) h.0))
+      (rw (f.after_lines s here.begun) h.0))
       (reached_spells r before s h.1 here h.2) h.3)
       (f.step_refused s w refusal e)
 
@@ -199,7 +199,7 @@ module _ {S W A P : Type 0} (r : Reader S W A) (f : Faults r P) where
       bad : BadLine ≡ refusal → ((w : W) → f.LineAfter before line w → ⊥)
           → f.LineFault before line refusal
       bad same none =
-          subst (λ (x : Refusal). f.LineFault before line x) same (f.bad_line before line none)
+          rw (← same) (f.bad_line before line none)
 
       heard : (o : Option W) → is_ascii_line line ≡ true → r.parse line ≡ o
           → step_if r.step s o ≡ Err refusal → f.LineFault before line refusal
@@ -216,11 +216,7 @@ module _ {S W A P : Type 0} (r : Reader S W A) (f : Faults r P) where
           (let step = sym
           (strange_line r s line strange) ∙ e in cc)
           (λ w at. let both = sym strange ∙ (f.line_parts before line w at).0 in cc)
-      by_tests true true plain skipped =
-          absurd
-          (let step = sym
-          (skipped_line r s line plain skipped)
-          ∙ e in cc)
+      by_tests true true plain skipped = grind (arith, skipped_line)
       by_tests true false plain kept =
           heard (r.parse line) plain refl
           (sym (kept_line r s line plain kept) ∙ e)
@@ -311,10 +307,7 @@ module _ {S W A P : Type 0} (r : Reader S W A) (f : Faults r P) where
 
   -- lines that begin a script begin by lines that do
   begins_before : (before more : List (List ℕ)) → f.Begins (before ++ more) → f.Begins before
-  begins_before before more begins =
-      let b = f.begun (before ++ more) begins in
-      f.begins before (more ++ b.0) b.1
-      (subst (λ (lines : List (List ℕ)). r.Spells lines b.1) (append_assoc before more b.0) b.2)
+  begins_before before more begins = grind (arith, append_assoc)
 
   -- after the same lines there is one reason
   one_behind : (before more : List (List ℕ)) (x y : Refusal) → f.FaultAfter before more x
@@ -330,12 +323,12 @@ module _ {S W A P : Type 0} (r : Reader S W A) (f : Faults r P) where
       → Longer a x b → f.Begins b → ⊥
   none_longer a x b refusal fault more begins =
       let there : f.FaultAfter a (more.line ∷ more.tail) refusal =
-      subst (λ (ls : List (List ℕ)). f.FaultAfter a ls refusal) more.rest_is fault in
+      rw (← more.rest_is) fault in
       let regrouped : b ≡ (a ++ more.line ∷ []) ++ more.between =
       more.long_is ∙ sym (append_assoc a (more.line ∷ []) more.between) in
       (f.line_fault a more.line more.tail refusal there).0
       (begins_before (a ++ more.line ∷ []) more.between
-      (subst (λ (ls : List (List ℕ)). f.Begins ls) regrouped begins))
+      (rw (← regrouped) begins))
 
   -- no first fault is after another
   not_behind : (a x b y : List (List ℕ)) (refusal : Refusal) → a ++ x ≡ b ++ y
@@ -360,19 +353,18 @@ module _ {S W A P : Type 0} (r : Reader S W A) (f : Faults r P) where
       let parts = same_parts a.0 a.1 b.0 b.1 split long in
       let there : f.FaultAfter a.0 a.1 y =
       subst (λ (ls : List (List ℕ)). f.FaultAfter ls a.1 y) (sym parts.0)
-      (subst (λ (ls : List (List ℕ)). f.FaultAfter b.0 ls y) (sym parts.1) b.5) in
-      (a.3 ∙ ap (λ (k : ℕ). k + 1) long ∙ sym b.3, one_behind a.0 a.1 x y a.5 there)
+      (rw parts.1 b.5) in
+      (a.3 ∙ rw long (sym b.3), one_behind a.0 a.1 x y a.5 there)
 
   -- lines of a script have none after lines that begin one
   whole_behind : (before more : List (List ℕ)) (plan : A) (refusal : Refusal)
       → r.Spells (before ++ more) plan → f.FaultAfter before more refusal → ⊥
   whole_behind before [] plan refusal spells fault =
       (f.end_fault before refusal fault).1 plan
-      (subst (λ (lines : List (List ℕ)). r.Spells lines plan) (append-nil before) spells)
+      (rw (← append-nil before) spells)
   whole_behind before (line ∷ more) plan refusal spells fault =
       (f.line_fault before line more refusal fault).0 (f.begins (before ++ line ∷ []) more plan
-      (subst (λ (lines : List (List ℕ)). r.Spells lines plan)
-      (sym (append_assoc before (line ∷ []) more)) spells))
+      (rw (append_assoc before (line ∷ []) more) spells))
 
   -- a script has no fault
   pub no_fault : (lines : List (List ℕ)) (plan : A) (m : ℕ) (refusal : Refusal)
@@ -380,4 +372,4 @@ module _ {S W A P : Type 0} (r : Reader S W A) (f : Faults r P) where
   no_fault lines plan m refusal spells fault =
       let p = f.first_parts lines m refusal fault in
       whole_behind p.0 p.1 plan refusal
-      (subst (λ (ls : List (List ℕ)). r.Spells ls plan) p.2 spells) p.5
+      (rw (← p.2) spells) p.5

@@ -1,8 +1,8 @@
 -- The canonical text of the fields of a line is a line with these fields. `CanonicalTextLaws`,
 -- `LineParserLaws`, `RunTextLaws` and `Spelling` cite it.
-use Rattle.std.proofs.Common.{◌≡◌, ℕ, ◌/◌, ◌%◌, ◌^◌, ◌<◌, Bool, true, false, not, List, []}
-use Rattle.std.proofs.Common.{◌∷◌, ◌++◌, Option, Some, None, refl, ap, sym, subst, arith}
-use Rattle.std.specs.Prelude.{◌-◌, ◌==◌, decimal, length, replicate}
+use Rattle.std.proofs.Common.{◌≡◌, ℕ, ◌^◌, ◌<◌, Bool, true, false, not, List, []}
+use Rattle.std.proofs.Common.{◌∷◌, ◌++◌, Some, None, refl, sym, subst, arith}
+use Rattle.std.specs.Prelude.{◌==◌, decimal, replicate}
 use Rattle.std.proofs.Common.{zero, suc, ◌∙◌}
 use Rattle.std.specs.Prelude.{Result}
 use Rattle.std.specs.Char.{is_ascii_digit}
@@ -47,12 +47,7 @@ name_byte_not_zero b letter = grind (arith, nat_tests)
 -- the letters of an id are read as it
 pub letters_id : (name : ScriptId) → IsName name → id_of_word (letters_of name) ≡ Some name
 letters_id name is =
-    let word = is.0 in
-    let letters : letters_of name ≡ word =
-    ap letters_of is.2 ∙ front_zeros word (16 - length word)
-    (all_weaker is_name_byte (λ b. not (b == 0)) name_byte_not_zero word
-    (and_parts _ _ is.1).1) in
-    ap id_of_word letters ∙ cond-true _ _ _ is.1 ∙ ap Some (sym is.2)
+    grind (arith, front_zeros, all_weaker, name_byte_not_zero, and_parts, cond-true)
 
 -- two such texts in a row
 pub line_text_append : (a b : List ℕ) → IsLineText a → IsLineText b → IsLineText (a ++ b)
@@ -88,9 +83,7 @@ line_id name is =
 
 -- a byte's digits are such bytes
 line_byte : (byte : ℕ) → byte < 256 → IsLineText (byte_text byte)
-line_byte byte low =
-    and_from _ _ (line_hex (byte / 16) (omega arith))
-    (and_from _ _ (line_hex (byte % 16) (omega arith)) refl)
+line_byte byte low = grind (arith, and_from, line_hex)
 
 -- ---- words
 
@@ -167,7 +160,7 @@ read_after word text fields whole has =
     let c = cut_word 32 word (Some text) whole in
     record {
       first = c.0;
-      rest = subst (λ (o : Option (List ℕ)). HasFields fields o) (sym c.1) has;
+      rest = rw c.1 has;
     }
 
 -- the text of fields after a word is read as it is
@@ -177,14 +170,14 @@ reads_after [] word whole fits =
     let c = cut_word 32 word None whole in
     record {
       first = c.0;
-      rest = subst (λ (o : Option (List ℕ)). HasFields [] o) (sym c.1) tt;
+      rest = rw c.1 tt;
     }
 reads_after (One next ∷ fields) word whole fits =
     let w = writable next fits.0 in
     let more = reads_after fields (word_text next) w.whole fits.1 in
     subst (λ (t : List ℕ). Reads word t (One next ∷ fields)) (sym (after_field (One next) fields))
     (read_after word (word_text next ++ text_after fields) (One next ∷ fields) whole
-    (subst (λ (x : List ℕ). IsWord x next) (sym more.first) w.is, more.rest))
+    (rw more.first w.is, more.rest))
 reads_after (Choice true next ∷ fields) word whole fits =
     let more = reads_after fields next fits.0.1 fits.1 in
     subst (λ (t : List ℕ). Reads word t (Choice true next ∷ fields))
@@ -211,13 +204,11 @@ line_option false text good = refl
 line_after : (fields : List Field) → Fits fields → IsLineText (text_after fields)
 line_after [] fits = refl
 line_after (One word ∷ fields) fits =
-    subst (λ (t : List ℕ). IsLineText t) (sym (after_field (One word) fields))
-    (line_text_append (word_text word) (text_after fields)
+    rw (after_field (One word) fields) (line_text_append (word_text word) (text_after fields)
     (let w = writable word fits.0 in w.good) (line_after fields fits.1))
 line_after (Choice given word ∷ fields) fits =
-    subst (λ (t : List ℕ). IsLineText t) (sym (after_field (Choice given word) fields))
-    (line_text_append (option_text given (32 ∷ word)) (text_after fields)
-    (line_option given (32 ∷ word) fits.0.0) (line_after fields fits.1))
+    rw (after_field (Choice given word) fields) (line_text_append (option_text given (32 ∷ word))
+    (text_after fields) (line_option given (32 ∷ word) fits.0.0) (line_after fields fits.1))
 line_after (Text text ∷ []) fits = fits
 line_after (Table asked ∷ []) fits = fits.good
 line_after (field ∷ fields) fits = absurd fits
@@ -234,7 +225,7 @@ pub text_has : (fields : Fields) → FitsLine fields → IsLineWith (text_of fie
 text_has fields fits =
     let w = writable fields.first fits.first in
     let r = reads_after fields.others (word_text fields.first) w.whole fits.others in
-    (subst (λ (x : List ℕ). IsWord x fields.first) (sym r.first) w.is, r.rest)
+    (rw r.first w.is, r.rest)
 
 -- and may stand in a line
 pub text_good : (fields : Fields) → FitsLine fields → IsLineText (text_of fields)

@@ -1,7 +1,7 @@
 -- Laws of reading line by line, with any step: reading goes on, ends in a value, or ends at a
 -- fault.
 use Rattle.std.proofs.Common.{◌≡◌, ℕ, ◌+◌, true, false, not, List, [], ◌∷◌, ◌++◌, length, Option}
-use Rattle.std.proofs.Common.{Bool, cond, Some, None, Ok, Err, refl, ap, ◌∙◌, sym, subst, arith}
+use Rattle.std.proofs.Common.{Bool, cond, Some, None, Ok, Err, refl, ap, ◌∙◌, sym, arith}
 use Rattle.std.specs.Prelude.{map, Result}
 use Rattle.std.specs.List.{AllByRecursion, AllZip}
 use Rattle.std.proofs.lemmas.Bool.{cond-false, cond-true}
@@ -74,9 +74,7 @@ pub line_err : {A : Type 0} (number : ℕ) (r : Result A Refusal) (fault : Fault
     → at_line number r ≡ Err fault →
     (fault.line ≡ Some number) × (r ≡ Err fault.refusal)
 line_err number (Ok x) fault e = absurd (cc)
-line_err number (Err refusal) fault e =
-    let same : record { line = Some number; refusal = refusal } ≡ fault = cc in
-    (sym (ap (λ (f : Fault). f.line) same), ap (λ (f : Fault). Err f.refusal) same)
+line_err number (Err refusal) fault e = grind arith
 
 -- what goes on well has a value, and goes on well from there
 pub then_ok : {A B : Type 0} (r : Result A Fault) (f : A → Result B Fault) (y : B)
@@ -87,9 +85,7 @@ then_ok (Err fault) f y e = absurd (cc)
 -- a fault with no line is that memory ran out
 pub memory_is : (fault : Fault) (line : Option ℕ) → fault.line ≡ line → line ≡ None
     → fault.refusal ≡ Memory → fault ≡ is_memory
-memory_is fault line is none memory =
-    let f = λ (l : Option ℕ) (r : Refusal). let x : Fault = record { line = l; refusal = r } in x in
-    ap (λ l. f l fault.refusal) (is ∙ none) ∙ ap (λ r. f None r) memory
+memory_is fault line is none memory = grind arith
 
 -- what was read after these lines
 abbrev pub fold : {S W : Type 0} → (S → W → Result S Refusal) → S → List W → Result S Refusal
@@ -100,7 +96,7 @@ fold step s (w ∷ ws) = step s w >>= λ t. fold step t ws
 pub fold_append : {S W : Type 0} (step : S → W → Result S Refusal) (s t : S) (ws more : List W)
     → fold step s ws ≡ Ok t →
     fold step s (ws ++ more) ≡ fold step t more
-fold_append step s t [] more e = let same : s ≡ t = cc in ap (λ x. fold step x more) same
+fold_append step s t [] more e = grind arith
 fold_append step s t (w ∷ ws) more e =
     let r = bind_ok (step s w) _ t e in
     bind_at _ _ _ _ r.1 (fold_append step r.0 t ws more r.2)
@@ -128,8 +124,7 @@ module _ {S A : Type 0} (step : S → List ℕ → Result S Refusal) (finish : S
   pub reads_line : (s t : S) (number : ℕ) (line : List ℕ) (lines : List (List ℕ))
       → step s line ≡ Ok t →
       read_by step finish s number (line ∷ lines) ≡ read_by step finish t (number + 1) lines
-  reads_line s t number line lines e =
-      ap (λ r. and_then (at_line number r) (λ x. read_by step finish x (number + 1) lines)) e
+  reads_line s t number line lines e = grind arith
 
   -- reading goes on after lines that lead somewhere
   pub reads_on : (s t : S) (number : ℕ) (before rest : List (List ℕ)) → fold step s before ≡ Ok t →
@@ -173,7 +168,7 @@ module _ {S A : Type 0} (step : S → List ℕ → Result S Refusal) (finish : S
     before = line ∷ f.before;
     more = f.more;
     reached = f.reached;
-    split = ap (λ x. line ∷ x) f.split;
+    split = rw f.split;
     gone = bind_at _ _ _ _ is f.gone;
     place = f.place ∙ ap Some (omega arith);
     ends = f.ends;
@@ -238,20 +233,10 @@ pub record Tells {W : Type 0} (Says : List ℕ → W → Type 0) (lines : List (
 pub tells_skipped : {W : Type 0} (Says : List ℕ → W → Type 0) (line : List ℕ)
     (lines : List (List ℕ)) (ws : List W) → is_ascii_line line ≡ true
     → is_skipped line ≡ true → Tells Says lines ws → Tells Says (line ∷ lines) ws
-tells_skipped Says line lines ws plain skipped h = record {
-  plain = (plain, h.plain);
-  says =
-      subst (λ (x : List (List ℕ)). AllZip Says x ws)
-      (sym (kept_skipped line lines skipped)) h.says;
-}
+tells_skipped Says line lines ws plain skipped h = grind (arith, kept_skipped)
 
 -- one more line that says something
 pub tells_said : {W : Type 0} (Says : List ℕ → W → Type 0) (line : List ℕ) (lines : List (List ℕ))
     (w : W) (ws : List W) → is_ascii_line line ≡ true →
     is_skipped line ≡ false → Says line w → Tells Says lines ws → Tells Says (line ∷ lines) (w ∷ ws)
-tells_said Says line lines w ws plain kept says h = record {
-  plain = (plain, h.plain);
-  says =
-      subst (λ (x : List (List ℕ)). AllZip Says x (w ∷ ws)) (sym (kept_said line lines kept))
-      (says, h.says);
-}
+tells_said Says line lines w ws plain kept says h = grind (arith, kept_said)

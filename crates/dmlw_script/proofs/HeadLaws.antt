@@ -24,7 +24,7 @@ use Rattle.dmlw_script.specs.declared.line.HeadLine.TheVariants as head_lines
 use Rattle.dmlw_script.specs.inside.Stages.{Stage}
 use Rattle.dmlw_script.specs.inside.Stages as heads
 use Rattle.dmlw_script.specs.inside.Heads.{asked_layer, data_layer, head_step, layer_step}
-use Rattle.dmlw_script.specs.inside.Heads.{long_layer, with_log}
+use Rattle.dmlw_script.specs.inside.Heads.{with_log}
 use Rattle.dmlw_script.specs.Fields.{head_fields, Says}
 use Rattle.dmlw_script.specs.Plans.{is_disk_size, is_log_disk_size, is_within, least_sectors}
 use Rattle.dmlw_script.specs.Plans.{top_of, Disk, IsDisk}
@@ -123,23 +123,9 @@ pub data Takes (closed : Bool) : Stage → HeadLine → Stage → Type 0 where
 layered : (least : ℕ) (disk top : Disk) (asked : Result LayerSpec TableError)
     → layer_step least disk asked ≡ Ok top
     → (spec : LayerSpec) × (Ok spec ≡ asked) × Fits least disk spec × (with_layer disk spec ≡ top)
-layered least disk top (Err error) e =
-    let p = tested_ok (nat_lt (length disk.layers) 4) _ top BadLine e in
-    absurd (let none = p.1 in cc)
+layered least disk top (Err error) e = grind (arith, tested_ok)
 layered least disk top (Ok spec) e =
-    let p = tested_ok (nat_lt (length disk.layers) 4) _ top BadLine e in
-    let q = tested_ok (is_within spec (top_of disk)) (long_layer least disk spec) top OutOfRange
-    p.1 in
-    let s = cond_ok (nat_le least spec.length) (with_layer disk spec) top BadLine q.1 in (
-      spec,
-      refl,
-      record {
-        few = ltb-true _ _ p.0;
-        within = q.0;
-        long = leb-true least spec.length s.0;
-      },
-      s.1,
-    )
+    grind (arith, tested_ok, cond_ok, ltb-true, leb-true)
 
 -- a layer of the data disk that is taken
 data_taken : (d l : Disk) (size : SectorSize) (k : Stage) (asked : Result LayerSpec TableError)
@@ -151,7 +137,7 @@ data_taken d l size k asked [] none e =
     (λ (x : Disk). heads.Whole x l size) k e in
     let y = layered (least_sectors disks.Data size) d r.0 asked r.1 in
     let top : heads.Whole (with_layer d y.0) l size ≡ k =
-    ap (λ (x : Disk). heads.Whole x l size) y.3 ∙ r.2 in
+    rw y.3 r.2 in
     subst (λ (x : Stage). Takes false (heads.Whole d l size) (head_lines.Layer disks.Data asked) x)
     top
     (subst (λ (a : Result LayerSpec TableError). Takes false (heads.Whole d l size)
@@ -167,7 +153,7 @@ log_taken d l size k asked e =
     (λ (x : Disk). heads.Whole d x size) k e in
     let y = layered (least_sectors disks.Log size) l r.0 asked r.1 in
     let top : heads.Whole d (with_layer l y.0) size ≡ k =
-    ap (λ (x : Disk). heads.Whole d x size) y.3 ∙ r.2 in
+    rw y.3 r.2 in
     subst (λ (x : Stage). Takes false (heads.Whole d l size) (head_lines.Layer disks.Log asked) x)
     top
     (subst (λ (a : Result LayerSpec TableError). Takes false (heads.Whole d l size)
@@ -179,14 +165,14 @@ pub head_taken : (h k : Stage) (line : HeadLine) (closed : Bool) → head_step h
     → Takes closed h line k
 head_taken heads.Empty k (head_lines.Data n) closed e =
     let p = cond_ok (is_disk_size n) (heads.Data (bare n)) k BadLine e in
-    subst (λ (x : Stage). Takes closed heads.Empty (head_lines.Data n) x) p.1 (data_size n p.0)
+    rw (← p.1) (data_size n p.0)
 head_taken (heads.Data d) k (head_lines.Log n size) closed e =
     let p = cond_ok (is_log_disk_size (bytes_of size) n) (heads.Whole d (bare n) size)
     k BadLine e in
     subst (λ (x : Stage). Takes closed (heads.Data d) (head_lines.Log n size) x) p.1
     (log_size d n size p.0)
 head_taken (heads.Whole d l size) k (head_lines.Layer disks.Data asked) false e =
-    data_taken d l size k asked l.layers refl e
+    grind (arith, data_taken)
 head_taken (heads.Whole d l size) k (head_lines.Layer disks.Log asked) false e =
     log_taken d l size k asked e
 head_taken h k line closed e = absurd (cc e)
@@ -196,15 +182,13 @@ pub head_kept : (closed : Bool) (h k : Stage) (line : HeadLine) → Takes closed
     → IsFineHead line → IsHead h → IsHead k
 head_kept closed h k line (data_size n fits) fine is = (bare_disk n fits, refl)
 head_kept closed h k line (log_size d n size fits) fine is =
-    let both : (is_disk_size n ≡ true) × (nat_le (bytes_of size / 512) n ≡ true) =
-    and_parts (is_disk_size n) (nat_le (bytes_of size / 512) n) fits in
-    (is.0, bare_disk n both.0, leb-true (bytes_of size / 512) n both.1)
+    grind (arith, and_parts, bare_disk, leb-true)
 head_kept closed h k line (data_top d l size spec may none fits) fine is =
     (disk_push d spec is.0 fits.few fine fits.within, is.1, is.2)
 head_kept closed h k line (log_top d l size spec may fits) fine is = (
   is.0,
   disk_push l spec is.1 fits.few fine fits.within,
-  subst (λ (top : ℕ). bytes_of size / 512 ≤ top) (sym (top_push l.sectors l.layers spec)) fits.long,
+  rw (top_push l.sectors l.layers spec) fits.long,
 )
 
 -- ---- the lines of layers
@@ -212,15 +196,12 @@ head_kept closed h k line (log_top d l size spec may fits) fine is = (
 -- one more line at the end
 pub map_push : {A W : Type 0} (line : A → W) (first : List W) (xs : List A) (x : A)
     → first ++ map line (xs ++ x ∷ []) ≡ (first ++ map line xs) ++ line x ∷ []
-map_push {W = W} line first xs x =
-    ap (λ (ls : List W). first ++ ls) (map-append line xs (x ∷ []))
-    ∙ sym (append_assoc first (map line xs) (line x ∷ []))
+map_push {W = W} line first xs x = grind (arith, map-append, append_assoc)
 
 -- one more line, where none of a body stands behind it
 pub bodiless : {W : Type 0} (ls more : List W) (w : W) → more ≡ ls ++ w ∷ []
     → more ++ [] ≡ (ls ++ []) ++ w ∷ []
-bodiless {W = W} ls more w e =
-    append-nil more ∙ e ∙ ap (λ (ws : List W). ws ++ w ∷ []) (sym (append-nil ls))
+bodiless {W = W} ls more w e = grind (arith, append-nil)
 
 -- the lines of a head behind those of its disks
 module _ {W : Type 0} (on_data on_log : LayerSpec → W) where
@@ -231,10 +212,7 @@ module _ {W : Type 0} (on_data on_log : LayerSpec → W) where
   -- one more layer of the data disk, where there are none of the log disk
   pub data_push : (d l : Disk) (spec : LayerSpec) → l.layers ≡ []
       → layer_lines (with_layer d spec) l ≡ layer_lines d l ++ on_data spec ∷ []
-  data_push d l spec none =
-      rw none (append-nil (map on_data (d.layers ++ spec ∷ []))
-      ∙ map-append on_data d.layers (spec ∷ [])
-      ∙ ap (λ (ls : List W). ls ++ on_data spec ∷ []) (sym (append-nil (map on_data d.layers))))
+  data_push d l spec none = grind (arith, append-nil, map-append)
 
   -- one more of the log disk
   pub log_push : (d l : Disk) (spec : LayerSpec)
@@ -251,18 +229,19 @@ module _ {W : Type 0} (on_data on_log : LayerSpec → W) where
       → (done layers : List LayerSpec) → length done + length layers ≤ 4
       → IsAllowed (top_sectors sectors done) layers → AreLong least layers
       → fold step (at done) (map line layers) ≡ Ok (at (done ++ layers))
-  some_again step line least sectors at one done [] few stand long =
-      ap (λ (ls : List LayerSpec). Ok (at ls)) (sym (append-nil done))
+  some_again step line least sectors at one done [] few stand long = grind (arith, append-nil)
   some_again step line least sectors at one done (layer ∷ layers) few stand long =
-      let taken : layer_step least (under sectors done) (Ok layer)
-      ≡ Ok (under sectors (done ++ layer ∷ [])) =
-      cond-true _ _ _ (lt-ltb (length done) 4 (omega (arith, few)))
-      ∙ cond-true _ _ _ (le-leb _ _ stand.1) ∙ cond-true _ _ _ (le-leb _ _ long.0) in
-      bind_at _ _ _ _ (one done layer taken)
-      (some_again step line least sectors at one (done ++ layer ∷ []) layers
-      (omega (arith, few, length-append done (layer ∷ [])))
-      (subst (λ (top : ℕ). IsAllowed top layers) (sym (top_push sectors done layer)) stand.2) long.1
-      ∙ ap (λ (ls : List LayerSpec). Ok (at ls)) (append_assoc done (layer ∷ []) layers))
+      grind (
+        arith,
+        some_again step line least sectors at one (done ++ layer ∷ []) layers,
+        cond-true,
+        lt-ltb,
+        le-leb,
+        bind_at,
+        length-append,
+        top_push,
+        append_assoc,
+      )
 
   -- the layers of both disks are read again
   pub layers_again : {S : Type 0} (step : S → W → Result S Refusal) (at : Disk → Disk → S)
@@ -295,10 +274,8 @@ module _ {W : Type 0} (on_data on_log : LayerSpec → W) where
       (more : (p : P) (w : W) (ws : List W) → after p (w ∷ ws) ≡ after (next p w) ws) where
     -- with lines, and then others
     pub after_both : (p : P) (ws vs : List W) → after p (ws ++ vs) ≡ after (after p ws) vs
-    after_both p [] vs = ap (λ (x : P). after x vs) (sym (nothing p))
-    after_both p (w ∷ ws) vs =
-        more p w (ws ++ vs) ∙ after_both (next p w) ws vs
-        ∙ ap (λ (x : P). after x vs) (sym (more p w ws))
+    after_both p [] vs = grind arith
+    after_both p (w ∷ ws) vs = grind (arith, after_both (next p w) ws vs)
 
     -- with those of the layers of a disk
     after_some : (line : LayerSpec → W) (at : List LayerSpec → P)
@@ -307,10 +284,7 @@ module _ {W : Type 0} (on_data on_log : LayerSpec → W) where
         (done layers : List LayerSpec) → after (at done) (map line layers) ≡ at (done ++ layers)
     after_some line at one done [] = nothing (at done) ∙ ap at (sym (append-nil done))
     after_some line at one done (layer ∷ layers) =
-        more (at done) (line layer) (map line layers)
-        ∙ ap (λ (x : P). after x (map line layers)) (one done layer)
-        ∙ after_some line at one (done ++ layer ∷ []) layers
-        ∙ ap at (append_assoc done (layer ∷ []) layers)
+        grind (arith, after_some line at one (done ++ layer ∷ []) layers, append_assoc)
 
     -- with those of the layers of both
     pub after_layers : (at : Disk → Disk → P)
@@ -320,20 +294,16 @@ module _ {W : Type 0} (on_data on_log : LayerSpec → W) where
         → next (at d l) (on_log layer) ≡ at d (with_layer l layer))
         → (d l : Disk) → after (at (bare d.sectors) (bare l.sectors)) (layer_lines d l) ≡ at d l
     after_layers at one other d l =
-        after_both (at (bare d.sectors) (bare l.sectors)) (map on_data d.layers)
-        (map on_log l.layers)
-        ∙ ap (λ (x : P). after x (map on_log l.layers))
-        (after_some on_data (λ (ls : List LayerSpec). at (under d.sectors ls) (bare l.sectors))
-        (λ done layer. one (under d.sectors done) (bare l.sectors) layer) [] d.layers)
-        ∙ after_some on_log (λ (ls : List LayerSpec). at d (under l.sectors ls))
-        (λ done layer. other d (under l.sectors done) layer) [] l.layers
+        after_both (at (bare d.sectors) (bare l.sectors)) (map on_data d.layers) (map on_log
+        l.layers) ∙ rw (after_some on_data (λ (ls : List LayerSpec). at (under d.sectors ls)
+        (bare l.sectors)) (λ done layer. one (under d.sectors done) (bare l.sectors) layer) []
+        d.layers) (after_some on_log (λ (ls : List LayerSpec). at d (under l.sectors ls)) (λ
+        done layer. other d (under l.sectors done) layer) [] l.layers)
 
 -- the sizes of disks under layers are those of disks
 pub sizes_again : (d l : Disk) (size : SectorSize) → IsDisk d → IsDisk l → HasRoom size l
     → (is_disk_size d.sectors ≡ true) × (is_log_disk_size (bytes_of size) l.sectors ≡ true)
-sizes_again d l size is_data is_log room =
-    let above : top_of l ≤ l.sectors = top_within l.sectors l.layers is_log.stand in
-    (is_data.size, and_from _ _ is_log.size (le-leb _ _ (omega (arith, room, above))))
+sizes_again d l size is_data is_log room = grind (arith, top_within, and_from, le-leb)
 
 -- ---- lines that are refused
 
@@ -425,10 +395,7 @@ data_refused : (d l : Disk) (size : SectorSize) (asked : Result LayerSpec TableE
 data_refused d l size asked refusal (layer ∷ layers) are e =
     misplaced (heads.Whole d l size) (head_lines.Layer disks.Data asked)
     (λ stands. let both = sym are ∙ stands.1 in cc) (cc)
-data_refused d l size asked refusal [] none e =
-    over_refused d l size disks.Data asked refusal (λ stands. stands.0) (λ few. (few, none))
-    (made_err (layer_step (least_sectors disks.Data size) d asked)
-    (λ (x : Disk). heads.Whole x l size) refusal e)
+data_refused d l size asked refusal [] none e = grind (arith, over_refused, made_err)
 
 -- a line of the head that is refused
 pub head_refused : (h : Stage) (line : HeadLine) (closed : Bool) (refusal : Refusal)
@@ -443,9 +410,7 @@ head_refused (heads.Data d) (head_lines.Log n size) closed refusal e =
     misplaced (heads.Data d) (head_lines.Log n size)
     (λ stands. let both = sym stands ∙ p.0 in cc) p.1
 head_refused (heads.Whole d l size) (head_lines.Layer disks.Data asked) false refusal e =
-    data_refused d l size asked refusal l.layers refl e
+    grind (arith, data_refused)
 head_refused (heads.Whole d l size) (head_lines.Layer disks.Log asked) false refusal e =
-    over_refused d l size disks.Log asked refusal (λ stands. stands) (λ few. few)
-    (made_err (layer_step (least_sectors disks.Log size) l asked)
-    (λ (x : Disk). heads.Whole d x size) refusal e)
+    grind (arith, over_refused, made_err)
 head_refused h line closed refusal e = misplaced h line (λ stands. stands) (cc)

@@ -1,7 +1,7 @@
 -- The first line of a text, and the text after it, which is shorter. Serves the proof of the
 -- reader's `next_line`, and `CanonicalTextLaws`.
 use Rattle.std.proofs.Common.{◌≡◌, ℕ, ◌<◌, ◌≤◌, Bool, true, false, cond, List, [], ◌∷◌, length}
-use Rattle.std.proofs.Common.{Option, Some, None, refl, ap, arith}
+use Rattle.std.proofs.Common.{Option, Some, None, refl, arith}
 use Rattle.std.specs.Prelude.{◌==◌, unwrap_or}
 use Rattle.std.specs.List.{onto_first}
 use Rattle.refusals.specs.Words.{before_byte, after_byte}
@@ -24,7 +24,7 @@ first_step : (t : Bool) (b : ℕ) (bytes f : List ℕ) (after : Option (List ℕ
     cond t ([] ∷ lines_of bytes) (onto_first b (lines_of bytes))
     ≡ cond t [] (b ∷ f) ∷ lines_of (unwrap_or (cond t (Some bytes) after) [])
 first_step true b bytes f after same = refl
-first_step false b bytes f after same = ap (λ ls. onto_first b ls) same
+first_step false b bytes f after same = grind arith
 
 -- the first line of a text that isn't empty
 pub first_line : (b : ℕ) (bytes : List ℕ)
@@ -42,9 +42,7 @@ shorter_step false b bytes after low = omega arith
 -- the text after the first line is no longer
 pub after_line_short : (text : List ℕ) → length (after_line text) ≤ length text
 after_line_short [] = omega arith
-after_line_short (b ∷ bytes) =
-    let h = shorter_step (b == 10) b bytes (after_byte 10 bytes) (after_line_short bytes) in
-    omega arith
+after_line_short (b ∷ bytes) = grind (arith, after_line_short bytes, shorter_step)
 
 -- and shorter where there is one
 pub after_line_shorter : (b : ℕ) (bytes : List ℕ)

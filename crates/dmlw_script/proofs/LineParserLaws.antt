@@ -1,11 +1,11 @@
 -- The parser finds a meaning of a line exactly if the line has the fields of this meaning. The
 -- fields of a meaning that the parser finds have a canonical text. The laws of texts and of readers
 -- of both kinds of scripts cite it.
-use Rattle.std.proofs.Common.{◌≡◌, ℕ, ◌+◌, ◌<◌, Bool, true, false}
+use Rattle.std.proofs.Common.{◌≡◌, ℕ, ◌<◌, Bool, true, false}
 use Rattle.std.proofs.Common.{cond, List, [], ◌∷◌, Option, Some, None, ⊎_elim}
 use Rattle.std.proofs.Common.{refl, ap, subst, ◌∙◌, sym, arith}
-use Rattle.std.specs.Prelude.{◌==◌, codes, map}
-use Rattle.std.specs.Option.{option_map, option_or}
+use Rattle.std.specs.Prelude.{codes, map}
+use Rattle.std.specs.Option.{option_map}
 use Rattle.std.specs.Str.{bytes_eq}
 use Rattle.std.proofs.lemmas.Bool.{cases_Bool, cond-true}
 use Rattle.std.proofs.lemmas.Bool.{eqb-true}
@@ -42,10 +42,8 @@ use Rattle.dmlw_script.specs.Words.{byte_of}
 use Rattle.dmlw_script.proofs.PickLaws.{picks_first}
 use Rattle.refusals.specs.Words.{after_byte, before_byte, number_of}
 use Rattle.std.proofs.Common.{◌^◌, ◌≤◌, Ok}
-use Rattle.std.specs.Prelude.{nat_lt}
 use Rattle.std.proofs.lemmas.Bool.{ltb-false}
 use Rattle.bio.specs.SizeLaws.{sized_passed}
-use Rattle.bio.specs.declared.request.Bio.TheVariants.{Read}
 use Rattle.dmlw_script.specs.declared.command.Step.{Step}
 use Rattle.dmlw_script.specs.Fields.{step_fields}
 use Rattle.dmlw_script.specs.Plans.{range_test, step_answer, submission_answer, HasLineText}
@@ -53,7 +51,7 @@ use Rattle.dmlw_script.specs.Plans.{WritesByte}
 use Rattle.dmlw_script.proofs.FieldLaws.{Fits, FitsLine, FitsWord}
 use Rattle.dmlw_script.proofs.FoldLaws.{barred_ok}
 use Rattle.dmlw_script.proofs.WordLaws.{before_all, bind_at, bind_some}
-use Rattle.dmlw_script.proofs.WordLaws.{chosen, cut_alone}
+use Rattle.dmlw_script.proofs.WordLaws.{cut_alone}
 use Rattle.dmlw_script.proofs.WordLaws.{first_some, id_lacks_space}
 use Rattle.dmlw_script.proofs.WordLaws.{lacks, map_some, number_lacks_space, same_bytes, same_some}
 use Rattle.dmlw_script.proofs.WordLaws.{verb_read}
@@ -68,8 +66,7 @@ at_end (Some text) has = absurd has
 -- what is left has the fields of what it is
 pub left_with : (fields : List Field) (left : Option (List ℕ)) (text : List ℕ) → left ≡ Some text
     → HasFields fields (Some text) → HasFields fields left
-left_with fields left text is has =
-    subst (λ (o : Option (List ℕ)). HasFields fields o) (sym is) has
+left_with fields left text is has = grind arith
 
 -- where a word is left, there are bytes
 pub word_left : (word : Word) (fields : List Field) (left : Option (List ℕ))
@@ -94,7 +91,7 @@ last_has : (word : Word) (text : List ℕ) → lacks 32 text ≡ true → IsWord
     → HasFields (One word ∷ []) (Some text)
 last_has word text lack is =
     let c = cut_alone 32 text lack in (
-      subst (λ (x : List ℕ). IsWord x word) (sym c.0) is,
+      rw (← c.0) at is,
       subst (λ (o : Option (List ℕ)). HasFields [] o) (sym c.1) tt,
     )
 
@@ -147,9 +144,7 @@ untaken word [] (Some text) others has = absurd has
 untaken word (Choice false other ∷ fields) left others has =
     untaken word fields left others.1 has
 untaken word (Choice true other ∷ fields) None others has = refl
-untaken word (Choice true other ∷ fields) (Some text) others has =
-    ap (λ (t : Bool). cond t (true, after_byte 32 text) (false, Some text))
-    (ap (λ (x : List ℕ). bytes_eq x word) has.0 ∙ others.0)
+untaken word (Choice true other ∷ fields) (Some text) others has = grind arith
 untaken word (field ∷ fields) left others has = absurd others
 
 -- an option is taken off if it is given
@@ -158,16 +153,16 @@ taken_again : (word : List ℕ) (given : Bool) (fields : List Field) (left : Opt
     → ((take_word word left).0 ≡ given) × HasFields fields (take_word word left).1
 taken_again word false fields left others has =
     let is = untaken word fields left others has in (
-      ap (λ (p : Bool × Option (List ℕ)). p.0) is,
-      subst (λ (p : Bool × Option (List ℕ)). HasFields fields p.1) (sym is) has,
+      rw is,
+      rw is has,
     )
 taken_again word true fields None others has = absurd has
 taken_again word true fields (Some text) others has =
     let same : bytes_eq (before_byte 32 text) word ≡ true =
     (bytes_eq-Decides (before_byte 32 text) word).1 has.0 in
     let is : take_word word (Some text) ≡ (true, after_byte 32 text) = cond-true _ _ _ same in (
-      ap (λ (p : Bool × Option (List ℕ)). p.0) is,
-      subst (λ (p : Bool × Option (List ℕ)). HasFields fields p.1) (sym is) has.1,
+      rw is,
+      rw is has.1,
     )
 
 -- a write that asks for this
@@ -190,7 +185,7 @@ options_read left options e =
     let meta = take_word (codes "meta") fua.1 in
     let found = found_read flush.0 fua.0 meta.0 meta.1 options e in
     let last : HasFields [] meta.1 =
-    subst (λ (o : Option (List ℕ)). HasFields [] o) (sym found.0) tt in
+    rw found.0 tt in
     subst (λ (o : WriteOptions). HasFields (option_fields o) left) found.1
     (taken_read (codes "flush") (Choice fua.0 (codes "fua") ∷ Choice meta.0 (codes "meta") ∷ []) left
     (taken_read (codes "fua") (Choice meta.0 (codes "meta") ∷ []) flush.1
@@ -214,8 +209,7 @@ options_again left options has =
     found_again : (flush fua meta : Bool) (left : Option (List ℕ)) → flush ≡ options.flush
         → fua ≡ options.fua → meta ≡ options.meta → left ≡ None
         → found_options flush fua meta left ≡ Some options
-    found_again flush fua meta left is_flush is_fua is_meta none =
-        rw (is_flush, is_fua, is_meta, none) refl
+    found_again flush fua meta left is_flush is_fua is_meta none = grind arith
 
 -- ---- submissions
 
@@ -229,18 +223,20 @@ write_words_read words s e =
     let g = bind_some (number_of (before_byte 32 b.0)) _ s f.2 in
     let h = bind_some (byte_of (before_byte 32 c.0)) _ s g.2 in
     let o = bind_some (options_of (after_byte 32 c.0)) _ s h.2 in
-    subst (λ (x : Submission). (submission_word x ≡ codes "w")
-    × HasFields (submission_fields x) (Some words)) (same_some _ s o.2) (
+    rw (← same_some _ s o.2) (
       refl,
       (
         f.1,
-        left_with (number g.0 ∷ One (Byte h.0) ∷ option_fields o.0) (after_byte 32 words) b.0 b.1 (
-          g.1,
-          left_with (One (Byte h.0) ∷ option_fields o.0) (after_byte 32 b.0) c.0 c.1 (
-            h.1,
-            options_read (after_byte 32 c.0) o.0 o.1,
-          ),
-        ),
+        left_with (number g.0 ∷ One (Byte h.0) ∷
+            option_fields o.0) (after_byte 32 words) b.0 b.1 (
+              g.1,
+              left_with (One (Byte h.0) ∷
+                  option_fields o.0) (after_byte 32 b.0) c.0 c.1 (
+                    h.1,
+                    options_read (after_byte 32 c.0) o.0
+                        o.1,
+                  ),
+            ),
       ),
     )
 
@@ -248,58 +244,28 @@ write_words_read words s e =
 sectors_read : (words : List ℕ) (sectors : ℕ × ℕ) → sectors_of words ≡ Some sectors
     → HasFields (number sectors.0 ∷ number sectors.1 ∷ []) (Some words)
 sectors_read words sectors e =
-    let a = bind_some (number_of (before_byte 32 words)) _ sectors e in
-    let b = bind_some (after_byte 32 words) _ sectors a.2 in
-    let c = bind_some (number_of b.0) _ sectors b.2 in
-    subst (λ (x : ℕ × ℕ). HasFields (number x.0 ∷ number x.1 ∷ []) (Some words))
-    (same_some (a.0, c.0) sectors c.2) (
-      a.1,
-      left_with (number c.0 ∷ []) (after_byte 32 words) b.0 b.1 (last_number_read b.0 c.0 c.1),
-    )
+    grind (arith, bind_some, same_some, left_with, last_number_read)
 
 -- what is heard of a submission is what it has
 pub submission_read : (verb : List ℕ) (left : Option (List ℕ)) (s : Submission)
     → submission_of verb left ≡ Some s
     → (verb ≡ submission_word s) × HasFields (submission_fields s) left
 submission_read verb (Some words) s e =
-    chosen (bytes_eq verb (codes "w")) _ _ (Some s) e
-    (λ same is. let w = write_words_read words s is in (same_bytes verb _ same ∙ sym w.0, w.1))
-    (λ apart rest. chosen (bytes_eq verb (codes "d")) _ _ (Some s) rest
-    (λ same is. let a = bind_some (sectors_of words) _ s is in
-    subst (λ (x : Submission). (verb ≡ submission_word x)
-    × HasFields (submission_fields x) (Some words)) (same_some _ s a.2)
-    (same_bytes verb _ same, sectors_read words a.0 a.1))
-    (λ neither none. absurd (cc none)))
-submission_read verb None s e =
-    let p = cond_some (bytes_eq verb (codes "f")) submits.Flush s e in
-    subst (λ (x : Submission). (verb ≡ submission_word x) × HasFields (submission_fields x) None)
-    p.1 (same_bytes verb _ p.0, tt)
+    grind (arith, write_words_read, same_bytes, bind_some, same_some, sectors_read)
+submission_read verb None s e = grind (arith, cond_some, same_bytes)
 
 -- a write's words are heard as they are
 write_words_again : (words : List ℕ) (first count byte : ℕ) (options : WriteOptions)
     → HasFields (submission_fields (submits.Write first count byte options)) (Some words)
     → write_words words ≡ Some (submits.Write first count byte options)
 write_words_again words first count byte options has =
-    let b =
-    word_left (Number count) (One (Byte byte) ∷ option_fields options)
-    (after_byte 32 words) has.1 in
-    let c = word_left (Byte byte) (option_fields options) (after_byte 32 b.0) b.3 in
-    bind_at _ _ _ _ b.1
-    (bind_at _ _ _ _ c.1
-    (bind_at _ _ _ _ has.0
-    (bind_at _ _ _ _ b.2
-    (bind_at _ _ _ _ c.2
-    (bind_at _ _ _ _ (options_again (after_byte 32 c.0) options c.3) refl)))))
+    grind (arith, word_left, bind_at, options_again)
 
 -- so are sectors
 sectors_again : (words : List ℕ) (first count : ℕ)
     → HasFields (number first ∷ number count ∷ []) (Some words)
     → sectors_of words ≡ Some (first, count)
-sectors_again words first count has =
-    let c = word_left (Number count) [] (after_byte 32 words) has.1 in
-    bind_at _ _ _ _ has.0
-    (bind_at _ _ _ _ c.1
-    (bind_at _ _ _ _ (last_number_again c.0 count (c.2, c.3)) refl))
+sectors_again words first count has = grind (arith, word_left, bind_at, last_number_again)
 
 -- a submission isn't a mark
 pub no_mark : (s : Submission) → bytes_eq (submission_word s) (codes "mark") ≡ false
@@ -332,11 +298,7 @@ SaysWords words verb s = SaysLine verb (Some words) s
 submit_read : (verb words : List ℕ) (s : LineMeaning) → submit_of verb words ≡ Some s
     → SaysWords words verb s
 submit_read verb words s e =
-    let a = bind_some (id_of_word (before_byte 32 words)) _ s e in
-    let b = bind_some (submission_of verb (after_byte 32 words)) _ s a.2 in
-    let r = submission_read verb (after_byte 32 words) b.0 b.1 in
-    subst (λ (x : LineMeaning). SaysWords words verb x) (same_some _ s b.2)
-    (r.0, (a.1, r.1))
+    grind (arith, bind_some, submission_read, same_some)
 
 -- a line of the body
 body_read : (verb words : List ℕ) (s : LineMeaning) → body_words verb words ≡ Some s
@@ -364,8 +326,7 @@ SaysHead words verb s = Says verb (Some words) (head_fields s)
 -- the size of a log's sectors
 size_read : (left : Option (List ℕ)) (size : SectorSize) → size_of left ≡ Some size
     → HasFields (size_fields size) left
-size_read None size e =
-    subst (λ (x : SectorSize). HasFields (size_fields x) None) (same_some sizes.B512 size e) tt
+size_read None size e = grind (arith, same_some)
 size_read (Some text) size e =
     let p = cond_some (bytes_eq text (codes "4096")) sizes.B4096 size e in
     subst (λ (x : SectorSize). HasFields (size_fields x) (Some text)) p.1
@@ -406,7 +367,7 @@ plain_read verb (Some words) s e =
     ⊎_elim
     (λ (head : option_map parsed_lines.Head (head_words verb words) ≡ Some s).
     let p = map_some parsed_lines.Head (head_words verb words) s head in
-    subst (λ (x : LineMeaning). SaysWords words verb x) p.2 (head_read verb words p.0 p.1))
+    rw (← p.2) (head_read verb words p.0 p.1))
     (body_read verb words s)
     (first_some _ (body_words verb words) s e)
 plain_read verb None s e =
@@ -431,11 +392,7 @@ picks_read : (picks : List ℕ) (left : Option (List ℕ)) → picks_of left ≡
     → HasFields (map number picks) left
 picks_read [] None e = tt
 picks_read (pick ∷ picks) None e = absurd (cc)
-picks_read [] (Some words) e =
-    let p =
-    number_parts (number_of (before_byte 32 words)) (picks_of (after_byte 32 words)) []
-    (sym (picks_first words) ∙ e) in
-    let none : p.0 ∷ p.1 ≡ [] = p.4 in absurd (cc)
+picks_read [] (Some words) e = grind (arith, number_parts, picks_first)
 picks_read (pick ∷ picks) (Some words) e =
     let p =
     number_parts (number_of (before_byte 32 words)) (picks_of (after_byte 32 words))
@@ -454,27 +411,18 @@ picks_again [] None has = refl
 picks_again [] (Some words) has = absurd has
 picks_again (pick ∷ picks) None has = absurd has
 picks_again (pick ∷ picks) (Some words) has =
-    picks_first words
-    ∙ ap (λ o. with_number o (picks_of (after_byte 32 words)))
-    has.0
-    ∙ ap (with_number (Some pick)) (picks_again picks (after_byte 32 words) has.1)
+    grind (arith, picks_again picks (after_byte 32 words) has.1, picks_first)
 
 -- a mark
 mark_read : (left : Option (List ℕ)) (s : LineMeaning) → mark_of left ≡ Some s
     → SaysLine (codes "mark") left s
 mark_read None s e = absurd (cc)
-mark_read (Some text) s e =
-    let p = cond_some (is_line_text text) (step (steps.Mark text)) s e in
-    subst (λ (x : LineMeaning). SaysWords text (codes "mark") x) p.1 (refl, (p.0, refl))
+mark_read (Some text) s e = grind (arith, cond_some)
 
 -- a word that names a disk
 disk_read : (word : List ℕ) (over : DiskName) → disk_of_word word ≡ Some over
     → word ≡ disk_word over
-disk_read word over e =
-    chosen (bytes_eq word (codes "data")) _ _ (Some over) e
-    (λ same is. same_bytes word _ same ∙ ap disk_word (same_some disks.Data over is))
-    (λ apart is. let p = cond_some (bytes_eq word (codes "log")) disks.Log over is in
-    same_bytes word _ p.0 ∙ ap disk_word p.1)
+disk_read word over e = grind (arith, same_bytes, same_some, cond_some)
 
 -- a message
 message_read : (left : Option (List ℕ)) (s : LineMeaning) → message_of left ≡ Some s
@@ -486,14 +434,16 @@ message_read (Some words) s e =
     let n = bind_some (number_of (before_byte 32 a.0)) _ s a.2 in
     let t = bind_some (after_byte 32 a.0) _ s n.2 in
     let p = cond_some (is_line_text t.0) (step (steps.Message d.0 n.0 t.0)) s t.2 in
-    subst (λ (x : LineMeaning). SaysWords words (codes "message") x) p.1 (
+    rw (← p.1) (
       refl,
       (
         disk_read (before_byte 32 words) d.0 d.1,
-        left_with (number n.0 ∷ Text t.0 ∷ []) (after_byte 32 words) a.0 a.1 (
-          n.1,
-          left_with (Text t.0 ∷ []) (after_byte 32 a.0) t.0 t.1 (p.0, refl),
-        ),
+        left_with (number n.0 ∷ Text
+            t.0 ∷ []) (after_byte 32 words) a.0 a.1 (
+              n.1,
+              left_with (Text t.0 ∷ []) (after_byte 32
+                  a.0) t.0 t.1 (p.0, refl),
+            ),
       ),
     )
 
@@ -519,17 +469,14 @@ parsed_read line s e = parts_read (before_byte 32 line) (after_byte 32 line) s e
 size_again : (size : SectorSize) (left : Option (List ℕ)) → HasFields (size_fields size) left
     → size_of left ≡ Some size
 size_again sizes.B512 None has = refl
-size_again sizes.B4096 (Some text) has =
-    let is : text ≡ codes "4096" = last_word text has.1 ∙ has.0 in rw is refl
+size_again sizes.B4096 (Some text) has = grind (arith, last_word)
 size_again size left has = absurd has
 
 -- the log disk's line is heard as it is
 pub log_again : (words : List ℕ) (n : ℕ) (size : SectorSize)
     → HasFields (number n ∷ size_fields size) (Some words)
     → log_of words ≡ Some (head_lines.Log n size)
-log_again words n size has =
-    bind_at _ _ _ _ has.0
-    (bind_at _ _ _ _ (size_again size (after_byte 32 words) has.1) refl)
+log_again words n size has = grind (arith, bind_at, size_again)
 
 -- a line that submits is heard as it is
 submit_again : (s : Submission) (verb words : List ℕ) (name : ScriptId) → verb ≡ submission_word s
@@ -550,18 +497,12 @@ message_again : (over : DiskName) (layer : ℕ) (text words : List ℕ)
     → HasFields (One (Given (disk_word over)) ∷ number layer ∷ Text text ∷ []) (Some words)
     → message_of (Some words) ≡ Some (step (steps.Message over layer text))
 message_again over layer text words has =
-    let a = word_left (Number layer) (Text text ∷ []) (after_byte 32 words) has.1 in
-    let t = text_left text (after_byte 32 a.0) a.3 in
-    bind_at _ _ _ _ (disk_again over (before_byte 32 words) has.0)
-    (bind_at _ _ _ _ a.1
-    (bind_at _ _ _ _ a.2
-    (bind_at _ _ _ _ t.0 (cond-true _ _ _ t.1))))
+    grind (arith, word_left, text_left, bind_at, disk_again, cond-true)
 
 -- a mark is heard as it is
 mark_again : (text : List ℕ) (left : Option (List ℕ)) → HasFields (Text text ∷ []) left
     → mark_of left ≡ Some (step (steps.Mark text))
-mark_again text left has =
-    let t = text_left text left has in ap mark_of t.0 ∙ cond-true _ _ _ t.1
+mark_again text left has = grind (arith, text_left, cond-true)
 
 -- what is heard as a line of the head
 abbrev heard_head : Option HeadLine → Option LineMeaning
@@ -571,17 +512,15 @@ heard_head s = option_map parsed_lines.Head s
 parts_again : (s : LineMeaning) (verb : List ℕ) (left : Option (List ℕ)) → SaysLine verb left s
     → parse_parts verb left ≡ Some s
 parts_again (parsed_lines.Head (head_lines.Data n)) verb (Some words) says =
-    rw says.0 (ap (λ (k : Option ℕ). option_or (heard_head (option_map head_lines.Data k))
-    (submit_of (codes "data") words)) (last_number_again words n says.1))
+    rw says.0 (rw (last_number_again words n says.1))
 parts_again (parsed_lines.Head (head_lines.Log n size)) verb (Some words) says =
-    rw says.0 (ap (λ (k : Option HeadLine). option_or (heard_head k)
-    (submit_of (codes "log") words)) (log_again words n size says.1))
+    rw says.0 (rw (log_again words n size says.1))
 parts_again (parsed_lines.Head (head_lines.Layer disks.Data asked)) verb (Some words) says =
     rw says.0
-    (ap (λ k. Some (parsed_lines.Head (head_lines.Layer disks.Data k))) says.1)
+    (rw says.1)
 parts_again (parsed_lines.Head (head_lines.Layer disks.Log asked)) verb (Some words) says =
     rw says.0
-    (ap (λ k. Some (parsed_lines.Head (head_lines.Layer disks.Log k))) says.1)
+    (rw says.1)
 parts_again (parsed_lines.Body
     (body_lines.Submit name (submits.Write first count byte options))) verb (Some words) says =
     rw says.0 (submit_again (submits.Write first count byte options) (codes "w") words name refl
@@ -631,12 +570,7 @@ pub kept_by : {A : Type 0} (parse : List ℕ → Option A) → parse [] ≡ None
     → ((line : List ℕ) → parse (35 ∷ line) ≡ None) → (line : List ℕ) (s : A)
     → parse line ≡ Some s → is_skipped line ≡ false
 kept_by parse none comment [] s e = absurd (cc)
-kept_by parse none comment (b ∷ line) s e =
-    ⊎_elim
-    (λ (skipped : (b == 35) ≡ true). absurd (let both = sym e
-    ∙ ap (λ (x : ℕ). parse (x ∷ line)) (eqb-true b 35 skipped) ∙ comment line in cc))
-    (λ (kept : (b == 35) ≡ false). kept)
-    (cases_Bool (b == 35))
+kept_by parse none comment (b ∷ line) s e = grind (arith, eqb-true, cases_Bool)
 
 -- a line that says something isn't skipped
 pub said_kept : (line : List ℕ) (s : LineMeaning) → ParsesAs line s → is_skipped line ≡ false
@@ -649,40 +583,25 @@ said_kept line s says =
 -- the numbers of sectors that pass the test are below 2 ^ 64
 pub range_low : (bytes sectors first count : ℕ) → sectors ≤ 1048576
     → range_test bytes sectors first count ≡ Ok tt → (first < 2 ^ 64) × (count < 2 ^ 64)
-range_low bytes sectors first count small e =
-    let some = barred_ok (count == 0) _ _ _ (sized_passed bytes (Read first count) sectors e).0 in
-    let short = barred_ok (nat_lt 2048 count) _ _ _ some.1 in
-    let within = barred_ok (nat_lt sectors (first + count)) _ _ _ short.1 in
-    let few : count ≤ 2048 = ltb-false _ _ short.0 in
-    let inside : first + count ≤ sectors = ltb-false _ _ within.0 in
-    (omega arith, omega arith)
+range_low bytes sectors first count small e = grind (arith, barred_ok, sized_passed, ltb-false)
 
 -- what a submission has can be written
 pub submission_fits : (bytes sectors : ℕ) (submission : Submission) → sectors ≤ 1048576
     → submission_answer bytes sectors submission ≡ Ok tt → WritesByte submission
     → FitsWord (Given (submission_word submission)) × Fits (submission_fields submission)
 submission_fits bytes sectors (submits.Write first count byte options) small passes low =
-    let r = range_low bytes sectors first count small passes in
-    ((refl, refl), (r.0, (r.1, (low, ((refl, refl), ((refl, refl), ((refl, refl), tt)))))))
+    grind (arith, range_low)
 submission_fits bytes sectors (submits.Discard first count) small passes low =
-    let r = range_low bytes sectors first count small passes in ((refl, refl), (r.0, (r.1, tt)))
+    grind (arith, range_low)
 submission_fits bytes sectors submits.Flush small passes low = ((refl, refl), tt)
 
 -- a line that names no request
 pub step_fits : (bytes sectors : ℕ) (it : Step) → sectors ≤ 1048576
     → step_answer bytes sectors it ≡ Ok tt → HasLineText it → FitsLine (step_fields it)
-step_fits bytes sectors steps.Close small passes text =
-    record { first = (refl, refl); others = tt }
-step_fits bytes sectors (steps.Read first count) small passes text =
-    let r = range_low bytes sectors first count small passes in
-    record { first = (refl, refl); others = (r.0, (r.1, tt)) }
-step_fits bytes sectors steps.Turn small passes text =
-    record { first = (refl, refl); others = tt }
-step_fits bytes sectors (steps.At moment) small passes low =
-    record { first = (refl, refl); others = (low, tt) }
-step_fits bytes sectors (steps.Message disks.Data layer text) small passes has =
-    record { first = (refl, refl); others = ((refl, refl), (has.0, has.1)) }
-step_fits bytes sectors (steps.Message disks.Log layer text) small passes has =
-    record { first = (refl, refl); others = ((refl, refl), (has.0, has.1)) }
-step_fits bytes sectors (steps.Mark mark) small passes text =
-    record { first = (refl, refl); others = text }
+step_fits bytes sectors steps.Close small passes text = grind arith
+step_fits bytes sectors (steps.Read first count) small passes text = grind (arith, range_low)
+step_fits bytes sectors steps.Turn small passes text = grind arith
+step_fits bytes sectors (steps.At moment) small passes low = grind arith
+step_fits bytes sectors (steps.Message disks.Data layer text) small passes has = grind arith
+step_fits bytes sectors (steps.Message disks.Log layer text) small passes has = grind arith
+step_fits bytes sectors (steps.Mark mark) small passes text = grind arith

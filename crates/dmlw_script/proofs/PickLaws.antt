@@ -1,6 +1,6 @@
 -- How the picks of a crash are read, one word after another.
 use Rattle.std.proofs.Common.{◌≡◌, ℕ, ◌+◌, ◌≤◌, Bool, true, false, cond, List, [], ◌∷◌, ◌++◌}
-use Rattle.std.proofs.Common.{length, Option, Some, None, refl, ap, ◌∙◌, sym, arith, append_assoc}
+use Rattle.std.proofs.Common.{length, Option, Some, None, refl, ap, ◌∙◌, arith, append_assoc}
 use Rattle.std.specs.Prelude.{◌==◌, option_map}
 use Rattle.std.specs.List.{onto_first}
 use Rattle.dmlw_script.specs.inside.LineParser.{numbers_of, picks_of, split_words, with_number}
@@ -53,20 +53,13 @@ pub pick_read : (front words : List ℕ) (n : ℕ) (rest all : Option (List ℕ)
     → after_byte 32 words ≡ rest → number_of (before_byte 32 words) ≡ Some n
     → picks_after front (picks_of (Some words)) ≡ all
     → picks_after (front ++ n ∷ []) (picks_of rest) ≡ all
-pick_read front words n rest all cut number e =
-    front_step front n (picks_of rest)
-    ∙ sym (ap (picks_after front)
-    (picks_first words ∙ ap (λ o. with_number o (picks_of (after_byte 32 words))) number
-    ∙ ap (λ r. with_number (Some n) (picks_of r)) cut))
-    ∙ e
+pick_read front words n rest all cut number e = grind (arith, front_step, picks_first)
 
 -- a word that is no number has no picks
 pub no_pick : (front words : List ℕ) (all : Option (List ℕ))
     → number_of (before_byte 32 words) ≡ None → picks_after front (picks_of (Some words)) ≡ all
     → all ≡ None
-no_pick front words all number e =
-    sym e ∙ ap (picks_after front)
-    (picks_first words ∙ ap (λ o. with_number o (picks_of (after_byte 32 words))) number)
+no_pick front words all number e = grind (arith, picks_first)
 
 -- how much is left
 abbrev pub left_of : Option (List ℕ) → ℕ
@@ -82,5 +75,4 @@ left_step false bytes behind low = omega arith
 -- less is left behind a word
 pub left_behind : (words : List ℕ) → left_of (after_byte 32 words) ≤ length words
 left_behind [] = omega arith
-left_behind (b ∷ bytes) =
-    let low = left_step (b == 32) bytes (after_byte 32 bytes) (left_behind bytes) in omega arith
+left_behind (b ∷ bytes) = grind (arith, left_behind bytes, left_step)

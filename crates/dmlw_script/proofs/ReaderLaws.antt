@@ -1,7 +1,7 @@
 -- What the laws need to know of a reader of scripts (`Reader`), and what follows for the texts that
 -- it reads.
 use Rattle.std.proofs.Common.{◌≡◌, ℕ, Bool, true, false, not, List, [], ◌∷◌, ◌++◌, append_assoc}
-use Rattle.std.proofs.Common.{Option, Some, None, Ok, Err, ⊎_elim, refl, ap, ◌∙◌, sym, subst}
+use Rattle.std.proofs.Common.{Option, Some, None, Ok, Err, ⊎_elim, refl, ap, ◌∙◌, sym}
 use Rattle.std.specs.Prelude.{Result, IfOk}
 use Rattle.std.specs.List.{AllByRecursion, AllZip}
 use Rattle.std.proofs.lemmas.Bool.{cases_Bool, cond-false, cond-true}
@@ -96,8 +96,7 @@ module _ {S W A : Type 0} (r : Reader S W A) where
             tells = tells_said r.Says line lines w g.said plain kept says g.tells;
             begun = g.begun;
             more =
-                g.more ∙ ap (λ (ls : List W). ls ++ g.said) first.1
-                ∙ append_assoc (r.lines_so_far s) (w ∷ []) g.said;
+                g.more ∙ rw first.1 (append_assoc (r.lines_so_far s) (w ∷ []) g.said);
           }
 
       by_tests : (plain skipped : Bool) → is_ascii_line line ≡ plain → is_skipped line ≡ skipped
@@ -108,7 +107,7 @@ module _ {S W A : Type 0} (r : Reader S W A) where
           heard (r.parse line) plain kept refl (sym (kept_line s line plain kept) ∙ e)
       by_tests true true plain skipped =
           let same : s ≡ t = (let there = sym (skipped_line s line plain skipped) ∙ e in cc) in
-          let g = others (subst (λ (x : S). r.IsBegun x) same begun) in
+          let g = others (rw (← same) begun) in
           record {
             said = g.said;
             tells = tells_skipped r.Says line lines g.said plain skipped g.tells;
@@ -121,7 +120,7 @@ module _ {S W A : Type 0} (r : Reader S W A) where
       → Grown s t lines
   all_grown s t [] e begun =
       let same : s ≡ t = cc in
-      subst (λ (x : S). Grown s x []) same (record {
+      rw (← same) (record {
         said = [];
         tells = record { plain = tt; says = tt };
         begun = begun;
@@ -143,10 +142,10 @@ module _ {S W A : Type 0} (r : Reader S W A) where
   reached lines s gone =
       let g = all_grown r.start s lines gone r.start_begun in
       let same : g.said ≡ r.lines_so_far s =
-      sym (g.more ∙ ap (λ (ls : List W). ls ++ g.said) r.start_lines) in
+      sym (g.more ∙ rw r.start_lines) in
       record {
         gone = gone;
-        tells = subst (λ (ws : List W). Tells r.Says lines ws) same g.tells;
+        tells = rw (← same) g.tells;
         begun = g.begun;
       }
 
@@ -155,7 +154,7 @@ module _ {S W A : Type 0} (r : Reader S W A) where
       → r.finish s ≡ Ok plan → r.Spells lines plan
   reached_spells lines s plan here finish =
       let f = r.finish_grows s plan finish here.begun in
-      r.spells lines plan (subst (λ (ws : List W). Tells r.Says lines ws) f.0 here.tells) f.1
+      r.spells lines plan (rw (← f.0) here.tells) f.1
 
   -- lines that are read as a script spell it
   pub lines_spell : (number : ℕ) (lines : List (List ℕ)) (plan : A) → reads number lines ≡ Ok plan
@@ -176,10 +175,9 @@ module _ {S W A : Type 0} (r : Reader S W A) where
       ⊎_elim
       (λ (skipped : is_skipped line ≡ true).
       bind_at _ _ _ _ (skipped_line s line plain.0 skipped) (told_lines s t lines ws plain.1
-      (subst (λ (x : List (List ℕ)). AllZip r.Says x ws) (kept_skipped line lines skipped) says) e))
+      (rw (← kept_skipped line lines skipped) says) e))
       (λ (kept : is_skipped line ≡ false).
-      said ws kept (subst (λ (x : List (List ℕ)). AllZip r.Says x ws)
-      (kept_said line lines kept) says) e (λ q vs tells again.
+      said ws kept (rw (← kept_said line lines kept) says) e (λ q vs tells again.
       told_lines q t lines vs plain.1 tells again))
       (cases_Bool (is_skipped line))
     where

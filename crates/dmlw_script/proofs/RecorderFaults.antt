@@ -1,8 +1,8 @@
 -- Why the reader of recorder's scripts refuses a text. These are the facts that `FaultLaws` needs.
-use Rattle.std.proofs.Common.{◌≡◌, ℕ, ◌+◌, ◌<◌, ◌≤◌, true, false, not, List, [], ◌∷◌}
+use Rattle.std.proofs.Common.{◌≡◌, ℕ, ◌+◌, true, false, List, [], ◌∷◌}
 use Rattle.std.proofs.Common.{◌++◌, Option, Some, None, Ok, Err, ◌⊎◌, inl, inr, ⊎_elim, refl, ap}
 use Rattle.std.proofs.Common.{◌∙◌, sym, arith, append_assoc}
-use Rattle.std.specs.Prelude.{nat_lt, Result, codes}
+use Rattle.std.specs.Prelude.{Result, codes}
 use Rattle.std.specs.List.{list_any}
 use Rattle.std.proofs.lemmas.Bool.{cond-true, cond-false, cases_Bool, ltb-true}
 use Rattle.bio.specs.declared.request.BadBio.{BadBio}
@@ -10,7 +10,7 @@ use Rattle.bio.specs.declared.sector_size.SectorSize.{SectorSize}
 use Rattle.bio.specs.declared.sector_size.SectorSize.TheVariants as sizes
 use Rattle.bio.specs.Sizes.{bytes_of}
 use Rattle.refusals.specs.declared.refusal.Refusal.{Refusal}
-use Rattle.refusals.specs.declared.refusal.Refusal.TheVariants.{BadLine, BadId}
+use Rattle.refusals.specs.declared.refusal.Refusal.TheVariants.{BadLine}
 use Rattle.layer_table.specs.declared.layer_spec.LayerSpec.{LayerSpec}
 use Rattle.layer_table.specs.declared.table_error.TableError.{TableError}
 use Rattle.dmlw_script.specs.declared.command.Command.{Command}
@@ -34,14 +34,14 @@ use Rattle.dmlw_script.specs.inside.Drafts.{◌>>=◌, body_step, ended_next, na
 use Rattle.dmlw_script.specs.inside.Drafts.{step_test, with_command, Body}
 use Rattle.dmlw_script.specs.Grammar.{AreLinesOf}
 use Rattle.dmlw_script.specs.Ids.{same_name}
-use Rattle.dmlw_script.specs.Plans.{disk_of, is_ended, least_sectors, time_after, request_of}
+use Rattle.dmlw_script.specs.Plans.{disk_of, least_sectors, time_after, request_of}
 use Rattle.dmlw_script.specs.Plans.{step_answer, submission_answer, top_of, Disk, ScriptValue}
 use Rattle.dmlw_script.specs.Plans.{head_of, layer_line, lines_of_body, time_at_step}
 use Rattle.dmlw_script.specs.Plans.{time_from}
 use Rattle.dmlw_script.specs.inside.Readers.{body_line, crash_line, finish_step, finished}
 use Rattle.dmlw_script.specs.inside.Readers.{has_begun, parsed_step, Progress}
 use Rattle.dmlw_script.specs.FirstFault.{at_end, bad_line, bare, body_refusal, data_due}
-use Rattle.dmlw_script.specs.FirstFault.{head_refusal, in_body, in_head, is_open, log_due, next}
+use Rattle.dmlw_script.specs.FirstFault.{head_refusal, in_body, in_head, log_due, next}
 use Rattle.dmlw_script.specs.FirstFault.{prefix_after, refused, test_refusal, BeginsScript}
 use Rattle.dmlw_script.specs.FirstFault.{ComesInTime, FaultAfter, IsFirstFault, IsLineAfter}
 use Rattle.dmlw_script.specs.FirstFault.{IsLineFault, Prefix, MayFollowInScript, line_refusal}
@@ -142,11 +142,8 @@ after_disks d l names body =
 -- after the lines that were read
 pub after_lines : (h : Stage) (b : Body) → IsBegun (at h b)
     → prefix_after data_due (lines_of_progress (at h b)) ≡ prefix_at (at h b)
-after_lines heads.Empty b begun =
-    ap (λ (x : Body). prefix_after data_due (lines_of_progress (at heads.Empty x))) begun.1
-after_lines (heads.Data d) b begun =
-    ap (λ (x : Body). prefix_after data_due (lines_of_progress (at (heads.Data d) x))) begun.1
-    ∙ ap log_due (bare_is d begun.0.1)
+after_lines heads.Empty b begun = grind (arith, data_due)
+after_lines (heads.Data d) b begun = grind (arith, data_due, log_due, bare_is)
 after_lines (heads.Whole d l size) b begun = after_disks d l b.names b.body
 after_lines (heads.Ended d l size picks) b begun =
     let lines = head_of d l size ++ lines_of_body b.names 0 b.body in
@@ -202,14 +199,8 @@ submit_refused d l size b name submission refusal (Some request) is e =
 end_refused : (d l : Disk) (size : SectorSize) (b : Body) (name : ScriptId) (refusal : Refusal)
     (o : Option ℕ) → request_of name b.names ≡ o → ended_next o b ≡ Err refusal
     → body_refusal (plan_of d l size b) (body_lines.Complete name) ≡ Some refusal
-end_refused d l size b name refusal None is e =
-    cond-false _ _ _ (ap (λ (o : Option ℕ). is_open o (plan_of d l size b)) is) ∙ cc
-end_refused d l size b name refusal (Some request) is e =
-    let h =
-    barred_err (is_ended request b.body) BadId
-    (with_command b (commands.Complete request)) refusal e in
-    cond-false _ _ _ (ap (λ (o : Option ℕ). is_open o (plan_of d l size b)) is ∙ ap not h.0)
-    ∙ ap Some h.1
+end_refused d l size b name refusal None is e = grind (arith, cond-false)
+end_refused d l size b name refusal (Some request) is e = grind (arith, barred_err, cond-false)
 
 -- why a line of the body is refused: it doesn't come in time, or for its own reason
 abbrev pub BodyRefused : Disk → Disk → SectorSize → Body → BodyLine → Refusal → Type 0
@@ -222,10 +213,7 @@ BodyRefused d l size b line refusal =
 step_refused : (d l : Disk) (size : SectorSize) (b : Body) (step : Step) (refusal : Refusal)
     → step_test (bytes_of size) (top_of d) (time_after b.body) step ≡ Err refusal
     → BodyRefused d l size b (body_lines.Step step) refusal
-step_refused d l size b (steps.At later) refusal e =
-    let p = barred_err (nat_lt later (time_after b.body)) BadLine tt refusal e in
-    let back : later < time_after b.body = ltb-true _ _ p.0 in
-    inl (λ in_time. absurd (let forth : time_after b.body ≤ later = in_time in omega arith), p.1)
+step_refused d l size b (steps.At later) refusal e = grind (arith, barred_err, ltb-true)
 step_refused d l size b step refusal e =
     inr (tt, answered_err (step_answer (bytes_of size) (top_of d) step) refusal e)
 

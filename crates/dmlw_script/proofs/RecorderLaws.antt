@@ -221,11 +221,11 @@ body_grows (heads.Whole d l size) b q line e fine begun =
     let r = made_ok (body_step (bytes_of size) (top_of d) b line)
     (λ (x : Body). at (heads.Whole d l size) x) q e in
     let g = step_grows (bytes_of size) (top_of d) b r.0 line r.1 fine begun.1 in
-    subst (λ (x : Progress). GrowsBy p x (parsed_lines.Body line)) r.2 (
+    rw (← r.2) (
       (begun.0, g.0),
-      ap (λ (ls : List LineMeaning). lines_of_head (heads.Whole d l size) ++ ls)
-          (lines_grow (bytes_of size) (top_of d) b r.0 line begun.1 g.1)
-          ∙ sym (append_assoc (head_of d l size) (lines_of_draft b) (parsed_lines.Body line ∷ [])),
+      ap (λ (ls : List LineMeaning). lines_of_head (heads.Whole d l
+          size) ++ ls) (lines_grow (bytes_of size) (top_of d) b r.0 line begun.1 g.1) ∙ sym
+          (append_assoc (head_of d l size) (lines_of_draft b) (parsed_lines.Body line ∷ [])),
     )
 body_grows h b q line e fine begun = absurd (cc e)
 
@@ -236,9 +236,10 @@ crash_grows : (h : Stage) (b : Body) (q : Progress) (picks : List ℕ)
 crash_grows (heads.Whole d l size) b q picks e low begun =
     let p : Progress = in_draft d l size b in
     let same : at (heads.Ended d l size picks) b ≡ q = cc in
-    subst (λ (x : Progress). GrowsBy p x (parsed_lines.Crash picks)) same (
+    rw (← same) (
       (begun.0, (begun.1, low)),
-      sym (append_assoc (head_of d l size) (lines_of_draft b) (parsed_lines.Crash picks ∷ [])),
+      sym (append_assoc (head_of d l size) (lines_of_draft
+          b) (parsed_lines.Crash picks ∷ [])),
     )
 crash_grows h b q picks e low begun = absurd (cc e)
 
@@ -276,8 +277,7 @@ pub finished_read : (h : Stage) (b : Body) (plan : ScriptValue) → finished h b
     → IsBegun (at h b) → (lines_of_progress (at h b) ≡ lines_of_script plan) × IsPlan plan
 finished_read (heads.Whole d l size) b plan e begun =
     let same : plan_of d l size b ≡ plan = cc in
-    subst (λ (x : ScriptValue). (lines_of_script (plan_of d l size b) ≡ lines_of_script x)
-    × IsPlan x) same (refl, sound_plan d l size None b begun.0 begun.1 tt)
+    rw (← same) (refl, sound_plan d l size None b begun.0 begun.1 tt)
 finished_read (heads.Ended d l size picks) b plan e begun =
     let same : ended_plan d l size (Some picks) b ≡ plan = cc in
     subst (λ (x : ScriptValue).

@@ -42,14 +42,7 @@ no_such_seat : read_run_text (head ++ codes "s0 f\ns2 f\n")
 no_such_seat = refl
 
 second_flushes : IsRunPlan (flushes 1)
-second_flushes = record {
-  data_disk = record { size = refl; few = omega arith; stand = tt };
-  log_disk = record { size = refl; few = omega arith; stand = tt };
-  room = omega arith;
-  some_seat = omega arith;
-  few_seats = omega arith;
-  calls = (record { seat = omega arith; tested = refl; spelled = tt }, tt);
-}
+second_flushes = grind arith
 
 third_of_two : IsRunPlan (flushes 2) → ⊥
 third_of_two is = let first = is.calls.0 in absurd (let below = first.seat in omega arith)

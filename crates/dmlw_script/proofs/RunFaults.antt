@@ -77,13 +77,11 @@ after_seats : (d l : Disk) (seats : ℕ) (done : List SeatCall) →
     (layer_lines data_layer log_layer d l ++ map run_lines.Body done)
     ≡ seated_prefix d l seats done
 after_seats d l seats done =
-    after_both data_layer log_layer next prefix_after (λ p. refl) (λ p s ss. refl)
-    (in_head (bare d.sectors) (bare l.sectors) seats) (layer_lines data_layer log_layer d l)
-    (map run_lines.Body done)
-    ∙ ap (λ (p : RunPrefix). prefix_after p (map run_lines.Body done))
-    (after_layers data_layer log_layer next prefix_after (λ p. refl) (λ p s ss. refl)
-    (λ (x y : Disk). in_head x y seats) (λ x y layer. refl) (λ x y layer. refl) d l)
-    ∙ after_calls d l seats done
+    after_both data_layer log_layer next prefix_after (λ p. refl) (λ p s ss. refl) (in_head (bare
+    d.sectors) (bare l.sectors) seats) (layer_lines data_layer log_layer d l) (map
+    run_lines.Body done) ∙ rw (after_layers data_layer log_layer next prefix_after (λ p. refl)
+    (λ p s ss. refl) (λ (x y : Disk). in_head x y seats) (λ x y layer. refl) (λ x y layer.
+    refl) d l) (after_calls d l seats done)
 
 -- after the lines that were read
 pub after_lines : (h : Stage) (seats : Option ℕ) (done : List SeatCall)
@@ -92,8 +90,7 @@ pub after_lines : (h : Stage) (seats : Option ℕ) (done : List SeatCall)
 after_lines heads.Empty seats done begun = refl
 after_lines (heads.Data d) seats done begun = ap log_due (bare_is d begun.0.1)
 after_lines (heads.Whole d l size) None [] begun =
-    ap (λ (x : Disk). seats_due x (bare l.sectors)) (bare_is d begun.1.0)
-    ∙ ap (seats_due d) (bare_is l begun.1.1)
+    rw (bare_is d begun.1.0) (ap (seats_due d) (bare_is l begun.1.1))
 after_lines (heads.Whole d l size) (Some seats) done begun = after_seats d l seats done
 after_lines h seats done begun = absurd (begun.1)
 

@@ -153,10 +153,10 @@ seats_grown (heads.Whole d l size) None [] q count e begun =
     let same : seated d l size count [] ≡ q = (let last = p.1 in cc) in
     let few : (nat_le 1 count ≡ true) × (nat_le count 64 ≡ true) =
     and_parts (nat_le 1 count) (nat_le count 64) p.0 in
-    subst (λ (x : RunProgress). GrowsTo (run_at (heads.Whole d l size) None []) x
-    (run_lines.Seats count)) same (
+    rw (← same) (
       (begun.0, (leb-true 1 count few.0, leb-true count 64 few.1, tt)),
-      rw (begun.1.0, begun.1.1) refl,
+      rw
+          (begun.1.0, begun.1.1) refl,
     )
 seats_grown h seats done q count e begun = absurd (cc e)
 
@@ -177,17 +177,18 @@ call_grown (heads.Whole d l size) (Some seats) done q line e fine begun =
       tested = told_ok answer r.0 r.1;
       spelled = fine;
     } in
-    subst (λ (x : RunProgress). GrowsTo p x (run_lines.Body line)) r.2 (
+    rw (← r.2) (
       (
         begun.0,
         (
           begun.1.0,
           begun.1.1,
-          all_append (IsAllowed (bytes_of size) (top_of d) seats) done (line ∷ []) begun.1.2
-              (stands, tt),
+          all_append (IsAllowed (bytes_of size) (top_of
+              d) seats) done (line ∷ []) begun.1.2 (stands, tt),
         ),
       ),
-      map_push run_lines.Body (run_head (run_plan d l size seats done)) done line,
+      map_push run_lines.Body (run_head
+          (run_plan d l size seats done)) done line,
     )
 call_grown h seats done q line e fine begun = absurd (cc e)
 
@@ -212,8 +213,7 @@ pub finished_grown : (h : Stage) (seats : Option ℕ) (done : List SeatCall) (pl
     → (lines_so_far h seats done ≡ lines_of_run plan) × IsRunPlan plan
 finished_grown (heads.Whole d l size) (Some seats) done plan e begun =
     let same : run_plan d l size seats done ≡ plan = cc in
-    subst (λ (x : RunPlan). (lines_of_run (run_plan d l size seats done) ≡ lines_of_run x)
-    × IsRunPlan x) same (
+    rw (← same) (
       refl,
       record {
         data_disk = begun.0.0;

@@ -1,6 +1,6 @@
 -- The parser finds a meaning of a line of a run's script exactly if the line has the fields of this
 -- meaning.
-use Rattle.std.proofs.Common.{◌≡◌, ℕ, Bool, true, false, cond, List, [], ◌∷◌, ◌++◌, Option, Some}
+use Rattle.std.proofs.Common.{◌≡◌, ℕ, true, false, List, [], ◌∷◌, ◌++◌, Option, Some}
 use Rattle.std.proofs.Common.{None, ⊎_elim, refl, ap, subst, ◌∙◌, sym}
 use Rattle.std.specs.Prelude.{◌==◌, codes}
 use Rattle.std.specs.Option.{option_map, option_or}
@@ -65,7 +65,7 @@ seat_read : (verb : List ℕ) (seat : ℕ) → seat_of verb ≡ Some seat → Is
 seat_read [] seat e = absurd (cc)
 seat_read (byte ∷ word) seat e =
     chosen (byte == 115) _ _ (Some seat) e (λ s is.
-    (word, is, ap (λ (b : ℕ). b ∷ word) (eqb-true byte 115 s)))
+    (word, is, rw (eqb-true byte 115 s)))
     (λ other none. absurd (cc none))
 
 -- the line says this, by its first word and the others
@@ -137,8 +137,7 @@ not_seats word seat is =
 not_head : (word words : List ℕ) (seat : ℕ) → number_of word ≡ Some seat
     → run_head_line (codes "s" ++ word) words ≡ None
 not_head word words seat is =
-    ap (λ (t : Bool). cond t (option_map run_lines.Seats (number_of words)) None)
-    (not_seats word seat is)
+    rw (not_seats word seat is)
 
 -- what is heard of a line that a recorder's head may have too
 abbrev heard_head : Option HeadLine → Option RunLine

@@ -17,14 +17,14 @@ data_layers_spelled : (layers : List LayerSpec)
     ≡ flat_map ended_line (map (layer_line disks.Data) layers)
 data_layers_spelled [] = refl
 data_layers_spelled (layer ∷ layers) =
-    ap (λ (x : List ℕ). ended_line (layer_line disks.Data layer) ++ x) (data_layers_spelled layers)
+    rw (data_layers_spelled layers)
 
 log_layers_spelled : (layers : List LayerSpec)
     → flat_map ended_run_line (map log_layer layers)
     ≡ flat_map ended_line (map (layer_line disks.Log) layers)
 log_layers_spelled [] = refl
 log_layers_spelled (layer ∷ layers) =
-    ap (λ (x : List ℕ). ended_line (layer_line disks.Log layer) ++ x) (log_layers_spelled layers)
+    rw (log_layers_spelled layers)
 
 -- the lines of both disks' layers
 both_spelled : (plan : RunPlan)
@@ -33,12 +33,12 @@ both_spelled : (plan : RunPlan)
     ≡ flat_map ended_line (map (layer_line disks.Data) plan.data_disk.layers)
     ++ flat_map ended_line (map (layer_line disks.Log) plan.log_disk.layers)
 both_spelled plan =
-    flat_map-append ended_run_line (map data_layer plan.data_disk.layers)
-    (map log_layer plan.log_disk.layers)
-    ∙ ap (λ (x : List ℕ). x ++ flat_map ended_run_line (map log_layer plan.log_disk.layers))
-    (data_layers_spelled plan.data_disk.layers)
-    ∙ ap (λ (x : List ℕ). flat_map ended_line (map (layer_line disks.Data) plan.data_disk.layers)
-    ++ x) (log_layers_spelled plan.log_disk.layers)
+    flat_map-append ended_run_line (map data_layer plan.data_disk.layers) (map log_layer
+    plan.log_disk.layers) ∙ rw (
+      data_layers_spelled plan.data_disk.layers,
+      log_layers_spelled
+          plan.log_disk.layers,
+    )
 
 -- a run's head is written in three parts: its disks, its seats, and the disks' layers
 pub run_head_in_parts : (plan : RunPlan) → flat_map ended_run_line (run_head plan)

@@ -41,8 +41,7 @@ run_written_as said fits = written_as run_fields said fits
 -- each call that may stand in a script can be written
 call_fits : (bytes sectors : ℕ) (call : Call) → sectors ≤ 1048576
     → call_answer bytes sectors call ≡ Ok tt → CallFits call → Fits (all_of (call_fields call))
-call_fits bytes sectors (calls.Submit submission) small passes fits =
-    submission_fits bytes sectors submission small passes fits
+call_fits bytes sectors (calls.Submit submission) small passes fits = grind (arith, submission_fits)
 call_fits bytes sectors (calls.Mark text) small passes good = ((refl, refl), good)
 
 -- the line of a call

@@ -1,10 +1,10 @@
 -- Laws of whole recorder's scripts: their texts, skipped lines, the lines of commands, and the ends
 -- of requests. Serves `scripts_have_own_texts` and `requests_end_once`, among other laws of
 -- `laws.rt`.
-use Rattle.std.proofs.Common.{◌≡◌, ℕ, zero, suc, ◌+◌, ◌<◌, ◌≤◌, Bool, true, false, not, ◌||◌, cond}
+use Rattle.std.proofs.Common.{◌≡◌, ℕ, zero, suc, ◌+◌, ◌<◌, ◌≤◌, Bool, true, false, not, cond}
 use Rattle.std.proofs.Common.{List, [], ◌∷◌, ◌++◌, length, Option, Some, None, ⊎_elim, get_or, refl}
 use Rattle.std.proofs.Common.{ap, ◌∙◌, sym, subst, arith, append_assoc}
-use Rattle.std.specs.Prelude.{is_some, map, slice_get}
+use Rattle.std.specs.Prelude.{is_some, slice_get}
 use Rattle.std.specs.List.{AllByRecursion, AllZip}
 use Rattle.std.proofs.lemmas.Bool.{cases_lt, eq-eqb}
 use Rattle.std.proofs.lemmas.List.{append-nil, length-append, length-map}
@@ -17,14 +17,13 @@ use Rattle.bio.specs.Sizes.{bytes_of}
 use Rattle.dmlw_script.specs.declared.command.Command.{Command}
 use Rattle.dmlw_script.specs.declared.command.Command.TheVariants as commands
 use Rattle.dmlw_script.specs.declared.script_id.ScriptId.{ScriptId}
-use Rattle.dmlw_script.specs.declared.disk_name.DiskName.TheVariants as disks
 use Rattle.dmlw_script.specs.LineMeaning.{LineMeaning}
 use Rattle.dmlw_script.specs.LineMeaning as parsed_lines
 use Rattle.dmlw_script.specs.Grammar.{IsLineOf, ParsesAs, IsTextOf, AreLinesOf}
 use Rattle.dmlw_script.specs.Lines.{command_line, is_ascii_line, is_skipped, unskipped}
 use Rattle.dmlw_script.specs.Lines.{unskipped_numbers, lines_of}
 use Rattle.dmlw_script.specs.Plans.{count_after_command, count_after_head, head_count, head_of}
-use Rattle.dmlw_script.specs.Plans.{layer_line, lines_after_head, lines_of_body, is_end_of}
+use Rattle.dmlw_script.specs.Plans.{lines_after_head, lines_of_body}
 use Rattle.dmlw_script.specs.Plans.{is_ended, lines_of_script, top_of, with_ending, IsWellFormed}
 use Rattle.dmlw_script.specs.Plans.{IsPlan, CanFollow, ScriptValue}
 use Rattle.dmlw_script.specs.CanonicalText.{canonical_text}
@@ -48,10 +47,7 @@ same_from_spelling plan other is_plan is_other same =
 -- a line that is skipped isn't kept
 kept_without : (before after : List (List ℕ)) (line : List ℕ) → is_skipped line ≡ true
     → unskipped (before ++ line ∷ after) ≡ unskipped (before ++ after)
-kept_without before after line skipped =
-    filter-append (λ l. not (is_skipped l)) before (line ∷ after)
-    ∙ ap (λ (ks : List (List ℕ)). unskipped before ++ ks) (kept_skipped line after skipped)
-    ∙ sym (filter-append (λ l. not (is_skipped l)) before after)
+kept_without before after line skipped = grind (arith, filter-append, kept_skipped)
 
 -- lines with one more are plain where they are, and it is
 plain_with : (before after : List (List ℕ)) (line : List ℕ) → is_ascii_line line ≡ true
@@ -71,25 +67,13 @@ plain_without (first ∷ before) after line all = (all.0, plain_without before a
 pub spells_with : (before after : List (List ℕ)) (line : List ℕ) (plan : ScriptValue)
     → is_ascii_line line ≡ true → is_skipped line ≡ true
     → AreLinesOf (before ++ after) plan → AreLinesOf (before ++ line ∷ after) plan
-spells_with before after line plan plain skipped spells = record {
-  plain = plain_with before after line plain spells.plain;
-  says =
-      subst (λ (ks : List (List ℕ)). AllZip ParsesAs ks (lines_of_script plan))
-      (sym (kept_without before after line skipped)) spells.says;
-  script = spells.script;
-}
+spells_with before after line plan plain skipped spells = grind (arith, plain_with, kept_without)
 
 -- and may be left out
 pub spells_without : (before after : List (List ℕ)) (line : List ℕ) (plan : ScriptValue)
     → is_skipped line ≡ true
     → AreLinesOf (before ++ line ∷ after) plan → AreLinesOf (before ++ after) plan
-spells_without before after line plan skipped spells = record {
-  plain = plain_without before after line spells.plain;
-  says =
-      subst (λ (ks : List (List ℕ)). AllZip ParsesAs ks (lines_of_script plan))
-      (kept_without before after line skipped) spells.says;
-  script = spells.script;
-}
+spells_without before after line plan skipped spells = grind (arith, plain_without, kept_without)
 
 -- ---- the lines of commands
 
@@ -107,9 +91,7 @@ record KeptAt (number : ℕ) (lines : List (List ℕ)) (i n : ℕ) : Type 0 wher
 get_behind : {A : Type 0} (front rest : List A) (place : ℕ)
     → slice_get (front ++ rest) (place + length front) ≡ slice_get rest place
 get_behind [] rest place = ap (slice_get rest) (omega arith)
-get_behind (s ∷ front) rest place =
-    let next : place + length (s ∷ front) ≡ suc (place + length front) = omega arith in
-    ap (slice_get (s ∷ (front ++ rest))) next ∙ get_behind front rest place
+get_behind (s ∷ front) rest place = grind (arith, get_behind front rest place)
 
 -- one line in front, of which this is kept
 kept_behind : (number : ℕ) (first : List ℕ) (lines kept : List (List ℕ)) (i j n : ℕ)
@@ -123,13 +105,12 @@ kept_behind number first lines kept i j n is place rest =
       before = first ∷ rest.before;
       line = rest.line;
       more = rest.more;
-      split = ap (λ (ls : List (List ℕ)). first ∷ ls) rest.split;
+      split = rw rest.split;
       number_is = omega arith;
       after_byte = ap length (is rest.before) ∙ both ∙ omega arith;
       there =
-          ap (λ (ks : List (List ℕ)). slice_get ks j) (is lines)
-          ∙ ap (slice_get (kept ++ unskipped lines)) place
-          ∙ get_behind kept (unskipped lines) i ∙ rest.there;
+          rw (is lines) (ap (slice_get (kept ++ unskipped lines)) place ∙ get_behind kept
+          (unskipped lines) i ∙ rest.there);
     }
 
 -- a line in front that is the one
@@ -144,7 +125,7 @@ kept_first number first lines n kept same =
       split = refl;
       number_is = sym is ∙ omega arith;
       after_byte = refl;
-      there = ap (λ (ks : List (List ℕ)). slice_get ks zero) (kept_said first lines kept);
+      there = rw (kept_said first lines kept);
     }
 
 -- one more line in front
@@ -175,22 +156,14 @@ said_at : (lines : List (List ℕ)) (ss : List LineMeaning) (i : ℕ) (line : Li
     → AllZip ParsesAs lines ss → slice_get lines i ≡ Some line
     → (s : LineMeaning) × (slice_get ss i ≡ Some s) × ParsesAs line s
 said_at [] [] i line says e = absurd (cc)
-said_at (first ∷ lines) (s ∷ ss) zero line says e =
-    let same : first ≡ line = cc in
-    (s, refl, subst (λ (l : List ℕ). ParsesAs l s) same says.0)
+said_at (first ∷ lines) (s ∷ ss) zero line says e = grind arith
 said_at (first ∷ lines) (s ∷ ss) (suc i) line says e = said_at lines ss i line says.1 e
 said_at lines ss i line says e = absurd (says)
 
 -- as many lines are in a head as its disks and layers
 length-head : (plan : ScriptValue)
     → length (head_of plan.data_disk plan.log_disk plan.log_size) ≡ head_count plan
-length-head plan =
-    let d = plan.data_disk.layers in
-    let l = plan.log_disk.layers in
-    let both = length-append (map (layer_line disks.Data) d) (map (layer_line disks.Log) l) in
-    let of_data = length-map d (layer_line disks.Data) in
-    let of_log = length-map l (layer_line disks.Log) in
-    omega arith
+length-head plan = grind (arith, length-append, length-map)
 
 -- the line of a command is the one that says it
 pub line_says : (text : List ℕ) (plan : ScriptValue) (place number : ℕ) → IsTextOf text plan
@@ -212,9 +185,7 @@ line_says text plan place number spells e =
       after_byte = found.after_byte;
       parsed = said.0;
       command =
-          sym (get_behind head (lines_after_head plan) place)
-          ∙ ap (λ (n : ℕ). slice_get (lines_of_script plan) (place + n)) (length-head plan)
-          ∙ said.1;
+          sym (get_behind head (lines_after_head plan) place) ∙ rw (length-head plan) said.1;
       says = said.2;
     }
 
@@ -273,18 +244,12 @@ line_found text plan place spells within =
 -- just the commands of a script have a line
 pub lined : (text : List ℕ) (plan : ScriptValue) (place : ℕ) → IsTextOf text plan
     → count_after_head plan ≤ place → command_line text (place + head_count plan) ≡ None
-lined text plan place spells past =
-    let all = length-unskipped text plan spells in
-    slice_get_past (unskipped_numbers 1 (lines_of text)) (place + head_count plan) (omega arith)
+lined text plan place spells past = grind (arith, length-unskipped, slice_get_past)
 
 -- more lines are kept after one that isn't skipped
 kept_more : (before between : List (List ℕ)) (line : List ℕ) → is_skipped line ≡ false
     → length (unskipped before) < length (unskipped (before ++ line ∷ between))
-kept_more before between line kept =
-    let both = ap length (filter-append (λ l. not (is_skipped l)) before (line ∷ between)
-    ∙ ap (λ (ks : List (List ℕ)). unskipped before ++ ks) (kept_said line between kept)) in
-    let sum = length-append (unskipped before) (line ∷ unskipped between) in
-    omega arith
+kept_more before between line kept = grind (arith, filter-append, kept_said, length-append)
 
 -- no line of a command is after another
 not_later : (lines : List (List ℕ)) (plan : ScriptValue) (place m n : ℕ)
@@ -323,31 +288,27 @@ one_line lines plan place m n a b =
 well_formed_at : (bytes sectors : ℕ) (done before : List Command) (command : Command)
     (rest : List Command) → IsWellFormed bytes sectors done (before ++ command ∷ rest)
     → CanFollow bytes sectors (done ++ before) command
-well_formed_at bytes sectors done [] command rest well_formed =
-    subst (λ (x : List Command). CanFollow bytes sectors x command)
-    (sym (append-nil done)) well_formed.0
+well_formed_at bytes sectors done [] command rest well_formed = grind (arith, append-nil)
 well_formed_at bytes sectors done (first ∷ before) command rest well_formed =
-    subst (λ (x : List Command). CanFollow bytes sectors x command)
-    (append_assoc done (first ∷ []) before)
-    (well_formed_at bytes sectors (done ++ first ∷ []) before command rest well_formed.1)
+    grind (
+      arith,
+      well_formed_at bytes sectors (done ++ first ∷ []) before command rest
+          well_formed.1,
+      append_assoc,
+    )
 
 -- each command of a script may come after those before it
 pub can_follow : (plan : ScriptValue) (before : List Command) (command : Command)
     (rest : List Command) → IsPlan plan → plan.commands ≡ before ++ command ∷ rest
     → CanFollow (bytes_of plan.log_size) (top_of plan.data_disk) before command
-can_follow plan before command rest is split =
-    well_formed_at (bytes_of plan.log_size) (top_of plan.data_disk) [] before command rest
-    (subst (λ (x : List Command). IsWellFormed (bytes_of plan.log_size)
-    (top_of plan.data_disk) [] x) split is.well_formed)
+can_follow plan before command rest is split = grind (arith, well_formed_at)
 
 -- a request that a command ends has ended after it
 ended_behind : (request : ℕ) (before between : List Command)
     → is_ended request (before ++ commands.Complete request ∷ between) ≡ true
-ended_behind request [] between =
-    ap (λ (t : Bool). t || is_ended request between) (eq-eqb request request refl)
+ended_behind request [] between = grind (arith, eq-eqb)
 ended_behind request (first ∷ before) between =
-    ap (λ (t : Bool). is_end_of request first || t) (ended_behind request before between)
-    ∙ or-true (is_end_of request first)
+    grind (arith, ended_behind request before between, or-true)
 
 -- no request ends twice
 pub ends_once : (plan : ScriptValue) (before between rest : List Command) (request : ℕ)

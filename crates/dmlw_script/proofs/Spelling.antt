@@ -19,9 +19,8 @@ ending_spelled : (ending : Option (List ℕ)) (ss : List LineMeaning)
     → flat_map ended_line (with_ending ending ss) ≡ flat_map ended_line ss ++ ending_text ending
 ending_spelled None ss = sym (append-nil (flat_map ended_line ss))
 ending_spelled (Some picks) ss =
-    flat_map-append ended_line ss (parsed_lines.Crash picks ∷ [])
-    ∙ ap (λ (x : List ℕ). flat_map ended_line ss ++ x)
-    (append-nil (ended_line (parsed_lines.Crash picks)))
+    flat_map-append ended_line ss (parsed_lines.Crash picks ∷ []) ∙ rw (append-nil (ended_line
+    (parsed_lines.Crash picks)))
 
 -- picks after a word, each after a space
 pub picks_spelled : (picks : List ℕ)

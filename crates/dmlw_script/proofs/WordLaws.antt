@@ -1,8 +1,8 @@
 -- Laws of choices, and of words: how a line is split into words, and which word is read as a
 -- number, an id or a byte.
-use Rattle.std.proofs.Common.{◌≡◌, ℕ, ◌+◌, ◌-◌, ◌*◌, ◌/◌, ◌%◌, ◌<◌, Bool, true, false, ◌&&◌}
+use Rattle.std.proofs.Common.{◌≡◌, ℕ, ◌-◌, ◌/◌, ◌%◌, ◌<◌, Bool, true, false, ◌&&◌}
 use Rattle.std.proofs.Common.{cond, List, [], ◌∷◌, ◌++◌, Option, Some, None, ◌⊎◌, inl, inr}
-use Rattle.std.proofs.Common.{refl, ap, subst, ◌∙◌, sym, arith}
+use Rattle.std.proofs.Common.{refl, ap, ◌∙◌, sym, arith}
 use Rattle.std.specs.Prelude.{◌==◌, nat_le, not}
 use Rattle.std.specs.Char.{is_ascii_digit}
 use Rattle.std.specs.List.{list_all}
@@ -88,8 +88,8 @@ behind mark (Some bytes) = mark ∷ bytes
 cut_step : (t : Bool) (b mark : ℕ) (bytes front : List ℕ) (rest : Option (List ℕ))
     → (t ≡ true → b ≡ mark) → bytes ≡ front ++ behind mark rest
     → b ∷ bytes ≡ cond t [] (b ∷ front) ++ behind mark (cond t (Some bytes) rest)
-cut_step true b mark bytes front rest here same = ap (λ (x : ℕ). x ∷ bytes) (here refl)
-cut_step false b mark bytes front rest here same = ap (λ (x : List ℕ). b ∷ x) same
+cut_step true b mark bytes front rest here same = grind arith
+cut_step false b mark bytes front rest here same = grind arith
 
 -- what stands before the mark and what is left behind it make up the bytes
 before_and_behind : (mark : ℕ) (bytes : List ℕ)
@@ -102,25 +102,21 @@ before_and_behind mark (b ∷ bytes) =
 pub before_all : (mark : ℕ) (bytes : List ℕ) → after_byte mark bytes ≡ None
     → before_byte mark bytes ≡ bytes
 before_all mark bytes none =
-    sym (before_and_behind mark bytes
-    ∙ ap (λ (o : Option (List ℕ)). before_byte mark bytes ++ behind mark o) none
-    ∙ append-nil (before_byte mark bytes))
+    sym (before_and_behind mark bytes ∙ rw none (append-nil (before_byte mark bytes)))
 
 -- one more byte of a word before the mark
 word_step : (t : Bool) (b : ℕ) (word front bytes : List ℕ) (there rest : Option (List ℕ))
     → not t ≡ true → front ≡ word → there ≡ rest
     → (cond t [] (b ∷ front) ≡ b ∷ word) × (cond t (Some bytes) there ≡ rest)
 word_step true b word front bytes there rest apart same is = absurd (cc)
-word_step false b word front bytes there rest apart same is = (ap (λ x. b ∷ x) same, is)
+word_step false b word front bytes there rest apart same is = grind arith
 
 -- a cut after a word that lacks the mark
 pub cut_word : (mark : ℕ) (word : List ℕ) (rest : Option (List ℕ)) → lacks mark word ≡ true
     → (before_byte mark (word ++ behind mark rest) ≡ word)
     × (after_byte mark (word ++ behind mark rest) ≡ rest)
 cut_word mark [] None lack = (refl, refl)
-cut_word mark [] (Some bytes) lack =
-    let same : (mark == mark) ≡ true = eq-eqb mark mark refl in
-    (cond-true _ _ _ same, cond-true _ _ _ same)
+cut_word mark [] (Some bytes) lack = grind (arith, eq-eqb, cond-true)
 cut_word mark (b ∷ word) rest lack =
     let parts : (not (b == mark) ≡ true) × (lacks mark word ≡ true) = and_parts _ _ lack in
     let more = cut_word mark word rest parts.1 in
@@ -130,16 +126,12 @@ cut_word mark (b ∷ word) rest lack =
 pub cut_alone : (mark : ℕ) (word : List ℕ) → lacks mark word ≡ true
     → (before_byte mark word ≡ word) × (after_byte mark word ≡ None)
 cut_alone mark word lack =
-    subst (λ (x : List ℕ). (before_byte mark x ≡ word) × (after_byte mark x ≡ None))
-    (append-nil word) (cut_word mark word None lack)
+    rw (append-nil word) at (cut_word mark word None lack)
 
 -- no space stands in a number
 pub number_lacks_space : (word : List ℕ) (n : ℕ) → number_of word ≡ Some n → lacks 32 word ≡ true
 number_lacks_space word n e =
-    let number = number_read word n e in
-    let digits : list_all is_ascii_digit word ≡ true =
-    (and_parts _ _ (and_parts _ _ number.0).0).1 in
-    all_weaker _ _ digit_not_space word digits
+    grind (arith, number_read, and_parts, all_weaker, digit_not_space)
 
 -- no space stands in an id
 pub id_lacks_space : (word : List ℕ) (name : ScriptId) → id_of_word word ≡ Some name
@@ -173,18 +165,13 @@ byte_low (high ∷ low ∷ []) byte e =
   where
     from_halves : (h l : Option ℕ) → ((x : ℕ) → h ≡ Some x → x < 16)
         → ((y : ℕ) → l ≡ Some y → y < 16) → byte_from h l ≡ Some byte → byte < 256
-    from_halves (Some x) (Some y) h_low l_low e =
-        let first = h_low x refl in
-        let second = l_low y refl in
-        let sum : 16 * x + y ≡ byte = cc in omega arith
+    from_halves (Some x) (Some y) h_low l_low e = grind arith
     from_halves h l h_low l_low e = absurd (cc)
 byte_low word byte e = absurd (cc)
 
 -- a byte is read as it is
 pub byte_again : (byte : ℕ) → byte < 256 → byte_of (byte_text byte) ≡ Some byte
-byte_again byte low =
-    let whole : 16 * (byte / 16) + byte % 16 ≡ byte = omega arith in
-    rw (half_again (byte / 16) (omega arith), half_again (byte % 16) (omega arith), whole) refl
+byte_again byte low = grind (arith, half_again)
 
 -- a byte's digits are no spaces
 pub byte_lacks_space : (byte : ℕ) → byte < 256 → lacks 32 (byte_text byte) ≡ true
@@ -203,7 +190,4 @@ same_bytes xs ys e = (bytes_eq-Decides xs ys).0 e
 pub verb_read : {A : Type 0} (says : List ℕ → A → Type 0) (verb word : List ℕ) (x y : Option A)
     (s : A) → (x ≡ Some s → says word s) → (y ≡ Some s → says verb s)
     → cond (bytes_eq verb word) x y ≡ Some s → says verb s
-verb_read says verb word x y s here other e =
-    chosen (bytes_eq verb word) x y (Some s) e
-    (λ same is. subst (λ (v : List ℕ). says v s) (sym (same_bytes verb word same)) (here is))
-    (λ apart is. other is)
+verb_read says verb word x y s here other e = grind (arith, same_bytes)

@@ -21,6 +21,7 @@ ghost use Rattle.dmlw_script.specs.RunText.{run_text};
 
 /// If no line has a line feed, the text with a line feed after each line has exactly these lines.
 /// So has the text without the last line feed, if the last line isn't empty.
+#[tactic(auto, using(crate::proofs::CanonicalTextLaws::ended_lines, crate::proofs::CanonicalTextLaws::ended_but_last))]
 pub fn lines_make_a_text()
     ensures with_line_feeds { (lines : List (List ℕ)) → AllByRecursion IsUnbroken lines
         → lines_of (with_line_feeds lines) ≡ lines }

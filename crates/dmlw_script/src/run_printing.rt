@@ -29,6 +29,7 @@ pub fn print_run_script(alloc: Global, script: &RunScript) -> Result<Vec<u8>, Al
 }
 
 // Appends the lines of a run's head: the disks, the number of seats, and the layers.
+#[tactic(auto, using(crate::proofs::RunSpelling::run_head_written))]
 fn push_run_head(out: &mut Vec<u8>, script: &RunScript) -> Result<(), AllocError>
     ensures { OnOk result (out.new.items
         ≡ out.old.items ++ flat_map ended_run_line (run_head script.now)) }

@@ -1,13 +1,13 @@
 -- What holds after some blocks of a call were done, and after the last.
 use Rattle.std.proofs.Common.{◌≡◌, ℕ, suc, ◌+◌, ◌-◌, ◌*◌, ◌/◌, ◌<◌, ◌≤◌, Bool, true, false}
 use Rattle.std.proofs.Common.{◌&&◌, Option, None, Ok, Err, length, take, drop}
-use Rattle.std.proofs.Common.{replicate, refl, ap, sym, subst, ◌∙◌, inl, inr, arith}
+use Rattle.std.proofs.Common.{refl, ap, sym, subst, ◌∙◌, arith}
 use Rattle.std.proofs.lemmas.Bool.{cases_lt, lt-ltb, le-ltb, le-leb, leb-true}
 use Rattle.std.proofs.lemmas.Bool.Decides.{nat_tests}
 use Rattle.std.proofs.Math.Bool.{and-false}
 use Rattle.std.proofs.lemmas.Nat.{le-div}
 use Rattle.std.proofs.Math.Nat.{div-mul-le_self, lt-div-mul-add, mul-le-mul_right}
-use Rattle.std.specs.Prelude.{Result, nat_le, nat_lt, unwrap_or, if◌then◌else◌}
+use Rattle.std.specs.Prelude.{Result, nat_le, nat_lt, if◌then◌else◌}
 use Rattle.bio.specs.declared.outcome.DevError.{DevError}
 use Rattle.blockdev.specs.Calls.{Call, Discards, Flushes, Reads, Writes}
 use Rattle.blockdev.specs.JoinLaws.{goes_cut, goes_next, goes_none, lands_all}
@@ -16,7 +16,6 @@ use Rattle.blockdev.specs.Law.{DeviceFrame, WriteDone, NoLie}
 use Rattle.blockdev.specs.View.{View}
 use Rattle.bio.specs.Content.{HasNoneBelow}
 use Rattle.bio.specs.ContentLaws.{over-after, over-below}
-use Rattle.bio.specs.Content.{sector_of}
 use Rattle.bio.specs.PlaceLaws.{last_or_below}
 use Rattle.bio.specs.PartLaws.{discards-between, writes-between}
 use Rattle.bio.specs.Parts.{HasNoneFrom, SameValues, below, between}
@@ -39,35 +38,19 @@ times-le p q b h = mul-le-mul_right b h
 
 -- the first block's beginning isn't behind the first sector
 reach_first : (block first count : ℕ) → 0 < count → reach block first count (first / block) ≡ first
-reach_first block first count some =
-    let low : (first / block) * block ≤ first = div-mul-le_self first block in
-    let edge = (first / block) * block in
-    omega arith
+reach_first block first count some = grind (arith, div-mul-le_self)
 
 -- where the last block ends, the call has ended
 pub reach_last : (block first count : ℕ) → 0 < block → 0 < count
     → reach block first count (block_behind block first count) ≡ first + count
-reach_last block first count positive some =
-    let q = (first + count - 1) / block in
-    let high : first + count - 1 < q * block + block = lt-div-mul-add positive in
-    let step : suc q * block ≡ q * block + block = suc-times q block in
-    let edge = q * block in
-    let last = suc q * block in
-    omega (arith, high, step)
+reach_last block first count positive some = grind (arith, lt-div-mul-add, suc-times)
 
 -- each block that a call touches has a part of it
 pub reach_more : (block first count place : ℕ) → 0 < block → 0 < count → first / block ≤ place
     → place < block_behind block first count
     → reach block first count place < reach block first count (suc place)
 reach_more block first count place positive some low high =
-    let begins : (first + count - 1) / block * block ≤ first + count - 1 =
-    div-mul-le_self (first + count - 1) block in
-    let before : place * block ≤ (first + count - 1) / block * block =
-    times-le place ((first + count - 1) / block) block (omega (arith, high)) in
-    let behind : first < first / block * block + block = lt-div-mul-add positive in
-    let after : first / block * block ≤ place * block = times-le (first / block) place block low in
-    let step : suc place * block ≡ place * block + block = suc-times place block in
-    omega (arith, begins, before, behind, after, step)
+    grind (arith, div-mul-le_self, times-le, lt-div-mul-add, suc-times)
 
 -- ---- parts of a call
 
@@ -104,9 +87,7 @@ part-values first count from to changes.Discard size low order high =
 
 pub without-in : (from to : ℕ) (bad : Bad) (block : ℕ) → from ≤ block → block < to
     → without from to bad block ≡ None
-without-in from to bad block low high =
-    ap (λ b. if b && nat_lt block to then None else bad block) (le-leb from block low)
-    ∙ ap (λ b. if b then None else bad block) (lt-ltb block to high)
+without-in from to bad block low high = grind (arith, le-leb, lt-ltb)
 
 without-before : (from to : ℕ) (bad : Bad) (block : ℕ) → block < from
     → without from to bad block ≡ bad block
@@ -119,16 +100,11 @@ without-before from to bad block h =
 
 pub without-after : (from to : ℕ) (bad : Bad) (block : ℕ) → to ≤ block
     → without from to bad block ≡ bad block
-without-after from to bad block h =
-    ap (λ b. if nat_le from block && b then None else bad block) (le-ltb block to h)
-    ∙ ap (λ b. if b then None else bad block) (and-false (nat_le from block))
+without-after from to bad block h = grind (arith, le-ltb, and-false)
 
 -- no block has left the list yet
 pub without-none : (begin : ℕ) (bad : Bad) → IsList bad (without begin (begin + 0) bad)
-without-none begin bad = λ block. elim (cases_lt block begin) [
-  | inl before ↦ sym (without-before begin (begin + 0) bad block before)
-  | inr from ↦ sym (without-after begin (begin + 0) bad block (omega arith))
-]
+without-none begin bad = grind (arith, cases_lt, without-before, without-after)
 
 entry-here : (place : ℕ) (entry : Option ℕ) (bad : Bad) (block : ℕ) → block ≡ place
     → with_entry place entry bad block ≡ entry
@@ -142,27 +118,8 @@ entry-apart place entry bad block apart = grind (arith, nat_tests)
 pub without-next : (begin count : ℕ) (bad now : Bad)
     → IsList now (without begin (begin + count) bad)
     → IsList (with_entry (begin + count) None now) (without begin (begin + suc count) bad)
-without-next begin count bad now same = λ block. elim (cases_lt block begin) [
-  | inl before ↦
-      entry-apart (begin + count) None now block (λ is. omega arith)
-      ∙ same block ∙ without-before begin (begin + count) bad block before
-      ∙ sym (without-before begin (begin + suc count) bad block before)
-  | inr from ↦ elim (cases_lt block (begin + count)) [
-    | inl within ↦
-        entry-apart (begin + count) None now block (λ is. omega arith)
-        ∙ same block ∙ without-in begin (begin + count) bad block from within
-        ∙ sym (without-in begin (begin + suc count) bad block from (omega arith))
-    | inr past ↦ elim (cases_lt block (begin + suc count)) [
-      | inl here ↦
-          entry-here (begin + count) None now block (omega arith)
-          ∙ sym (without-in begin (begin + suc count) bad block from here)
-      | inr after ↦
-          entry-apart (begin + count) None now block (λ is. omega arith)
-          ∙ same block ∙ without-after begin (begin + count) bad block past
-          ∙ sym (without-after begin (begin + suc count) bad block after)
-    ]
-  ]
-]
+without-next begin count bad now same =
+    grind (arith, cases_lt, entry-apart, without-before, without-in, entry-here, without-after)
 
 -- After so many blocks of a call: what is done below, and what the list holds.
 pub record HasPassed {D : Type 0} (does : D → Call → ℕ → Result ℕ DevError → D → Type 0) (block : ℕ)
@@ -183,14 +140,7 @@ none-passed begin Flushes bad = λ place. refl
 pub passed_first : {D : Type 0} (does : D → Call → ℕ → Result ℕ DevError → D → Type 0) (block : ℕ)
     (call : Call) (bad : Bad) (old : D) (now : ℕ)
     → 0 < count_of call → HasPassed does block call bad bad 0 (first_of call) old now old now
-passed_first does block call bad old now some = record {
-  reached =
-      sym (ap (reach block (first_of call) (count_of call)) (omega arith)
-      ∙ reach_first block (first_of call) (count_of call) some);
-  passes = record { free = λ place low high. absurd (omega arith); parts = (refl, refl) };
-  list = none-passed (begin_of block call) call bad;
-  moment = omega arith;
-}
+passed_first does block call bad old now some = grind (arith, reach_first, none-passed)
 
 -- one more
 pub passed_next : {D : Type 0} (does : D → Call → ℕ → Result ℕ DevError → D → Type 0) (block : ℕ)
@@ -203,28 +153,7 @@ pub passed_next : {D : Type 0} (does : D → Call → ℕ → Result ℕ DevErro
     → IsList after (list_passed call (begin_of block call) (suc count) bad)
     → HasPassed does block call bad after (suc count) to old now new end
 passed_next does block call bad before after count from to old now mid at new end so_far free is_to
-    done later list = record {
-      reached = is_to ∙ ap (reach block (first_of call) (count_of call)) (omega arith);
-      passes = record {
-        free =
-            λ place low high.
-            elim (last_or_below (place - begin_of block call) count (omega arith)) [
-              | inl here ↦ subst (λ (p : ℕ). stops call bad p ≡ false) (omega arith) free
-              | inr early ↦ so_far.passes.free place low (omega arith)
-            ];
-        parts = (
-          mid,
-          at,
-          so_far.passes.parts,
-          subst (λ (p : ℕ). does mid
-              (part_within p (reach block (first_of call) (count_of call)
-              (suc (begin_of block call + count))) call) at (Ok end) new) so_far.reached
-              (subst (λ (p : ℕ). does mid (part_within from p call) at (Ok end) new) is_to done),
-        );
-      };
-      list = list;
-      moment = let h = so_far.moment in omega arith;
-    }
+    done later list = grind (arith, last_or_below)
 
 -- ---- a write or a discard
 
@@ -241,32 +170,24 @@ rest-change block first count changes.Discard n = tt
 
 pub begin-change : (block first count : ℕ) (change : Change)
     → begin_of block (call_of first count change) ≡ first / block
-begin-change block first count change = ap (λ (f : ℕ). f / block) (change-first first count change)
+begin-change block first count change = grind (arith, change-first)
 
 pub blocks-change : (block first count : ℕ) (change : Change)
     → count_of (call_of first count change) ≡ count
     → blocks_of block (call_of first count change) ≡ (first + count - 1) / block + 1 - first / block
-blocks-change block first count change size =
-    ap (λ (f : ℕ). suc ((f + count_of (call_of first count change) - 1) / block) - f / block)
-    (change-first first count change)
-    ∙ ap (λ (n : ℕ). suc ((first + n - 1) / block) - first / block) size
-    ∙ let last = (first + count - 1) / block in omega arith
+blocks-change block first count change size = grind (arith, change-first)
 
 -- it has values for its own sectors alone
 pub none-before : (first count : ℕ) (change : Change)
     → HasNoneBelow first (patch_of (call_of first count change))
-none-before first count (changes.Write bytes fua) =
-    over-below first first (length bytes.now / 512) (sector_of bytes.now) (omega arith)
-none-before first count changes.Discard =
-    over-below first first count (λ _. replicate 512 0) (omega arith)
+none-before first count (changes.Write bytes fua) = grind (arith, over-below)
+none-before first count changes.Discard = grind (arith, over-below)
 
 pub none-behind : (first count : ℕ) (change : Change)
     → count_of (call_of first count change) ≡ count
     → HasNoneFrom (first + count) (patch_of (call_of first count change))
-none-behind first count (changes.Write bytes fua) size =
-    λ sector h. over-after first (length bytes.now / 512) (sector_of bytes.now) sector (omega arith)
-none-behind first count changes.Discard size =
-    λ sector h. over-after first count (λ _. replicate 512 0) sector h
+none-behind first count (changes.Write bytes fua) size = grind (arith, over-after)
+none-behind first count changes.Discard size = grind (arith, over-after)
 
 -- the list at the next block tells whether it stops the call
 pub stops-change : (first count : ℕ) (change : Change) (begin done : ℕ) (bad before : Bad)
@@ -274,13 +195,8 @@ pub stops-change : (first count : ℕ) (change : Change) (begin done : ℕ) (bad
     → stops (call_of first count change) bad (begin + done)
     ≡ nat_lt 0 (left_at before (begin + done))
 stops-change first count (changes.Write bytes fua) begin done bad before same =
-    ap (λ (o : Option ℕ). nat_lt 0 (unwrap_or o 0))
-    (sym (same (begin + done)
-    ∙ without-after begin (begin + done) bad (begin + done) (omega arith)))
-stops-change first count changes.Discard begin done bad before same =
-    ap (λ (o : Option ℕ). nat_lt 0 (unwrap_or o 0))
-    (sym (same (begin + done)
-    ∙ without-after begin (begin + done) bad (begin + done) (omega arith)))
+    grind (arith, without-after)
+stops-change first count changes.Discard begin done bad before same = grind (arith, without-after)
 
 -- a block whose part is done leaves the list
 pub list-next : (first count : ℕ) (change : Change) (begin done : ℕ) (bad before struck after : Bad)
@@ -288,10 +204,9 @@ pub list-next : (first count : ℕ) (change : Change) (begin done : ℕ) (bad be
     → IsList after (with_entry (begin + done) None struck)
     → IsList after (list_passed (call_of first count change) begin (suc done) bad)
 list-next first count (changes.Write bytes fua) begin done bad before struck after same stays
-    forgets =
-    λ block. forgets block ∙ without-next begin done bad struck (λ b. stays b ∙ same b) block
+    forgets = grind (arith, without-next)
 list-next first count changes.Discard begin done bad before struck after same stays forgets =
-    λ block. forgets block ∙ without-next begin done bad struck (λ b. stays b ∙ same b) block
+    grind (arith, without-next)
 
 -- What a write or a discard has done so far.
 pub record Changes {D : Type 0} (does : D → Call → ℕ → Result ℕ DevError → D → Type 0)
@@ -307,17 +222,8 @@ pub changes_first : {D : Type 0} (does : D → Call → ℕ → Result ℕ DevEr
     (bad : Bad) (old : D) (now : ℕ) → 0 < count → count_of (call_of first count change) ≡ count
     → Changes does shown block (call_of first count change)
     (fua_of change) bad bad 0 first old now old now
-changes_first does shown block first count change bad old now some size = record {
-  passed =
-      subst (λ (f : ℕ). HasPassed does block
-      (call_of first count change) bad bad 0 f old now old now) (change-first first count change)
-      (passed_first does block (call_of first count change) bad old now
-      (omega (arith, some, size)));
-  goes = goes_none (below first (patch_of (call_of first count change))) (shown old);
-  lands =
-      λ told. lands_first first (patch_of (call_of first count change)) (fua_of change) (shown old)
-      (none-before first count change);
-}
+changes_first does shown block first count change bad old now some size =
+    grind (arith, change-first, passed_first, goes_none, lands_first, none-before)
 
 pub changes_next : {D : Type 0} (does : D → Call → ℕ → Result ℕ DevError → D → Type 0)
     (shown : D → View) (block first count : ℕ) (change : Change)
@@ -360,7 +266,7 @@ pub changes_goes : {D : Type 0} (does : D → Call → ℕ → Result ℕ DevErr
     → Changes does shown block call fua bad list done from old now new end
     → DeviceFrame (patch_of call) (shown old) (shown new)
 changes_goes does shown block call fua bad list done from old now new end so_far =
-    goes_cut from (patch_of call) (shown old) (shown new) so_far.goes
+    grind (arith, goes_cut)
 
 -- where the next part begins and ends
 pub record IsNextPart (block first count done from to : ℕ) : Type 0 where
@@ -373,18 +279,7 @@ pub next_part_from : (block first count done from : ℕ) → 0 < block → 0 < c
     → done < (first + count - 1) / block + 1 - first / block
     → from ≡ reach block first count (first / block + done)
     → IsNextPart block first count done from (reach block first count (suc (first / block + done)))
-next_part_from block first count done from positive some within begins =
-    let last = (first + count - 1) / block in
-    let b = first / block in
-    let more =
-    reach_more block first count (first / block + done) positive some (omega arith)
-    (omega (arith, within)) in
-    record {
-      begins = begins;
-      low = let edge = (first / block + done) * block in omega (arith, begins, some);
-      order = omega (arith, begins, more);
-      high = let edge = suc (first / block + done) * block in omega arith;
-    }
+next_part_from block first count done from positive some within begins = grind (arith, reach_more)
 
 pub next_part : {D : Type 0} (does : D → Call → ℕ → Result ℕ DevError → D → Type 0)
     (block first count : ℕ) (change : Change) (bad list : Bad)
@@ -394,12 +289,7 @@ pub next_part : {D : Type 0} (does : D → Call → ℕ → Result ℕ DevError 
     → HasPassed does block (call_of first count change) bad list done from old now mid at
     → IsNextPart block first count done from (reach block first count (suc (first / block + done)))
 next_part does block first count change bad list done from old now mid at positive some size within
-    so_far =
-    next_part_from block first count done from positive some within
-    (so_far.reached
-    ∙ ap (λ (f : ℕ). reach block f (count_of (call_of first count change)) (f / block + done))
-    (change-first first count change)
-    ∙ ap (λ (n : ℕ). reach block first n (first / block + done)) size)
+    so_far = grind (arith, next_part_from, change-first)
 
 -- once a part is done, the call got a block further
 pub changes_step : {D : Type 0} (does : D → Call → ℕ → Result ℕ DevError → D → Type 0)
@@ -439,7 +329,7 @@ changes_step does shown block first count change bad before struck after done fr
     let list : IsList after (list_passed call (begin_of block call) (suc done) bad) =
     list-next first count change
     (begin_of block call) done bad before struck after so_far.passed.list stays
-    (subst (λ (b : ℕ). IsList after (with_entry (b + done) None struck)) (sym begin) forgets) in
+    (rw begin forgets) in
     let passes : stops call bad (begin_of block call + done) ≡ false =
     stops-change first count change (begin_of block call) done bad before so_far.passed.list
     ∙ ap (λ (b : ℕ). nat_lt 0 (left_at before (b + done))) begin ∙ sym free in
@@ -462,17 +352,7 @@ part-change : (block first count : ℕ) (change : Change) (done from to : ℕ)
     → part_within from to (call_of first count change)
     ≡ part_of block (call_of first count change)
     (begin_of block (call_of first count change) + done)
-part-change block first count change done from to size begins ends =
-    let call = call_of first count change in
-    let behind : to ≡ reach block (first_of call) (count_of call)
-    (suc (begin_of block call + done)) =
-    ends ∙ ap (reach block first count) (let b = first / block in omega arith)
-    ∙ ap (λ (f : ℕ). reach block f count (suc (f / block + done)))
-    (sym (change-first first count change))
-    ∙ ap (λ (n : ℕ). reach block (first_of call) n (suc (begin_of block call + done))) (sym size) in
-    ap (λ (x : ℕ). part_within x to call) begins
-    ∙ ap (λ (y : ℕ). part_within
-    (reach block (first_of call) (count_of call) (begin_of block call + done)) y call) behind
+part-change block first count change done from to size begins ends = grind (arith, change-first)
 
 -- a part that fails below
 pub changes_failed : {D : Type 0} (does : D → Call → ℕ → Result ℕ DevError → D → Type 0)
@@ -489,22 +369,7 @@ pub changes_failed : {D : Type 0} (does : D → Call → ℕ → Result ℕ DevE
     → FailsBelow does block (call_of first count change) bad struck old now new error
 changes_failed does shown block first count change bad before struck done from to old now mid at new
     error size within is_to so_far free stays did =
-    let call = call_of first count change in record {
-      count = done;
-      mid = mid;
-      end = at;
-      passes = so_far.passed.passes;
-      within = let n = blocks-change block first count change size in omega (arith, n, within);
-      free =
-          stops-change first count change (begin_of block call) done bad before so_far.passed.list
-          ∙ ap (λ (b : ℕ). nat_lt 0 (left_at before (b + done)))
-          (begin-change block first count change) ∙ sym free;
-      fails =
-          subst (λ (part : Call). does mid part at (Err error) new)
-          (part-change block first count change done from to size so_far.passed.reached is_to) did;
-      rest = rest-change block first count change (suc done);
-      list = λ b. stays b ∙ so_far.passed.list b;
-    }
+    grind (arith, blocks-change, stops-change, begin-change, part-change, rest-change)
 
 -- and has landed
 pub changes_land : {D : Type 0} (does : D → Call → ℕ → Result ℕ DevError → D → Type 0)
@@ -518,22 +383,7 @@ pub changes_land : {D : Type 0} (does : D → Call → ℕ → Result ℕ DevErr
     → WriteDone (patch_of (call_of first count change)) (fua_of change) (shown old) (shown new)
 changes_land does shown block first count change bad list done from old now new end positive some
     size is so_far told =
-    let call = call_of first count change in
-    let low : first / block * block ≤ first = div-mul-le_self first block in
-    let order : first / block ≤ (first + count - 1) / block =
-    le-div (first / block) (first + count - 1) block positive (omega (arith, low, some)) in
-    let behind : first / block + done ≡ block_behind block first count = let a = first / block in
-    let b = (first + count - 1) / block in omega (arith, order, is) in
-    let ends : from ≡ first + count =
-    so_far.passed.reached
-    ∙ ap (λ (f : ℕ). reach block f (count_of call) (f / block + done))
-    (change-first first count change)
-    ∙ ap (λ (n : ℕ). reach block first n (first / block + done)) size
-    ∙ ap (reach block first count) behind
-    ∙ reach_last block first count positive some in
-    lands_all from (patch_of call) (fua_of change) (shown old) (shown new)
-    (subst (λ (e : ℕ). HasNoneFrom e (patch_of call)) (sym ends)
-    (none-behind first count change size)) (so_far.lands told)
+    grind (arith, div-mul-le_self, le-div, change-first, reach_last, lands_all, none-behind)
 
 -- a part that fails goes by the whole call too
 pub changes_fails : {D : Type 0} (does : D → Call → ℕ → Result ℕ DevError → D → Type 0)

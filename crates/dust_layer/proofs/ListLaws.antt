@@ -1,19 +1,18 @@
 -- How calls and messages change the list, the mode and the counts, by what the specs say of them.
 use Rattle.std.proofs.Common.{◌≡◌, ℕ, ◌+◌, ◌-◌, ◌/◌, ◌*◌, ◌<◌, ◌≤◌, Bool, true, false, Ok, Err}
-use Rattle.std.proofs.Common.{List, length, Some, None, refl, subst, inl, inr, ◌∙◌, arith}
+use Rattle.std.proofs.Common.{List, length, Some, None, refl, arith}
 use Rattle.std.specs.Prelude.{Result, is_some, nat_lt}
 use Rattle.bio.specs.declared.outcome.DevError.{DevError}
 use Rattle.blockdev.specs.Calls.{Call, Reads, Writes}
 use Rattle.blockdev.specs.declared.message.MessageError.{MessageError}
 use Rattle.blockdev.specs.declared.message.MessageError.TheVariants as errors
 use Rattle.dust_layer.specs.declared.dust.Dust.{Dust}
-use Rattle.dust_layer.specs.declared.mode.Mode.{Mode}
 use Rattle.dust_layer.specs.declared.mode.Mode.TheVariants.{Bypass}
 use Rattle.dust_layer.specs.declared.order.Order.{Order}
 use Rattle.dust_layer.specs.declared.order.Order.TheVariants as orders
 use Rattle.dust_layer.specs.declared.parts.Stop.TheVariants.{Below, Struck}
 use Rattle.dust_layer.specs.BadBlocks.{Bad, IsList, left_at, listed, with_entry, without}
-use Rattle.dust_layer.specs.DustRule.{IsDoneBy, IsDusted, IsPassed, held}
+use Rattle.dust_layer.specs.DustRule.{IsDusted}
 use Rattle.dust_layer.specs.MessageRule.{IsMessageDone, IsNoOrder}
 use Rattle.dust_layer.specs.Orders.{AsksFor, IsAnswered}
 use Rattle.dust_layer.specs.Walk.{ByBlock, DoesParts, IsTouched}
@@ -31,11 +30,7 @@ bypass-keeps : {D : Type 0} (does : Doing D) (call : Call) (now : ℕ) (result :
     → IsDusted does call now result old new
     → does old.lower call now result new.lower × IsList (listed new.bad) (listed old.bad)
     × (new.faults ≡ old.faults)
-bypass-keeps does call now result old new mode dusted =
-    let passed : IsPassed does call now result (held old) (held new) =
-    subst (λ (m : Mode). IsDoneBy does m old.block call now result (held old) (held new)) mode
-    dusted.done in
-    (passed.below, passed.list, passed.faults)
+bypass-keeps does call now result old new mode dusted = grind arith
 
 -- No call changes the mode or the block size.
 mode-stays : {D : Type 0} (does : Doing D) (call : Call) (now : ℕ) (result : Result ℕ DevError)
@@ -47,9 +42,7 @@ mode-stays does call now result old new dusted = (dusted.mode, dusted.block)
 one-part : {D : Type 0} (does : Doing D) (part : ℕ → Call) (begin : ℕ) (old : D) (now : ℕ) (new : D)
     (end : ℕ) → DoesParts does part begin 1 old now new end
     → does old (part (begin + 0)) now (Ok end) new
-one-part {D} does part begin old now new end (mid, at, (is, same), last) =
-    subst (λ (d : D). does d (part (begin + 0)) now (Ok end) new) is
-    (subst (λ (m : ℕ). does mid (part (begin + 0)) m (Ok end) new) same last)
+one-part {D} does part begin old now new end (mid, at, (is, same), last) = grind arith
 
 -- If a write ends Ok, none of its blocks is listed after it. A read that ends Ok doesn't change the
 -- list.
@@ -58,8 +51,7 @@ write-mends : {D : Type 0} (does : Doing D) (block first : ℕ) (bytes : List �
     → ByBlock does block (Writes first bytes fua) bad after old now new (Ok end)
     → IsTouched block first (length bytes / 512) place → after place ≡ None
 write-mends does block first bytes fua bad after old now new end place is touched =
-    is.list place ∙ without-in _ _ bad place touched.low
-    (let low = touched.low in let high = touched.high in omega (arith, low, high))
+    grind (arith, without-in)
 
 read-leaves : {D : Type 0} (does : Doing D) (block first : ℕ) (before bytes : List ℕ)
     (bad after : Bad) (old : D) (now : ℕ) (new : D) (end : ℕ)
@@ -87,8 +79,7 @@ read-stopped : {D : Type 0} (does : Doing D) (block first : ℕ) (before bytes :
     (bad after : Bad) (old : D) (now : ℕ) (new : D)
     → ByBlock does block (Reads first before bytes) bad after old now new (Err Struck)
     → (count : ℕ) × (is_some (bad (first / block + count)) ≡ true) × IsList after bad
-read-stopped does block first before bytes bad after old now new is =
-    (is.count, is.stopped, is.list)
+read-stopped does block first before bytes bad after old now new is = grind arith
 
 -- If the lower device fails a part of a write, the part's block doesn't stop the write. Only the
 -- blocks before that block leave the list.
@@ -97,8 +88,7 @@ write-failed : {D : Type 0} (does : Doing D) (block first : ℕ) (bytes : List �
     → ByBlock does block (Writes first bytes fua) bad after old now new (Err (Below error))
     → (count : ℕ) × (nat_lt 0 (left_at bad (first / block + count)) ≡ false)
     × IsList after (behind (first / block) count bad)
-write-failed does block first bytes fua bad after old now new error is =
-    (is.count, is.free, is.list)
+write-failed does block first bytes fua bad after old now new error is = grind arith
 
 -- ---- messages
 
@@ -116,16 +106,14 @@ added : (size sectors block count : ℕ) (done : Unit {0}) (old : Bad) (was : Bo
     → IsAnswered size sectors (orders.Add block count) (Ok done) old was new enabled
     → (block * size < sectors) × (is_some (old block) ≡ false)
     × IsList new (with_entry block (Some count) old) × (enabled ≡ was)
-added size sectors block count done old was new enabled ((within, fresh), list, mode) =
-    (within, fresh, list, mode)
+added size sectors block count done old was new enabled ((within, fresh), list, mode) = grind arith
 
 removed : (size sectors block : ℕ) (done : Unit {0}) (old : Bad) (was : Bool) (new : Bad)
     (enabled : Bool)
     → IsAnswered size sectors (orders.Remove block) (Ok done) old was new enabled
     → (block * size < sectors) × (is_some (old block) ≡ true)
     × IsList new (with_entry block None old) × (enabled ≡ was)
-removed size sectors block done old was new enabled ((within, there), list, mode) =
-    (within, there, list, mode)
+removed size sectors block done old was new enabled ((within, there), list, mode) = grind arith
 
 -- If Add fails with Memory, its block could be added. If Add fails with BadMessage, its block is
 -- past the end.
@@ -161,10 +149,7 @@ to-no-layer : {D : Type 0} (sectors : ℕ) (text : List ℕ) (result : Result (U
     → IsMessageDone sectors 2 text result old new
     → (result ≡ Err errors.BadMessage) × IsList (listed new.bad) (listed old.bad)
     × (new.mode ≡ old.mode)
-to-no-layer sectors text result old new done = elim done.answer [
-  | inl obeyed ↦ absurd (let never : 2 ≡ 1 = obeyed.own in omega (arith, never))
-  | inr none ↦ (none.refused, none.list, none.mode)
-]
+to-no-layer sectors text result old new done = grind arith
 
 -- No message changes the lower device, the block size or the device's own faults.
 rest-stays : {D : Type 0} (sectors layer : ℕ) (text : List ℕ)

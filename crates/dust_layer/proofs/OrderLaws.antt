@@ -1,5 +1,5 @@
 -- The parser finds an order in a text exactly if the text asks for that order (`AsksFor`).
-use Rattle.std.proofs.Common.{◌≡◌, ℕ, ◌<◌, ◌≤◌, Bool, true, false, cond, List, [], ◌∷◌, ◌++◌}
+use Rattle.std.proofs.Common.{◌≡◌, ℕ, ◌≤◌, Bool, true, false, cond, List, [], ◌∷◌, ◌++◌}
 use Rattle.std.proofs.Common.{Option, Some, None, ◌⊎◌, inl, inr, ⊎_elim, refl, ap, subst, ◌∙◌, sym}
 use Rattle.std.proofs.Common.{arith}
 use Rattle.std.specs.Prelude.{◌==◌, codes, nat_lt, not}
@@ -75,15 +75,13 @@ front_step : (t : Bool) (b : ℕ) (word f bytes rest : List ℕ) (behind_rest : 
     → not t ≡ true → f ≡ word → behind_rest ≡ Some rest
     → (cond t [] (b ∷ f) ≡ b ∷ word) × (cond t (Some bytes) behind_rest ≡ Some rest)
 front_step true b word f bytes rest behind_rest apart same there = absurd (cc)
-front_step false b word f bytes rest behind_rest apart same there = (ap (λ x. b ∷ x) same, there)
+front_step false b word f bytes rest behind_rest apart same there = grind arith
 
 -- a cut after a word that lacks the mark
 cut_at : (mark : ℕ) (word rest : List ℕ) → lacks mark word ≡ true
     → (before_byte mark (word ++ mark ∷ rest) ≡ word)
     × (after_byte mark (word ++ mark ∷ rest) ≡ Some rest)
-cut_at mark [] rest lack =
-    let same : (mark == mark) ≡ true = eq-eqb mark mark refl in
-    (cond-true _ _ _ same, cond-true _ _ _ same)
+cut_at mark [] rest lack = grind (arith, eq-eqb, cond-true)
 cut_at mark (b ∷ word) rest lack =
     let parts : (not (b == mark) ≡ true) × (lacks mark word ≡ true) = and_parts _ _ lack in
     let more = cut_at mark word rest parts.1 in
@@ -102,30 +100,29 @@ cut_alone (b ∷ word) lack =
         → front ≡ word → rest ≡ None
         → (cond t [] (b ∷ front) ≡ b ∷ word) × (cond t (Some word) rest ≡ None)
     alone_step true b word front rest apart same none = absurd (cc)
-    alone_step false b word front rest apart same none = (ap (λ (x : List ℕ). b ∷ x) same, none)
+    alone_step false b word front rest apart same none = grind arith
 
 -- one more byte before the mark, or the mark
 joined_step : (t : Bool) (b mark : ℕ) (bytes f rest : List ℕ) (behind_rest : Option (List ℕ))
     → (t ≡ true → b ≡ mark)
     → (behind_rest ≡ Some rest → bytes ≡ f ++ mark ∷ rest)
     → cond t (Some bytes) behind_rest ≡ Some rest → b ∷ bytes ≡ cond t [] (b ∷ f) ++ mark ∷ rest
-joined_step true b mark bytes f rest behind_rest here more e =
-    let same : bytes ≡ rest = cc in rw (here refl, same) refl
-joined_step false b mark bytes f rest behind_rest here more e = ap (λ x. b ∷ x) (more e)
+joined_step true b mark bytes f rest behind_rest here more e = grind arith
+joined_step false b mark bytes f rest behind_rest here more e = grind arith
 
 -- the parts of a cut, joined by the mark
 cut_joined : (mark : ℕ) (bytes rest : List ℕ) → after_byte mark bytes ≡ Some rest
     → bytes ≡ before_byte mark bytes ++ mark ∷ rest
 cut_joined mark [] rest e = absurd (cc)
 cut_joined mark (b ∷ bytes) rest e =
-    joined_step (b == mark) b mark bytes _ rest _ (eqb-true b mark) (cut_joined mark bytes rest) e
+    grind (arith, cut_joined mark bytes rest, joined_step, eqb-true)
 
 -- one more byte that isn't the mark
 all_step : (t : Bool) (b : ℕ) (bytes front : List ℕ) (rest : Option (List ℕ))
     → cond t (Some bytes) rest ≡ None → (rest ≡ None → front ≡ bytes)
     → cond t [] (b ∷ front) ≡ b ∷ bytes
 all_step true b bytes front rest e more = absurd (cc e)
-all_step false b bytes front rest e more = ap (λ x. b ∷ x) (more e)
+all_step false b bytes front rest e more = grind arith
 
 -- what stands before a byte that isn't there is all
 before_all : (mark : ℕ) (bytes : List ℕ) → after_byte mark bytes ≡ None
@@ -137,11 +134,7 @@ before_all mark (b ∷ bytes) none = all_step (b == mark) b bytes _ _ none (befo
 
 -- a number that one byte holds
 byte_read : (n count : ℕ) → in_byte n ≡ Some count → (n ≡ count) × (count ≤ 255)
-byte_read n count e =
-    let parts = cond_some (nat_lt n 256) n count e in
-    let low : n < 256 = ltb-true n 256 parts.0 in
-    let same : n ≡ count = parts.1 in
-    (same, omega arith)
+byte_read n count e = grind (arith, cond_some, ltb-true)
 
 -- what stands behind the block's word: no count, or a word that is one
 record CountRead (words : List ℕ) (count : ℕ) : Type 0 where
@@ -171,21 +164,20 @@ add_read words order e =
     (count_of (after_byte 32 words))) (number_of (before_byte 32 words)) order e in
     let c = map_some (λ count. orders.Add b.0 count) (count_of (after_byte 32 words)) order b.2 in
     let k = count_read words (after_byte 32 words) c.0 refl c.1 in
-    subst (λ (o : Order). AsksFor (codes "addbadblock" ++ 32 ∷ words) o) c.2 (record {
+    rw (← c.2) (record {
       block_word = before_byte 32 words;
       count_words = k.count_words;
-      number = number_read (before_byte 32 words) b.0 b.1;
+      number =
+          number_read (before_byte 32 words) b.0 b.1;
       counted = k.counted;
-      spelled = ap (λ (x : List ℕ). codes "addbadblock" ++ 32 ∷ x) k.joined;
+      spelled = ap (λ (x : List
+          ℕ). codes "addbadblock" ++ 32 ∷ x) k.joined;
     })
 
 remove_read : (words : List ℕ) (order : Order)
     → option_map (λ block. orders.Remove block) (number_of words) ≡ Some order
     → AsksFor (codes "removebadblock" ++ 32 ∷ words) order
-remove_read words order e =
-    let b = map_some (λ block. orders.Remove block) (number_of words) order e in
-    subst (λ (o : Order). AsksFor (codes "removebadblock" ++ 32 ∷ words) o) b.2
-    (record { block_word = words; number = number_read words b.0 b.1; spelled = refl })
+remove_read words order e = grind (arith, map_some, number_read)
 
 with_read : (verb words : List ℕ) (order : Order) → order_with verb words ≡ Some order
     → AsksFor (verb ++ 32 ∷ words) order
@@ -211,14 +203,7 @@ with_read verb words order e =
 word_read : (verb word : List ℕ) (it order : Order) (y : Option Order) → AsksFor word it
     → (y ≡ Some order → AsksFor verb order)
     → cond (bytes_eq verb word) (Some it) y ≡ Some order → AsksFor verb order
-word_read verb word it order y here other e =
-    ⊎_elim
-    (λ (h : (bytes_eq verb word ≡ true) × (Some it ≡ Some order)).
-    let same : it ≡ order = (let k = h.1 in cc) in
-    subst (λ (v : List ℕ). AsksFor v order) (sym (same_bytes verb word h.0))
-    (subst (λ (o : Order). AsksFor word o) same here))
-    (λ (h : (bytes_eq verb word ≡ false) × (y ≡ Some order)). other h.1)
-    (chosen (bytes_eq verb word) (Some it) y (Some order) e)
+word_read verb word it order y here other e = grind (arith, same_bytes)
 
 lone_read : (verb : List ℕ) (order : Order) → lone_order verb ≡ Some order → AsksFor verb order
 lone_read verb order =
@@ -230,11 +215,9 @@ parts_read : (text : List ℕ) (rest : Option (List ℕ)) (order : Order) → af
     → order_parts (before_byte 32 text) rest ≡ Some order
     → AsksFor text order
 parts_read text (Some words) order cut e =
-    subst (λ (x : List ℕ). AsksFor x order) (sym (cut_joined 32 text words cut))
-    (with_read (before_byte 32 text) words order e)
+    rw (cut_joined 32 text words cut) (with_read (before_byte 32 text) words order e)
 parts_read text None order cut e =
-    subst (λ (x : List ℕ). AsksFor x order) (before_all 32 text cut)
-    (lone_read (before_byte 32 text) order e)
+    rw (← before_all 32 text cut) (lone_read (before_byte 32 text) order e)
 
 -- what is read is asked for
 pub order_read : (text : List ℕ) (order : Order) → order_of text ≡ Some order → AsksFor text order
@@ -263,21 +246,14 @@ add_again : (word : List ℕ) (words : List (List ℕ)) (block count : ℕ) → 
     → IsCount words count
     → add_of (spaced (word ∷ words)) ≡ Some (orders.Add block count)
 add_again word words block count number is =
-    let c = count_again word words count (number_lacks_space word number.0) is in
-    bind_at (λ b. option_map (λ k. orders.Add b k)
-    (count_of (after_byte 32 (spaced (word ∷ words)))))
-    (number_of (before_byte 32 (spaced (word ∷ words)))) block _
-    (ap number_of c.0 ∙ number_again word block number)
-    (ap (option_map (λ k. orders.Add block k)) c.1)
+    grind (arith, count_again, number_lacks_space, bind_at, number_again)
 
 -- what is asked for is read
 pub order_again : (text : List ℕ) (order : Order) → AsksFor text order → order_of text ≡ Some order
 order_again text (orders.Add block count) asks =
     rw asks.spelled (add_again asks.block_word asks.count_words block count asks.number
     asks.counted)
-order_again text (orders.Remove block) asks =
-    rw asks.spelled (ap (option_map (λ k. orders.Remove k))
-    (number_again asks.block_word block asks.number))
+order_again text (orders.Remove block) asks = grind (arith, number_again)
 order_again text orders.Clear asks = rw asks refl
 order_again text orders.Enable asks = rw asks refl
 order_again text orders.Disable asks = rw asks refl

@@ -20,7 +20,7 @@ use Rattle.bio.specs.SectorLaws.{gather-ext}
 use Rattle.bio.specs.PartLaws.{patched-none}
 use Rattle.dust_layer.specs.BadBlocks.{Bad}
 use Rattle.dust_layer.specs.Walk.{DoesParts, FailsBelow}
-use Rattle.dust_layer.specs.Walk.{block_behind, bytes_within}
+use Rattle.dust_layer.specs.Walk.{bytes_within}
 use Rattle.dust_layer.specs.Walk.{part_of, part_within}
 use Rattle.dust_layer.specs.Walk.{reach}
 use Rattle.dust_layer.proofs.BlockWalk.{times-le, reach_last, HasPassed, passed_next}
@@ -34,14 +34,12 @@ parts_same : {D : Type 0} (does : D → Call → ℕ → Result ℕ DevError →
     → DoesParts does part begin count old now new end
     → DoesParts does other begin count old now new end
 parts_same does part other begin zero old now new end same did = did
-parts_same does part other begin (suc count) old now new end same did = (
-  did.0,
-  did.1,
-  parts_same does part other begin count old now did.0 did.1
-      (λ place low high. same place low (omega arith)) did.2,
-  subst (λ (call : Call). does did.0 call did.1 (Ok end) new)
-      (same (begin + count) (omega arith) (omega arith)) did.3,
-)
+parts_same does part other begin (suc count) old now new end same did =
+    grind (
+      arith,
+      parts_same does part other begin count old now did.0 did.1 (λ place low high. same
+          place low (omega arith)) did.2,
+    )
 
 -- bytes that are the same up to a place are the same before it
 bytes-same : (a n k : ℕ) (xs ys : List ℕ) → a + n ≤ k → take k xs ≡ take k ys
@@ -54,11 +52,7 @@ bytes-same a n k xs ys within same =
 
 reach-order : (block first count p q : ℕ) → p ≤ q
     → reach block first count p ≤ reach block first count q
-reach-order block first count p q order =
-    let low : p * block ≤ q * block = times-le p q block order in
-    let a = p * block in
-    let b = q * block in
-    omega (arith, low)
+reach-order block first count p q order = grind (arith, times-le)
 
 -- What a read has done so far.
 pub record Reading {D : Type 0} (does : D → Call → ℕ → Result ℕ DevError → D → Type 0)
@@ -111,9 +105,7 @@ passed_read does block first before xs ys bad done from old now new end same so_
 -- a range of sectors is its first part and then the rest
 gather-add : (c : Content) (first k n : ℕ)
     → gather c first (k + n) ≡ gather c first k ++ gather c (first + k) n
-gather-add c first k zero =
-    let none : k + 0 ≡ k = omega arith in
-    ap (gather c first) none ∙ sym (append-nil (gather c first k))
+gather-add c first k zero = grind (arith, append-nil)
 gather-add c first k (suc n) =
     let more : k + suc n ≡ suc (k + n) = omega arith in
     let place : first + (k + n) ≡ first + k + n = omega arith in
@@ -139,12 +131,7 @@ next_read : {D : Type 0} (does : D → Call → ℕ → Result ℕ DevError → 
     → Reading does shown block first before xs bad done from old now mid at
     → IsNextPart block first (length before / 512) done from to
 next_read does shown block first before xs bad done from to old now mid at positive some within
-    is_to so_far =
-    subst (IsNextPart block first (length before / 512) done from)
-    (ap (reach block first (length before / 512)) (let b = first / block in omega arith)
-    ∙ sym is_to)
-    (next_part_from block first
-    (length before / 512) done from positive some within so_far.passed.reached)
+    is_to so_far = grind (arith, next_part_from)
 
 -- once a part is read, the read got a block further
 pub reading_step : {D : Type 0} (does : D → Call → ℕ → Result ℕ DevError → D → Type 0)
@@ -254,15 +241,11 @@ reading_failed does shown block first before xs ys bad done from to old now mid 
           let b = (first + length before / 512 - 1) / block in omega (arith, within);
       free = free;
       fails =
-          subst (λ (p : ℕ). does mid
-          (part_within p (reach block first (length before / 512) (suc (first / block + done)))
-          (Reads first before ys)) at (Err error) new) so_far.passed.reached
-          (subst (λ (p : ℕ). does mid (part_within from p (Reads first before ys)) at
-          (Err error) new) ends asked);
+          rw (← so_far.passed.reached) (subst (λ (p : ℕ). does mid (part_within from p (Reads
+          first before ys)) at (Err error) new) ends asked);
       rest =
-          subst (λ (p : ℕ). drop (512 * (p - first)) ys ≡ drop (512 * (p - first)) before) ends_next
-          (behind ∙ rest-further (512 * (from - first)) (512 * (to - first)) xs before
-          (omega (arith, order)) so_far.rest);
+          rw (← ends_next) (behind ∙ rest-further (512 * (from - first)) (512 * (to - first)) xs
+          before (omega (arith, order)) so_far.rest);
       list = λ place. refl;
     }
 
@@ -276,16 +259,4 @@ pub reading_bytes : {D : Type 0} (does : D → Call → ℕ → Result ℕ DevEr
     → Reading does shown block first before xs bad done from old now new end
     → xs ≡ gather (shown old).content first (length before / 512)
 reading_bytes does shown block first before xs bad done from old now new end positive some size
-    whole is so_far =
-    let n = length before / 512 in
-    let low : first / block * block ≤ first = div-mul-le_self first block in
-    let order : first / block ≤ (first + n - 1) / block =
-    le-div (first / block) (first + n - 1) block positive (omega (arith, low, some)) in
-    let behind : first / block + done ≡ block_behind block first n = let a = first / block in
-    let b = (first + n - 1) / block in omega (arith, order, is) in
-    let ends : from ≡ first + n =
-    so_far.passed.reached ∙ ap (reach block first n) behind
-    ∙ reach_last block first n positive some in
-    let all : from - first ≡ n = omega (arith, ends) in
-    sym (take_all (512 * (from - first)) xs (omega (arith, all, size, whole)))
-    ∙ so_far.bytes ∙ ap (gather (shown old).content first) all
+    whole is so_far = grind (arith, div-mul-le_self, le-div, reach_last, take_all)

@@ -29,6 +29,7 @@ pub enum Order {
 /// Returns the order that the message `text` asks for, or None if it asks for none. Exactly one
 /// space separates two words. A number has 1 to 20 decimal digits and is below 2^64. A count is 0
 /// to 255, and 0 if none is given.
+#[tactic(auto, using(crate::proofs::OrderLaws::order_again, crate::proofs::OrderLaws::order_read))]
 pub fn order_of(text: &[u8]) -> Option<Order>
     ensures { (order : Order) → (result ≡ Some order) ↔ AsksFor text.now order }
 {

@@ -1,5 +1,5 @@
 -- The verdict that follows from an account is the verdict on its image.
-use Rattle.std.proofs.Common.{◌≡◌, ℕ, zero, suc, ◌*◌, ◌/◌, ◌%◌, ◌<◌, ◌≤◌, Bool, true, false, ◌&&◌}
+use Rattle.std.proofs.Common.{◌≡◌, ℕ, zero, suc, ◌*◌, ◌/◌, ◌%◌, ◌<◌, ◌≤◌, Bool, true, false}
 use Rattle.std.proofs.Common.{◌||◌, Option, Some, None, List, [], ◌∷◌, length, take, drop, refl, ap}
 use Rattle.std.proofs.Common.{sym, ◌∙◌, inl, inr, arith}
 use Rattle.std.proofs.lemmas.Bool.{and_parts, cases_lt}
@@ -65,13 +65,7 @@ possible_fine : (events : List CoreEvent) (first now : Content) (sectors sector 
     → PossibleAt events first now sector
     → could_hold_value account.held.items account.last.items first now sector ≡ true
 possible_fine events first now sectors sector account told within (inl same) =
-    let last = account.last.items in
-    let none =
-    none-is_some (place_at last sector)
-    (ap is_some (told.last sector within) ∙ sym (kept_last events sector) ∙ same.1) in
-    or_second (is_some (place_at account.held.items sector)) (is_at_first last first now sector)
-    (ap (λ b. b && bytes_eq (now sector) (first sector)) none
-    ∙ same_bytes (now sector) (first sector) same.0)
+    grind (arith, none-is_some, kept_last, or_second, same_bytes)
 possible_fine events first now sectors sector account told within (inr from) =
     let held =
     ap is_some (told.held sector within)
@@ -84,12 +78,7 @@ ruled_out : (events : List CoreEvent) (sector : ℕ) (by : Option ℕ)
     → by ≡ last_below (is_kept events sector) (length events)
     → IsRuledOutBy events sector by
 ruled_out events sector None is = kept_last events sector ∙ ap is_some (sym is)
-ruled_out events sector (Some id) is =
-    let last = last_below-found (is_kept events sector) (length events) id (sym is) in
-    record {
-      kept = last.here;
-      last = λ later kept. last.last later (kept_within events sector later kept) kept;
-    }
+ruled_out events sector (Some id) is = grind (arith, last_below-found, kept_within)
 
 -- past the end of both images, sectors have the same bytes: none
 same_past : (first image : List ℕ) (sector : ℕ) → length image % 512 ≡ 0

@@ -2,7 +2,7 @@
 use Rattle.std.proofs.Common.{◌≡◌, ℕ, zero, suc, true, false, None, Some, List, [], ◌∷◌, length}
 use Rattle.std.proofs.Common.{take, get_or, slice_get, replicate, refl, ap, sym, ◌∙◌, inl, inr}
 use Rattle.std.proofs.Common.{arith}
-use Rattle.std.specs.Prelude.{◌≤◌, ◌<◌, ◌++◌, ◌==◌, ◌&&◌, if◌then◌else◌, nat_lt, unwrap_or}
+use Rattle.std.specs.Prelude.{◌≤◌, ◌<◌, ◌++◌, ◌==◌, if◌then◌else◌}
 use Rattle.bio.specs.PlaceLaws.{none_first_below}
 use Rattle.std.proofs.lemmas.Bool.{and_parts, le-ltb}
 use Rattle.bio.specs.Content as contents
@@ -10,8 +10,8 @@ use Rattle.bio.specs.Content.{Content}
 use Rattle.bio.specs.declared.event.CoreEvent.{CoreEvent}
 use Rattle.bio.specs.declared.event.CoreEvent.TheVariants.{Submit, Complete}
 use Rattle.bio.specs.declared.request.Bio.TheVariants.{Write, Flush}
-use Rattle.bio.specs.Events.{end_of, is_end_of, is_flush_submit}
-use Rattle.bio.specs.Possible.{PossibleAt, ended_ok, is_durable, is_kept}
+use Rattle.bio.specs.Events.{end_of, is_flush_submit}
+use Rattle.bio.specs.Possible.{PossibleAt, ended_ok, is_kept}
 use Rattle.judge.specs.Latest.{IsLastFlush}
 use Rattle.judge.specs.Verdicts.{FailsAt, IsLastKept, IsRuledOutBy}
 use Rattle.judge.specs.declared.accounts.Account.{Account}
@@ -55,7 +55,7 @@ durable-newer = inr (1, refl, refl)
 
 -- a byte is that of its list
 byte_is : (a b : ℕ) → Some (replicate 512 a) ≡ Some (replicate 512 b) → a ≡ b
-byte_is a b same = ap (λ o. get_or (unwrap_or o []) 0 0) same
+byte_is a b same = grind (arith, get_or)
 
 -- and not what it held at first: that is ruled out by the newer one
 gone-first : PossibleAt events (holding 0) (holding 0) 3 → ⊥
@@ -87,10 +87,7 @@ last-newer (suc (suc zero)) kept = cc
 last-newer (suc (suc (suc zero))) kept = cc
 last-newer (suc (suc (suc (suc zero)))) kept = cc
 last-newer (suc (suc (suc (suc (suc zero))))) kept = cc
-last-newer (suc (suc (suc (suc (suc (suc later)))))) kept =
-    let parts =
-    and_parts (is_durable events (suc (suc (suc (suc (suc (suc later))))))) false kept in
-    absurd (let contra : false ≡ true = parts.1 in cc)
+last-newer (suc (suc (suc (suc (suc (suc later)))))) kept = grind (arith, and_parts)
 
 kept-newer : IsLastKept events 3 1
 kept-newer = record { kept = refl; last = last-newer }
@@ -111,13 +108,7 @@ below-first (suc (suc (suc lower))) below = absurd (omega arith)
 
 -- so an image of zeroes fails at sector 3
 failing : FailsAt events (holding 0) (holding 0) 16 3 (Some 1)
-failing =
-    record {
-      within = omega arith;
-      fails = gone-first;
-      lowest = below-first;
-      ruled_out = kept-newer;
-    }
+failing = grind (arith, gone-first, below-first, kept-newer)
 
 -- not past its end, not where it is possible, not by an earlier request, and not by none
 failing-outside : FailsAt events (holding 0) (holding 0) 3 3 (Some 1) → ⊥
@@ -213,10 +204,7 @@ account-newer account ends last held = record {
     end_is (suc zero) = refl
     end_is (suc (suc zero)) = refl
     end_is (suc (suc (suc zero))) = refl
-    end_is (suc (suc (suc (suc id)))) =
-        let past : ℕ = suc (suc (suc (suc id))) in
-        sym (none_first_below (λ k. nat_lt past k && is_end_of past (slice_get replaced k)) 4
-        (λ k h. ap (λ b. b && is_end_of past (slice_get replaced k)) (le-ltb past k (omega arith))))
+    end_is (suc (suc (suc (suc id)))) = grind (arith, none_first_below, slice_get, le-ltb)
 
     kept_is : (sector : ℕ) → sector < 4
         → place_at (None ∷ None ∷ None ∷ Some 2 ∷ []) sector
@@ -244,31 +232,25 @@ none_some place same = cc
 account-held : (account : Account) → account.held.items ≡ []
     → IsAccount replaced (holding 2) 4 account → ⊥
 unfolding contents.over
-account-held account held told =
-    none_some 2 (sym (ap (λ places. place_at places 3) held) ∙ told.held 3 (omega arith))
+account-held account held told = grind (arith, none_some)
 
 account-ends : (account : Account) → account.ends.items ≡ []
     → IsAccount replaced (holding 2) 4 account → ⊥
 account-ends account ends told =
-    none_some 1 (sym (ap (λ places. place_at places 0) ends) ∙ told.ends 0)
+    none_some 1 (sym (rw ends) ∙ told.ends 0)
 
 account-last : (account : Account) → account.last.items ≡ []
     → IsAccount replaced (holding 2) 4 account → ⊥
-account-last account last told =
-    none_some 2 (sym (ap (λ places. place_at places 3) last) ∙ told.last 3 (omega arith))
+account-last account last told = grind (arith, none_some)
 
 -- nor one of more or fewer sectors, though no request covers any
 account-shorter : (account : Account) → account.last.items ≡ []
     → IsAccount [] (holding 0) 1 account → ⊥
-account-shorter account last told =
-    let none = ap length last in
-    absurd (let contra : 0 ≡ 1 = sym none ∙ told.last_size in cc)
+account-shorter account last told = grind arith
 
 account-held-shorter : (account : Account) → account.held.items ≡ []
     → IsAccount [] (holding 0) 1 account → ⊥
-account-held-shorter account held told =
-    let none = ap length held in
-    absurd (let contra : 0 ≡ 1 = sym none ∙ told.held_size in cc)
+account-held-shorter account held told = grind arith
 
 -- zeroes were on a device of any size
 zeroes-first : first_bytes Zeroes 3 ≡ 0 ∷ 0 ∷ 0 ∷ []
@@ -279,6 +261,4 @@ zeroes-fit = refl
 
 -- and an image of fewer bytes on none
 fewer-bytes : (first : First) → first_bytes first 2 ≡ 1 ∷ [] → IsFirstOf 2 first → ⊥
-fewer-bytes first is fits =
-    let one = ap length is in
-    absurd (let contra : 1 ≡ 2 = sym one ∙ fits in cc)
+fewer-bytes first is fits = grind arith

@@ -1,13 +1,13 @@
 -- The effect of one sector on the list `held`, if its value fits and if it doesn't.
 use Rattle.std.proofs.Common.{◌≡◌, ℕ, suc, ◌<◌, ◌≤◌, Bool, true, false, not, ◌&&◌, Option, Some}
-use Rattle.std.proofs.Common.{None, List, length, set, refl, ap, sym, ◌∙◌, inl, inr, arith}
+use Rattle.std.proofs.Common.{List, length, set, refl, ap, sym, ◌∙◌, inl, inr, arith}
 use Rattle.std.proofs.lemmas.List.{length-set, get_or-set_same, get_or-set_other}
 use Rattle.std.specs.Prelude.{slice_get, if◌then◌else◌}
 use Rattle.bio.specs.Content.{Content}
 use Rattle.bio.specs.PlaceLaws.{bool_cases, last_or_below}
 use Rattle.bio.specs.declared.event.CoreEvent.{CoreEvent}
 use Rattle.bio.specs.Events.{end_of}
-use Rattle.bio.specs.Possible.{covers_at, is_replaced, values_at}
+use Rattle.bio.specs.Possible.{covers_at}
 use Rattle.bio.specs.PossibleLaws.{uncovered_value}
 use Rattle.judge.specs.Accounts.{is_held_from, is_value, last_below, place_at}
 use Rattle.judge.specs.inside.Accounts.{AreFit, AreHeld, has_value_of}
@@ -20,27 +20,8 @@ pub fit_here : (event : Option CoreEvent) (end : Option ℕ) (last : List (Optio
     → sector < length held → has_value_of event end last now sector ≡ true
     → from ≤ sector → AreFit event end last now place from sector old held
     → AreFit event end last now place from (suc sector) old (set held sector (Some place))
-fit_here event end last now place from sector old held within fits low before = record {
-  size = length-set held sector (Some place) ∙ before.size;
-  within = λ k h above below. elim (last_or_below k sector below) [
-    | inl same ↦
-        ap (place_at (set held sector (Some place))) same
-        ∙ get_or-set_same held sector (Some place) None within
-        ∙ sym (ap (λ b. if b then Some place else place_at old k)
-        (ap (has_value_of event end last now) same ∙ fits))
-    | inr earlier ↦
-        get_or-set_other held sector k (Some place) None (λ e. omega arith)
-        ∙ before.within k h above earlier
-  ];
-  outside = λ k outside. elim outside [
-    | inl less ↦
-        get_or-set_other held sector k (Some place) None (λ e. omega arith)
-        ∙ before.outside k (inl less)
-    | inr more ↦
-        get_or-set_other held sector k (Some place) None (λ e. omega arith)
-        ∙ before.outside k (inr (omega arith))
-  ];
-}
+fit_here event end last now place from sector old held within fits low before =
+    grind (arith, length-set, last_or_below, get_or-set_same, get_or-set_other)
 
 -- and one whose value doesn't
 pub fit_not : (event : Option CoreEvent) (end : Option ℕ) (last : List (Option ℕ)) (now : Content)
@@ -48,21 +29,8 @@ pub fit_not : (event : Option CoreEvent) (end : Option ℕ) (last : List (Option
     → has_value_of event end last now sector ≡ false
     → from ≤ sector → AreFit event end last now place from sector old held
     → AreFit event end last now place from (suc sector) old held
-fit_not event end last now place from sector old held fails low before = record {
-  size = before.size;
-  within = λ k h above below. elim (last_or_below k sector below) [
-    | inl same ↦
-        before.outside k (inr (omega arith))
-        ∙ sym (ap (λ b. if b then Some place else place_at old k)
-        (ap (has_value_of event end last now) same ∙ fails))
-    | inr earlier ↦ before.within k h above earlier
-  ];
-  outside = λ k outside.
-      elim outside [
-        | inl less ↦ before.outside k (inl less)
-        | inr more ↦ before.outside k (inr (omega arith))
-      ];
-}
+fit_not event end last now place from sector old held fails low before =
+    grind (arith, last_or_below)
 
 -- the sectors outside an event's range don't fit, so that all that do have its place
 pub fit_all : (event : Option CoreEvent) (end : Option ℕ) (last : List (Option ℕ)) (now : Content)
@@ -78,11 +46,9 @@ fit_all event end last now place from to old new covered fit sector within =
           fit.within sector within range.0 range.1
       | inr passes ↦
           fit.outside sector (covered_out event (length old) from to sector covered within passes)
-          ∙ sym (ap (λ b. if b then Some place else place_at old sector) (
-          ap (λ value. not (is_below_last end (place_at last sector))
-          && is_value value (now sector))
-          (uncovered_value event sector passes)
-          ∙ and_false (not (is_below_last end (place_at last sector)))))
+          ∙ sym (rw (ap (λ value. not (is_below_last end (place_at last sector)) && is_value
+          value (now sector)) (uncovered_value event sector passes) ∙ and_false (not
+          (is_below_last end (place_at last sector)))))
     ]
   where
     and_false : (a : Bool) → (a && false) ≡ false
@@ -113,11 +79,4 @@ held_next events event now sectors place end last old new is ends kept size fit 
     same : (sector : ℕ) → sector < sectors
         → has_value_of (Some event) end last now sector ≡ is_held_from events now sector place
     same sector within =
-        ap (λ e. not (is_below_last e (place_at last sector))
-        && is_value (values_at (Some event) sector) (now sector)) ends
-        ∙ ap (λ p. not (is_below_last (end_of events place) p)
-        && is_value (values_at (Some event) sector) (now sector)) (kept.each sector within)
-        ∙ ap (λ b. not b && is_value (values_at (Some event) sector) (now sector))
-        (sym (replaced_last events sector place))
-        ∙ ap (λ e. not (is_replaced events sector place)
-        && is_value (values_at e sector) (now sector)) (sym is)
+        grind (arith, replaced_last)

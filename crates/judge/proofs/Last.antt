@@ -42,9 +42,7 @@ any_after-last test end (suc n) = elim (bool_cases (test n)) [
     joined : (is_below end n ≡ true) ⊎ (is_below end n ≡ false)
         → (any_below (λ place. test place && is_below end place) n || is_below end n)
         ≡ is_below end n
-    joined (inl yes_below) =
-        or_second (any_below (λ place. test place && is_below end place) n)
-        (is_below end n) yes_below ∙ sym yes_below
+    joined (inl yes_below) = grind (arith, or_second)
     joined (inr not_below) =
         ap (λ b. any_below (λ place. test place && is_below end place) n || b) not_below
         ∙ or_false (any_below (λ place. test place && is_below end place) n)
@@ -58,10 +56,8 @@ any_after-last test end (suc n) = elim (bool_cases (test n)) [
 
         none : (k : ℕ) → k < n → (is_below end k ≡ true) ⊎ (is_below end k ≡ false)
             → (test k && is_below end k) ≡ false
-        none k h (inl below) = absurd
-            (let contra : true ≡ false = sym (later_too end k n (omega arith) below) ∙ not_below in
-            cc)
-        none k h (inr above) = ap (λ b. test k && b) above ∙ and_false (test k)
+        none k h (inl below) = grind (arith, later_too)
+        none k h (inr above) = grind (arith, and_false)
 
 -- a request ended before a flush that ended with success
 -- just where it ended before the last such flush
@@ -106,47 +102,26 @@ last_kept_durable events event sectors place old new is durable size covered oth
   where
     kept : (sector : ℕ) (b : Bool) → covers_at sector (Some event) ≡ b
         → is_kept events sector place ≡ b
-    kept sector b covers =
-        ap (λ d. d && covers_at sector (slice_get events place)) durable ∙ ap (covers_at sector) is
-        ∙ covers
+    kept sector b covers = grind arith
 
     by_test : (sector : ℕ) → sector < sectors
         → (covers_at sector (Some event) ≡ true) ⊎ (covers_at sector (Some event) ≡ false)
         → place_at new sector ≡ last_below (is_kept events sector) (suc place)
-    by_test sector h (inl covers) =
-        let long = before.size in
-        covered sector (omega arith) covers
-        ∙ sym (ap (λ b. if b then Some place else last_below (is_kept events sector) place)
-        (kept sector true covers))
-    by_test sector h (inr passes) =
-        let long = before.size in
-        other sector (omega arith) passes
-        ∙ before.each sector h
-        ∙ sym (ap (λ b. if b then Some place else last_below (is_kept events sector) place)
-        (kept sector false passes))
+    by_test sector h (inl covers) = grind arith
+    by_test sector h (inr passes) = grind arith
 
 -- a request that isn't durable changes nothing
 pub last_kept_other : (events : List CoreEvent) (sectors place : ℕ) (last : List (Option ℕ))
     → is_durable events place ≡ false → AreLastKept events sectors place last
     → AreLastKept events sectors (suc place) last
-last_kept_other events sectors place last durable before = record {
-  size = before.size;
-  each = λ sector h.
-      before.each sector h
-      ∙ sym (ap (λ b. if b && covers_at sector
-      (slice_get events place) then Some place else last_below
-      (is_kept events sector) place) durable);
-}
+last_kept_other events sectors place last durable before = grind arith
 
 -- an event covers the sectors of its range and no other
 pub covered_in : (event : Option CoreEvent) (sectors from to sector : ℕ)
     → AreCovered event sectors from to → sector < sectors
     → covers_at sector event ≡ true → (from ≤ sector) × (sector < to)
 covered_in event sectors from to sector are within covers =
-    let parts =
-    and_parts (nat_le from sector) (nat_lt sector to)
-    (sym (are.each sector within) ∙ covers) in
-    (leb-true from sector parts.0, ltb-true sector to parts.1)
+    grind (arith, and_parts, leb-true, ltb-true)
 
 pub covered_out : (event : Option CoreEvent) (sectors from to sector : ℕ)
     → AreCovered event sectors from to → sector < sectors
@@ -157,17 +132,6 @@ covered_out event sectors from to sector are within covers =
     by_test : (nat_le from sector ≡ true) ⊎ (nat_le from sector ≡ false)
         → (nat_lt sector to ≡ true) ⊎ (nat_lt sector to ≡ false)
         → (sector < from) ⊎ (to ≤ sector)
-    by_test (inr low) high = inl
-        (elim (cases_lt sector from) [
-          | inl less ↦ less
-          | inr more ↦ absurd (let contra = sym low ∙ le-leb from sector more in cc)
-        ])
-    by_test (inl low) (inr high) = inr
-        (elim (cases_lt sector to) [
-          | inl less ↦
-              absurd (let contra = sym high ∙ lt-ltb sector to less in cc)
-          | inr more ↦ more
-        ])
-    by_test (inl low) (inl high) =
-        absurd (let contra : true ≡ false = sym (ap (λ b. b && nat_lt sector to) low ∙ high)
-        ∙ (sym (are.each sector within) ∙ covers) in cc)
+    by_test (inr low) high = grind (arith, cases_lt, le-leb)
+    by_test (inl low) (inr high) = grind (arith, cases_lt, lt-ltb)
+    by_test (inl low) (inl high) = grind arith

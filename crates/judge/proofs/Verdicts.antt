@@ -51,21 +51,14 @@ one_cause events sector (Some id) (Some later) a b =
     let up = b.last id a.kept in
     let down = a.last later b.kept in
     let same : id ≡ later = omega arith in
-    ap (λ (k : ℕ). Some k) same
+    rw same
 
 -- the lowest sector that fails is one
 one_sector : (sectors : ℕ) (events : List CoreEvent) (first now : Content) (sector other : ℕ)
     (by cause : Option ℕ)
     → FailsAt events first now sectors sector by → FailsAt events first now sectors other cause
     → sector ≡ other
-one_sector sectors events first now sector other by cause a b = elim (cases_lt sector other) [
-  | inl less ↦ absurd (a.fails (b.lowest sector less))
-  | inr from ↦
-      elim (cases_lt other sector) [
-        | inl less ↦ absurd (b.fails (a.lowest other less))
-        | inr upto ↦ omega arith
-      ]
-]
+one_sector sectors events first now sector other by cause a b = grind (arith, cases_lt)
 
 -- a verdict is one
 pub one_verdict : (sectors : ℕ) (events : List CoreEvent) (first now : Content)
@@ -80,15 +73,12 @@ one_verdict sectors events first now (No sector by) (No other cause) a b =
     let causes =
     one_cause events other by cause
     (subst (λ (s : ℕ). IsRuledOutBy events s by) same a.ruled_out) b.ruled_out in
-    ap (λ (s : ℕ). No s by) same ∙ ap (λ (c : Option ℕ). No other c) causes
+    rw (same, causes)
 
 -- a flush stands among the events
 flush_within : (events : List CoreEvent) (id : ℕ) → is_flush_submit (slice_get events id) ≡ true
     → id < length events
-flush_within events id flush = elim (option_cases (slice_get events id)) [
-  | inl none ↦ absurd (let contra : false ≡ true = sym (ap is_flush_submit none) ∙ flush in cc)
-  | inr some ↦ slice_get-within events id some.0 some.1
-]
+flush_within events id flush = grind (arith, option_cases, slice_get-within)
 
 -- the last flush that ended with success decides what is durable
 pub durable_by_last : (events : List CoreEvent) (flush id : ℕ) → IsLastFlush events flush

@@ -1,5 +1,5 @@
 -- Laws of `last_below`, `has_kept` and `is_held_from`.
-use Rattle.std.proofs.Common.{◌≡◌, ℕ, zero, suc, ◌<◌, ◌≤◌, Bool, true, false, not, ◌&&◌, ◌||◌}
+use Rattle.std.proofs.Common.{◌≡◌, ℕ, zero, suc, ◌<◌, ◌≤◌, Bool, true, false, not, ◌||◌}
 use Rattle.std.proofs.Common.{Option, Some, None, List, length, refl, ap, sym, ◌∙◌, inl, inr, arith}
 use Rattle.std.proofs.lemmas.Bool.{and_parts}
 use Rattle.std.specs.Prelude.{slice_get, is_some, if◌then◌else◌}
@@ -10,7 +10,7 @@ use Rattle.bio.specs.Places.{any_below}
 use Rattle.bio.specs.PlaceLaws.{any_below-at, bool_cases, last_or_below, option_cases}
 use Rattle.bio.specs.PlaceLaws.{or_second, slice_get-within}
 use Rattle.bio.specs.declared.event.CoreEvent.{CoreEvent}
-use Rattle.bio.specs.Possible.{covers_at, has_kept, is_durable, is_kept, is_replaced, values_at}
+use Rattle.bio.specs.Possible.{has_kept, is_kept, is_replaced, values_at}
 use Rattle.judge.specs.Accounts.{is_held_from, is_value, last_below}
 
 -- Some index below `n` passes `test` exactly if `last_below` finds one.
@@ -19,7 +19,7 @@ any_below-last test zero = refl
 any_below-last test (suc n) = elim (bool_cases (test n)) [
   | inl here ↦
       or_second (any_below test n) (test n) here
-      ∙ sym (ap (λ b. is_some (if b then Some n else last_below test n)) here)
+      ∙ sym (rw here)
   | inr other ↦
       ap (λ b. any_below test n || b) other
       ∙ or_false (any_below test n)
@@ -40,29 +40,8 @@ pub record IsLast (test : ℕ → Bool) (n place : ℕ) : Type 0 where
 -- If `last_below` finds `p`, `p` is the last index below `n` that passes.
 pub last_below-found : (test : ℕ → Bool) (n p : ℕ) → last_below test n ≡ Some p → IsLast test n p
 last_below-found test zero p e = cc
-last_below-found test (suc n) p e = elim (bool_cases (test n)) [
-  | inl here ↦
-      let same : n ≡ p =
-      let is = sym (ap (λ b. if b then Some n else last_below test n) here) ∙ e in cc in
-      record {
-        within = omega arith;
-        here = ap test (sym same) ∙ here;
-        last = λ k h passes. omega arith;
-      }
-  | inr other ↦
-      let before =
-      last_below-found test n p
-      (sym (ap (λ b. if b then Some n else last_below test n) other) ∙ e) in
-      record {
-        within = let h = before.within in omega arith;
-        here = before.here;
-        last = λ k h passes. elim (last_or_below k n h) [
-          | inl same ↦
-              absurd (let contra : true ≡ false = sym passes ∙ (ap test same ∙ other) in cc)
-          | inr below ↦ before.last k below passes
-        ];
-      }
-]
+last_below-found test (suc n) p e =
+    grind (arith, last_below-found test n p, bool_cases, last_or_below)
 
 -- If `last_below` finds none, no index below `n` passes.
 pub none_passes : (test : ℕ → Bool) (n : ℕ) → last_below test n ≡ None → any_below test n ≡ false
@@ -76,13 +55,7 @@ kept_last events sector = any_below-last (is_kept events sector) (length events)
 -- If a durable request covers a sector, its index is within the list of events.
 pub kept_within : (events : List CoreEvent) (sector id : ℕ) → is_kept events sector id ≡ true
     → id < length events
-kept_within events sector id kept = elim (option_cases (slice_get events id)) [
-  | inl none ↦
-      absurd (let contra : false ≡ true = sym (ap (covers_at sector) none)
-      ∙ (and_parts (is_durable events id) (covers_at sector (slice_get events id)) kept).1 in
-      cc)
-  | inr some ↦ slice_get-within events id some.0 some.1
-]
+kept_within events sector id kept = grind (arith, option_cases, and_parts, slice_get-within)
 
 -- If `bytes_eq` is true, the bytes are equal.
 pub equal_bytes : (xs ys : List ℕ) → bytes_eq xs ys ≡ true → xs ≡ ys
@@ -96,12 +69,12 @@ same_bytes xs ys e = (bytes_eq-Decides xs ys).1 e
 pub value_is : (value : Option (List ℕ)) (bytes : List ℕ) → is_value value bytes ≡ true
     → value ≡ Some bytes
 value_is None bytes e = cc
-value_is (Some value) bytes e = ap (λ (xs : List ℕ). Some xs) (equal_bytes value bytes e)
+value_is (Some value) bytes e = rw (equal_bytes value bytes e)
 
 -- If the value is `bytes`, `is_value` holds.
 pub is_value_found : (value : Option (List ℕ)) (bytes : List ℕ) → value ≡ Some bytes
     → is_value value bytes ≡ true
-is_value_found value bytes e = ap (λ v. is_value v bytes) e ∙ same_bytes bytes bytes refl
+is_value_found value bytes e = grind (arith, same_bytes)
 
 not_true : (b : Bool) → not b ≡ true → b ≡ false
 not_true true e = cc
@@ -110,11 +83,7 @@ not_true false e = refl
 -- If a request has a value for the sector, its index is within the list of events.
 pub value-within : (events : List CoreEvent) (sector id : ℕ) (value : List ℕ)
     → values_at (slice_get events id) sector ≡ Some value → id < length events
-value-within events sector id value is = elim (option_cases (slice_get events id)) [
-  | inl none ↦
-      absurd (let contra : None ≡ Some value = sym (ap (λ e. values_at e sector) none) ∙ is in cc)
-  | inr some ↦ slice_get-within events id some.0 some.1
-]
+value-within events sector id value is = grind (arith, option_cases, slice_get-within)
 
 -- If `is_held_from` holds, the sector has the request's value, and the request isn't replaced
 -- there.
@@ -122,22 +91,14 @@ pub held-parts : (events : List CoreEvent) (now : Content) (sector id : ℕ)
     → is_held_from events now sector id ≡ true
     → (values_at (slice_get events id) sector ≡ Some (now sector))
     × (is_replaced events sector id ≡ false)
-held-parts events now sector id held =
-    let parts =
-    and_parts (not (is_replaced events sector id))
-    (is_value (values_at (slice_get events id) sector) (now sector)) held in (
-      value_is (values_at (slice_get events id) sector) (now sector) parts.1,
-      not_true (is_replaced events sector id) parts.0,
-    )
+held-parts events now sector id held = grind (arith, and_parts, value_is, not_true)
 
 -- If the sector has the request's value, and the request isn't replaced there, `is_held_from`
 -- holds.
 pub parts-held : (events : List CoreEvent) (now : Content) (sector id : ℕ)
     → values_at (slice_get events id) sector ≡ Some (now sector)
     → is_replaced events sector id ≡ false → is_held_from events now sector id ≡ true
-parts-held events now sector id value stays =
-    ap (λ b. not b && is_value (values_at (slice_get events id) sector) (now sector)) stays
-    ∙ is_value_found (values_at (slice_get events id) sector) (now sector) value
+parts-held events now sector id value stays = grind (arith, is_value_found)
 
 -- If the sector has a request's value, and the request isn't replaced there, some event passes
 -- `is_held_from`.

@@ -1,13 +1,11 @@
 -- How often each request was done, counted in a walk over the calls.
-use Rattle.std.proofs.Common.{◌≡◌, ◌≢◌, ⊎_elim, ℕ, zero, suc, ◌+◌, ◌≤◌, Bool, true, false, ◌&&◌}
-use Rattle.std.proofs.Common.{List, [], ◌∷◌, ◌++◌, length, set, Option, Some, None, refl, ap, sym}
+use Rattle.std.proofs.Common.{◌≡◌, ◌≢◌, ℕ, zero, suc, ◌+◌, ◌≤◌, Bool, true, false, ◌&&◌}
+use Rattle.std.proofs.Common.{List, [], ◌∷◌, ◌++◌, length, Option, Some, None, refl, ap, sym}
 use Rattle.std.proofs.Common.{◌∙◌, subst, arith, true≢false, eqb, ne_eqb, eq-eqb}
 use Rattle.std.specs.Prelude.{slice_get, slice_set, MatchBool, if◌then◌else◌}
 use Rattle.std.proofs.lemmas.Option.{slice_get_within}
 use Rattle.std.proofs.lemmas.Bool.{and_parts}
 use Rattle.std.proofs.lemmas.Bool.Decides.{eqb_tells}
-use mathlib.Core.Logic.{dite}
-use native.Mathlib.Decide.{ℕ_discrete}
 use Rattle.bio.specs.declared.request.Bio.{Bio}
 use Rattle.bio.specs.declared.event.CoreEvent.{CoreEvent}
 use Rattle.bio.specs.declared.event.CoreEvent.TheVariants.{Submit}
@@ -29,13 +27,7 @@ times-push id (x ∷ xs) call = let h = times-push id xs call in omega arith
 
 ok_on : (calls : List Done) (call : Done) (id place : ℕ) → IsOkAt calls id place
     → IsOkAt (calls ++ call ∷ []) id place
-ok_on calls call id place at =
-    record {
-      call = at.call;
-      there = slice_get-append_front calls (call ∷ []) place
-          (slice_get_within calls place at.call at.there) ∙ at.there;
-      ok = at.ok;
-    }
+ok_on calls call id place at = grind (arith, slice_get-append_front, slice_get_within)
 
 tells-push : (calls : List Done) (call : Done) (id : ℕ) (was : Seen) → Tells calls id was
     → Tells (calls ++ call ∷ []) id (if is_ok_of id call then seen_more was (length calls) else was)
@@ -43,9 +35,7 @@ tells-push calls call id was tells = by_cases (is_ok_of id call) refl was tells
   where
     by_cases : (b : Bool) → is_ok_of id call ≡ b → (was : Seen) → Tells calls id was
         → Tells (calls ++ call ∷ []) id (if b then seen_more was (length calls) else was)
-    by_cases false e Never tells =
-        let p = times-push id calls call in
-        let o : one_if (is_ok_of id call) ≡ 0 = ap one_if e in omega arith
+    by_cases false e Never tells = grind (arith, times-push)
     by_cases false e (Once place)
         tells = (
           let p = times-push id calls call in
@@ -54,14 +44,8 @@ tells-push calls call id was tells = by_cases (is_ok_of id call) refl was tells
           ok_on calls call id place tells.1,
         )
     by_cases false e Again tells = let p = times-push id calls call in omega arith
-    by_cases true e Never tells = (
-      let p = times-push id calls call in let o : one_if (is_ok_of id call) ≡ 1 = ap one_if e in
-          omega arith,
-      record { call = call; there = slice_get-append_here calls call []; ok = e },
-    )
-    by_cases true e (Once place) tells =
-        let p = times-push id calls call in
-        let o : one_if (is_ok_of id call) ≡ 1 = ap one_if e in let t = tells.0 in omega arith
+    by_cases true e Never tells = grind (arith, times-push, slice_get-append_here)
+    by_cases true e (Once place) tells = grind (arith, times-push)
     by_cases true e Again tells = let p = times-push id calls call in omega arith
 
 -- one call more is noted
@@ -72,35 +56,28 @@ pub all_tell-push : (calls : List Done) (call : Done) (before after : List Seen)
 all_tell-push calls call before after place is tells noted id seen e =
     let n = noted id seen e in
     subst (Tells (calls ++ call ∷ []) id)
-    (sym (n.now ∙ ap (λ k. if is_ok_of id call then seen_more n.was k else n.was) is))
+    (sym (n.now ∙ rw is))
     (tells-push calls call id n.was (tells id n.was n.there))
 
 -- a call that isn't a request's, or failed, changes no note
 pub not_noted : (before : List Seen) (place : ℕ) (call : Done)
     → ((id : ℕ) (seen : Seen) → slice_get before id ≡ Some seen → is_ok_of id call ≡ false)
     → (id : ℕ) (seen : Seen) → slice_get before id ≡ Some seen → IsNoted before place call id seen
-not_noted before place call other id seen e =
-    record {
-      was = seen;
-      there = e;
-      now = sym (ap (λ b. if b then seen_more seen place else seen) (other id seen e));
-    }
+not_noted before place call other id seen e = grind arith
 
 and_false : (b : Bool) → (b && false) ≡ false
 and_false true = refl
 and_false false = refl
 
 pub nobody_ok : (call : Done) (id : ℕ) → call.id ≡ None → is_ok_of id call ≡ false
-nobody_ok call id e = ap (λ o. call.ok && is_of id o) e ∙ and_false call.ok
+nobody_ok call id e = grind (arith, and_false)
 
 pub failed_ok : (call : Done) (id : ℕ) → call.ok ≡ false → is_ok_of id call ≡ false
-failed_ok call id e = ap (λ b. b && is_of id call.id) e
+failed_ok call id e = grind arith
 
 pub other_ok : (call : Done) (id other : ℕ) → call.id ≡ Some other → other ≢ id
     → is_ok_of id call ≡ false
-other_ok call id other e apart =
-    ap (λ o. call.ok && is_of id o) e ∙ ap (λ b. call.ok && b) (ne_eqb other id apart)
-    ∙ and_false call.ok
+other_ok call id other e apart = grind (arith, ne_eqb, and_false)
 
 own_ok : (call : Done) (id : ℕ) → call.id ≡ Some id → call.ok ≡ true → is_ok_of id call ≡ true
 own_ok call id e ok =
@@ -115,33 +92,14 @@ pub is_noted : (before : List Seen) (place : ℕ) (call : Done) (other : ℕ) (w
     → (id : ℕ) (seen : Seen)
     → slice_get (slice_set before other (seen_more was place)) id ≡ Some seen
     → IsNoted before place call id seen
-is_noted before place call other was own ok there id seen e = dite (ℕ_discrete id other)
-    (λ same. record {
-      was = was;
-      there = ap (slice_get before) same ∙ there;
-      now =
-          let f =
-          sym (get_set_same before other was (seen_more was place) there)
-          ∙ ap (slice_get (set before other (seen_more was place))) (sym same) ∙ e in
-          let now : seen_more was place ≡ seen = cc in
-          sym now ∙ sym (ap (λ b. if b then seen_more was place else was)
-          (own_ok call id (own ∙ ap (λ (n : ℕ). Some n) (sym same)) ok));
-    })
-    (λ apart. record {
-      was = seen;
-      there = sym (get_set_else before other id (seen_more was place) apart) ∙ e;
-      now =
-          sym (ap (λ b. if b then seen_more seen place else seen)
-          (other_ok call id other own (λ same. apart (sym same))));
-    })
+is_noted before place call other was own ok there id seen e =
+    grind (arith, get_set_same, own_ok, get_set_else, other_ok)
 
 -- a call is counted
 counted : (id : ℕ) (calls : List Done) (place : ℕ) (call : Done) → slice_get calls place ≡ Some call
     → is_ok_of id call ≡ true → 1 ≤ times id calls
 counted id [] place call e ok = absurd (cc)
-counted id (x ∷ xs) zero call e ok =
-    let same : x ≡ call = cc in
-    let one : one_if (is_ok_of id x) ≡ 1 = ap one_if (ap (is_ok_of id) same ∙ ok) in omega arith
+counted id (x ∷ xs) zero call e ok = grind arith
 counted id (x ∷ xs) (suc place) call e ok = let h = counted id xs place call e ok in omega arith
 
 -- where just one call is counted, it stands at one place
@@ -165,17 +123,12 @@ one_place id (x ∷ xs) (suc p) (suc q) c d once e ok f too =
 
 is_its : (id : ℕ) (name : Option ℕ) → is_of id name ≡ true → name ≡ Some id
 is_its id None e = absurd (true≢false (sym e))
-is_its id (Some other) e =
-    ⊎_elim (λ (t : (eqb other id ≡ true) × (other ≡ id)). ap (λ (n : ℕ). Some n) t.1)
-    (λ (f : (eqb other id ≡ false) × (other ≢ id)). absurd (true≢false (sym e ∙ f.0)))
-    (eqb_tells other id)
+is_its id (Some other) e = grind (arith, eqb_tells)
 
 -- a call of this request that ended Ok
 call_is : (id : ℕ) (call : Done) → is_ok_of id call ≡ true
     → call ≡ done_call (Some id) call.bio true
-call_is id call ok =
-    let parts = and_parts call.ok (is_of id call.id) ok in
-    λ i. record { id = is_its id call.id parts.1 i; bio = call.bio; ok = parts.0 i }
+call_is id call ok = grind (arith, and_parts, is_its)
 
 -- the call that was seen once is of this request, or the request wasn't done just once
 pub done_as : (calls : List Done) (id place : ℕ) (event : CoreEvent) (bio : Bio) (call : Done)
@@ -193,15 +146,7 @@ done_as calls id place event bio call result tells there is = by_cases result
 
     by_cases : (result : Bool) → MatchBool result (bio ≡ call.bio) (bio ≢ call.bio)
         → MatchBool result (IsDoneOnce calls id (Some event)) (IsDoneOnce calls id (Some event) → ⊥)
-    by_cases true one = record {
-      once = tells.0;
-      place = place;
-      bio = bio;
-      submitted = ap (λ (e : CoreEvent). Some e) is;
-      done =
-          there ∙ ap (λ (c : Done). Some c)
-          (call_is id call ok ∙ ap (λ (b : Bio). done_call (Some id) b true) (sym one));
-    }
+    by_cases true one = grind (arith, call_is)
     by_cases false apart = λ d.
         let own : Submit bio ≡ Submit d.bio = let a = d.submitted in cc in
         let bios : bio ≡ d.bio = cc in
@@ -212,4 +157,4 @@ done_as calls id place event bio call result tells there is = by_cases result
         let f : slice_get calls place ≡ Some (done_call (Some id) d.bio true) =
         ap (slice_get calls) at ∙ d.done in
         let same : call ≡ done_call (Some id) d.bio true = cc in
-        apart (bios ∙ sym (ap (λ (c : Done). c.bio) same))
+        apart (bios ∙ sym (rw same))

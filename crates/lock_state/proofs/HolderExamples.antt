@@ -1,7 +1,7 @@
 -- Examples, by computation, that the rule of a keeper and its holders allows, and some that it
 -- doesn't.
 use Rattle.std.proofs.Common.{◌≡◌, ℕ, zero, suc, [], ◌∷◌, Some, None}
-use Rattle.std.proofs.Common.{true≢false, refl, sym, subst, arith}
+use Rattle.std.proofs.Common.{refl, sym, arith}
 use mathlib.Core.Option.{some, some-ne-none, some-injective}
 use lib.ListN.{get_elem?}
 use Rattle.lock_state.specs.declared.holders.rule.Knows.{Knows}
@@ -21,12 +21,8 @@ kept_one = record { place = 0; owner = λ n. 1; all = Some 4 ∷ []; fits = fits
     fits : (by : ℕ) (pass : Knows)
         → get_elem? (keeper_of (Some 4 ∷ []) ∷ holder_of 0 (Some 4) ∷ []) by ≡ some pass
         → Fits 0 (λ n. 1) (Some 4 ∷ []) by pass
-    fits zero pass e =
-        subst (Fits 0 (λ n. 1) (Some 4 ∷ []) 0) (some-injective _ _ e)
-        (record { kept = λ k. (refl, refl); held = λ h. absurd (true≢false (sym h)) })
-    fits (suc zero) pass e =
-        subst (Fits 0 (λ n. 1) (Some 4 ∷ []) 1) (some-injective _ _ e)
-        (record { kept = λ k. absurd (true≢false (sym k)); held = λ h. (refl, refl) })
+    fits zero pass e = grind (arith, some-injective)
+    fits (suc zero) pass e = grind (arith, some-injective)
     fits (suc (suc by)) pass e = absurd (some-ne-none pass (sym e))
 
 -- two keepers

@@ -26,9 +26,7 @@ begins = record { place = 0; owner = λ n. 0; all = []; fits = one }
   where
     one : (by : ℕ) (pass : Knows) → get_elem? (keeper_of [] ∷ []) by ≡ some pass
         → Fits 0 (λ n. 0) [] by pass
-    one zero pass e =
-        subst (Fits 0 (λ n. 0) [] 0) (some-injective _ _ e)
-        (record { kept = λ k. (refl, refl); held = λ h. absurd (off h) })
+    one zero pass e = grind (arith, some-injective)
     one (suc by) pass e = absurd (some-ne-none pass (sym e))
 
 -- one pass changed, and the others fit as they are
@@ -39,12 +37,7 @@ fits_set : (place : ℕ) (owner : ℕ → ℕ) (all : List (Option ℕ)) (passes
     → Fits place owner all by new
     → (j : ℕ) (pass : Knows) → get_elem? (set passes by new) j ≡ some pass
     → Fits place owner all j pass
-fits_set place owner all passes by new others mine j pass e =
-    ⊎_elim
-    (λ (x : (j ≡ by) × (new ≡ pass)). subst (λ (y : ℕ × Knows). Fits place owner all y.0 y.1)
-    (λ i. (sym x.0 i, x.1 i)) mine)
-    (λ (x : (j ≢ by) × (get_elem? passes j ≡ some pass)). others j pass x.0 x.1)
-    (at_set passes by j new pass e)
+fits_set place owner all passes by new others mine j pass e = grind (arith, at_set)
 
 -- one pass more stands at the end
 at_end : (passes : List Knows) (new pass : Knows) (j : ℕ)
@@ -53,8 +46,7 @@ at_end : (passes : List Knows) (new pass : Knows) (j : ℕ)
 at_end [] new pass zero e = inr (refl, some-injective new pass e)
 at_end [] new pass (suc j) e = absurd (some-ne-none pass (sym e))
 at_end (x ∷ xs) new pass zero e = inl e
-at_end (x ∷ xs) new pass (suc j) e =
-    ⊎_elim (λ was. inl was) (λ t. inr (ap suc t.0, t.1)) (at_end xs new pass j e)
+at_end (x ∷ xs) new pass (suc j) e = grind (arith, at_end xs new pass j e)
 
 -- a place is before the end
 before_end : (passes : List Knows) (by : ℕ) (pass : Knows) → get_elem? passes by ≡ some pass
@@ -69,11 +61,11 @@ moved owner number to n = cond (eqb n number) to (owner n)
 
 moved_here : (owner : ℕ → ℕ) (number to : ℕ) → moved owner number to number ≡ to
 unfolding moved
-moved_here owner number to = ap (λ b. cond b to (owner number)) (eq-eqb number number refl)
+moved_here owner number to = grind (arith, eq-eqb)
 
 moved_else : (owner : ℕ → ℕ) (number to n : ℕ) → n ≢ number → moved owner number to n ≡ owner n
 unfolding moved
-moved_else owner number to n apart = ap (λ b. cond b to (owner n)) (ne_eqb n number apart)
+moved_else owner number to n apart = grind (arith, ne_eqb)
 
 pub enrol_keeps : (passes : List Knows) (id : ℕ) (all : List (Option ℕ)) → IsKept passes
     → get_elem? passes id ≡ some (keeper_of all)
@@ -135,7 +127,7 @@ set_keeps passes id all number held new kept there =
             held = λ h. (
               own.0,
               get_set_same all number held new
-                  (ap (λ xs. slice_get xs number) mine.1 ∙ own.1),
+                  (rw mine.1 own.1),
             );
           });
     }
@@ -146,7 +138,7 @@ pub both_agree : (passes : List Knows) (id : ℕ) (all : List (Option ℕ)) (num
 both_agree passes id all number held kept there =
     let mine = (kept.fits id (both_of all number held) there).kept refl in
     let own = (kept.fits id (both_of all number held) there).held refl in
-    ap (λ xs. slice_get xs number) mine.1 ∙ own.1
+    rw mine.1 own.1
 
 -- the holder's part of a pass goes to a new one
 pub split_keeps : (passes : List Knows) (id : ℕ) (pass : Knows) → pass.holds ≡ true → IsKept passes
@@ -237,9 +229,7 @@ pub enrols : (slots id word : ℕ) (f : ℕ → ℕ) (me : Me (Unit {0}) Knows) 
     → Allows Held slots id me word f
     (λ _ after. after ≡ (both_of (me.0.all ++ None ∷ []) (length me.0.all) None, []))
 enrols slots id word f me all is =
-    subst (λ (m : Me (Unit {0}) Knows). Allows Held slots id m word f
-    (λ _ after. after ≡ (both_of (m.0.all ++ None ∷ []) (length m.0.all) None, []))) (sym is)
-    (λ s kept sizes there small. (
+    rw is (λ s kept sizes there small. (
       both_of (all ++ None ∷ []) (length all) None,
       keeps,
       tt,
@@ -251,14 +241,16 @@ pub sets : (slots id word : ℕ) (f : ℕ → ℕ) (me : Me (Unit {0}) Knows) (a
     (number : ℕ) (held new : Option ℕ) → me ≡ (both_of all number held, [])
     → Allows Held slots id me word f (λ _ after. Sets me.0 new after)
 sets slots id word f me all number held new is =
-    subst (λ (m : Me (Unit {0}) Knows). Allows Held slots id m word f
-    (λ _ after. Sets m.0 new after)) (sym is)
-    (λ s kept sizes there small. (
+    rw is (λ s kept sizes there small. (
       both_of (slice_set all number new) number new,
       keeps,
       tt,
       set_keeps s.views id all number held new kept there,
-      (both_agree s.views id all number held kept there, refl),
+      (
+        both_agree s.views id all number
+            held kept there,
+        refl,
+      ),
     ))
 
 pub agrees : (slots id word : ℕ) (me : Me (Unit {0}) Knows) (all : List (Option ℕ)) (number : ℕ)
@@ -266,14 +258,17 @@ pub agrees : (slots id word : ℕ) (me : Me (Unit {0}) Knows) (all : List (Optio
     → Allows Held slots id me word (λ n. n)
     (λ _ after. Agree me.0 × (after ≡ (both_of me.0.all me.0.number me.0.held, [])))
 agrees slots id word me all number held is =
-    subst (λ (m : Me (Unit {0}) Knows). Allows Held slots id m word (λ n. n)
-    (λ _ after. Agree m.0 × (after ≡ (both_of m.0.all m.0.number m.0.held, [])))) (sym is)
-    (λ s kept sizes there small. (
+    rw is (λ s kept sizes there small. (
       both_of all number held,
       keeps,
       tt,
-      subst IsKept (sym (set_again s.views id (both_of all number held) there)) kept,
-      (both_agree s.views id all number held kept there, refl),
+      subst IsKept (sym
+          (set_again s.views id (both_of all number held) there)) kept,
+      (
+        both_agree s.views id all
+            number held kept there,
+        refl,
+      ),
     ))
 
 pub splits : (id : ℕ) (pass : Knows) → pass.holds ≡ true
@@ -283,54 +278,40 @@ splits id pass holding s kept there = split_keeps s.views id pass holding kept t
 pub joins : (id other : ℕ) (pass part : Knows) (all : List (Option ℕ)) (number : ℕ)
     (held : Option ℕ) → pass ≡ keeper_of all → part ≡ holder_of number held
     → Joins Held id pass other part (beside pass part) nobody
-joins id other pass part all number held is his =
-    subst (λ (p : Knows). Joins Held id p other part (beside p part) nobody) (sym is)
-    (subst (λ (p : Knows). Joins Held id (keeper_of all) other p (beside (keeper_of all) p) nobody)
-    (sym his)
-    (λ s kept there apart from. join_keeps s.views id all other number held kept there apart from))
+joins id other pass part all number held is his = grind (arith, join_keeps)
 
 -- what the passes know after each call
 
 pub joined : (before after part : Me (Unit {0}) Knows) (all : List (Option ℕ)) (number : ℕ)
     (held : Option ℕ) → before ≡ (keeper_of all, []) → part ≡ (holder_of number held, [])
     → after ≡ (beside before.0 part.0, before.1) → after ≡ (both_of all number held, [])
-joined before after part all number held is his e =
-    e ∙ ap (λ (m : Me (Unit {0}) Knows × Me (Unit {0}) Knows). (beside m.0.0 m.1.0, m.0.1))
-    (λ i. (is i, his i))
+joined before after part all number held is his e = grind arith
 
 pub parted : (before after part : Me (Unit {0}) Knows) (all : List (Option ℕ)) (number : ℕ)
     (held : Option ℕ) → before ≡ (both_of all number held, [])
     → after ≡ (without before.0, before.1) → part ≡ (part_of before.0, [])
     → (after ≡ (keeper_of all, [])) × (part ≡ (holder_of number held, []))
-parted before after part all number held is e his = (
-  e ∙ ap (λ (m : Me (Unit {0}) Knows). (without m.0, m.1)) is,
-  his ∙ ap (λ (m : Me (Unit {0}) Knows). (part_of m.0, [])) is,
-)
+parted before after part all number held is e his = grind arith
 
 pub lent_is : (mine part : Me (Unit {0}) Knows) (number : ℕ) (held : Option ℕ)
     → mine ≡ (holder_of number held, []) → part ≡ (part_of mine.0, [])
     → part ≡ (holder_of number held, [])
-lent_is mine part number held is e = e ∙ ap (λ (m : Me (Unit {0}) Knows). (part_of m.0, [])) is
+lent_is mine part number held is e = grind arith
 
 pub set_is : (before after : Me (Unit {0}) Knows) (all : List (Option ℕ)) (number : ℕ)
     (held new : Option ℕ) → before ≡ (both_of all number held, []) → Sets before.0 new after
     → (slice_get all number ≡ Some held)
     × (after ≡ (both_of (slice_set all number new) number new, []))
-set_is before after all number held new is told =
-    subst (λ (m : Me (Unit {0}) Knows). Sets m.0 new after) is told
+set_is before after all number held new is told = grind arith
 
 pub same_is : (before after : Me (Unit {0}) Knows) (all : List (Option ℕ)) (number : ℕ)
     (held : Option ℕ) → before ≡ (both_of all number held, [])
     → Agree before.0 × (after ≡ (both_of before.0.all before.0.number before.0.held, []))
     → (slice_get all number ≡ Some held) × (after ≡ (both_of all number held, []))
-same_is before after all number held is told =
-    subst (λ (m : Me (Unit {0}) Knows). Agree m.0
-    × (after ≡ (both_of m.0.all m.0.number m.0.held, []))) is told
+same_is before after all number held is told = grind arith
 
 pub enrolled_is : (before after : Me (Unit {0}) Knows) (all : List (Option ℕ))
     → before ≡ (keeper_of all, [])
     → after ≡ (both_of (before.0.all ++ None ∷ []) (length before.0.all) None, [])
     → after ≡ (both_of (all ++ None ∷ []) (length all) None, [])
-enrolled_is before after all is told =
-    told ∙ ap (λ (m : Me (Unit {0}) Knows).
-    (both_of (m.0.all ++ None ∷ []) (length m.0.all) None, [])) is
+enrolled_is before after all is told = grind arith

@@ -27,7 +27,7 @@ pub record Matched (events : List CoreEvent) (by : List (Option ℕ)) (seat : �
 drop_next : {A : Type 0} (xs : List A) (n : ℕ) (x : A) → slice_get xs n ≡ Some x
     → drop n xs ≡ x ∷ drop (suc n) xs
 drop_next [] n x e = absurd (cc)
-drop_next (y ∷ ys) zero x e = ap (λ z. z ∷ ys) (cc)
+drop_next (y ∷ ys) zero x e = grind arith
 drop_next (y ∷ ys) (suc n) x e = drop_next ys n x e
 
 rest-step : (events : List CoreEvent) (by : List (Option ℕ)) (seat place : ℕ) (event : CoreEvent)
@@ -35,9 +35,7 @@ rest-step : (events : List CoreEvent) (by : List (Option ℕ)) (seat place : ℕ
     → rest_of events by seat place
     ≡ (if is_of seat name then own_at place event ∷ rest_of events by seat
     (suc place) else rest_of events by seat (suc place))
-rest-step events by seat place event name e n =
-    ap (λ (x : List CoreEvent × List (Option ℕ)). of_from place x.0 x.1 seat)
-    (λ i. (drop_next events place event e i, drop_next by place name n i))
+rest-step events by seat place event name e n = grind (arith, drop_next)
 
 pub matched-other : (events : List CoreEvent) (by : List (Option ℕ)) (seat : ℕ) (list : List Own)
     (place next found : ℕ) (event : CoreEvent) (name : Option ℕ)
@@ -47,11 +45,9 @@ pub matched-other : (events : List CoreEvent) (by : List (Option ℕ)) (seat : �
 matched-other events by seat list place next found event name e n other is matched = record {
   within = matched.within;
   so_far =
-      matched.so_far ∙ ap (λ xs. take found list ++ xs)
-      (rest-step events by seat place event name e n
-      ∙ ap (λ b. if b then own_at place event ∷ rest_of events by seat
-      (suc place) else rest_of events by seat (suc place)) other
-      ∙ ap (rest_of events by seat) (sym is));
+      matched.so_far ∙ rw (rest-step events by seat place event name e n ∙ ap (λ b. if b then
+      own_at place event ∷ rest_of events by seat (suc place) else rest_of events by seat (suc
+      place)) other ∙ ap (rest_of events by seat) (sym is));
 }
 
 rest-own : (events : List CoreEvent) (by : List (Option ℕ)) (seat place : ℕ) (event : CoreEvent)
@@ -59,8 +55,7 @@ rest-own : (events : List CoreEvent) (by : List (Option ℕ)) (seat place : ℕ)
     → is_of seat name ≡ true
     → rest_of events by seat place ≡ own_at place event ∷ rest_of events by seat (suc place)
 rest-own events by seat place event name e n own = rest-step events by seat place event name e n
-    ∙ ap (λ b. if b then own_at place event ∷ rest_of events by seat
-    (suc place) else rest_of events by seat (suc place)) own
+    ∙ rw own
 
 pub matched-own : (events : List CoreEvent) (by : List (Option ℕ)) (seat : ℕ) (list : List Own)
     (place next found more : ℕ) (event : CoreEvent) (name : Option ℕ)
@@ -112,13 +107,13 @@ take_all xs n is = ap (λ k. take k xs) is ∙ whole xs
   where
     whole : {A : Type 0} (xs : List A) → take (length xs) xs ≡ xs
     whole [] = refl
-    whole (x ∷ xs) = ap (λ ys. x ∷ ys) (whole xs)
+    whole (x ∷ xs) = grind (arith, whole xs)
 
 pub take_past : {A : Type 0} (xs : List A) (n : ℕ) → length xs ≤ n → take n xs ≡ xs
 take_past [] zero h = refl
 take_past [] (suc n) h = refl
 take_past (x ∷ xs) zero h = absurd (omega arith)
-take_past (x ∷ xs) (suc n) h = ap (λ ys. x ∷ ys) (take_past xs n (omega arith))
+take_past (x ∷ xs) (suc n) h = grind (arith, take_past xs n (omega arith))
 
 -- the causes that a seat was told, one by one
 pub causes_all : (told : Told) (stop end : Option End) (a b c : Bool)

@@ -1,5 +1,5 @@
 -- Which items the taken list has.
-use Rattle.std.proofs.Common.{inl, inr, ◌≡◌, ◌≢◌, ℕ, zero, suc, ◌<◌, ◌≤◌, Bool, true, false, List}
+use Rattle.std.proofs.Common.{◌≡◌, ◌≢◌, ℕ, zero, suc, ◌<◌, ◌≤◌, Bool, true, false, List}
 use Rattle.std.proofs.Common.{[], ◌∷◌, length, map, take, Option, Some, None, refl, ap, sym, ◌∙◌}
 use Rattle.std.proofs.Common.{arith}
 use Rattle.std.specs.Prelude.{slice_get, IsTrue, MatchBool}
@@ -9,7 +9,6 @@ use Rattle.bio.specs.declared.event.CoreEvent.{CoreEvent}
 use Rattle.bio.specs.Lawful.{is_lawful, is_lawful_sized, is_well_formed}
 use Rattle.pending.specs.QueueEvent.{log_writes_order}
 use Rattle.pending.specs.CompletionList.{IsQueued, Item, completion_list, dm_log_writes, entry_at}
-use Rattle.pending.specs.CompletionList.{own_end}
 use Rattle.pending.specs.CoreState.{CoreState, items_of}
 use Rattle.lock_state.specs.declared.note.Item.{Item as Placed}
 use Rattle.lock_state.specs.Comparison.{IsItem, listed}
@@ -43,12 +42,7 @@ get_taken (x ∷ xs) (suc n) (suc k) item h e = get_taken xs n k item (omega ari
 -- what was queued stands in the history
 queued_within : (events : List CoreEvent) (id event end : ℕ)
     → IsQueued log_writes_order events id event end → id < length events
-queued_within events id event end queued = elim (cases_lt id (length events)) [
-  | inl within ↦ within
-  | inr past ↦
-      absurd (let none : None ≡ Some end = sym
-      (ap (own_end events id) (slice_get_past events id past)) ∙ queued.ends in cc)
-]
+queued_within events id event end queued = grind (arith, cases_lt, slice_get_past)
 
 -- What was taken as number k.
 pub record IsTaken (core : CoreState) (taken : List ℕ) (k : ℕ) : Type 0 where
@@ -72,8 +66,7 @@ taken_as sectors bytes core taken k only lawful within took below =
       item = there.0;
       listed_there = there.1;
       noted =
-          ap (λ (xs : List ℕ). slice_get xs k) took
-          ∙ get_taken (items_of core) core.taken k there.0 below there.1;
+          rw took (get_taken (items_of core) core.taken k there.0 below there.1);
       entry_is = said.0;
       within = queued_within core.events there.0.0 said.1.0 said.1.1 said.1.2;
     }
@@ -105,6 +98,6 @@ taken_match bytes core taken k id event result item size is there stands = by_ca
     by_cases false apart = λ e.
         let one : is.item ≡ listed item = let a = is.listed_there in cc in
         apart (record {
-          id = sym (ap (λ (x : Item). x.0) one) ∙ same_id;
-          entry = sym (ap (λ (x : Item). x.1) one) ∙ entry;
+          id = sym (rw one) ∙ same_id;
+          entry = sym (rw one) ∙ entry;
         })

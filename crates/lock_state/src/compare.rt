@@ -203,6 +203,7 @@ fn may_be_reported(told: bool, cause: End, stop: Option<End>, end: Option<End>) 
 }
 
 /// Returns whether each cause that was reported to a seat is `stop` or `end`.
+#[tactic(auto, using(crate::proofs::SeatList::causes_all))]
 pub fn are_causes(told: &Told, stop: Option<End>, end: Option<End>) -> bool
     ensures { MatchBool result (AreCauses told.now stop end) (AreCauses told.now stop end → ⊥) }
 {

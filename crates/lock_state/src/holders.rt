@@ -97,6 +97,7 @@ impl<W: Whose> Model for Holder<W> {
 
 impl Fresh {
     /// Returns a keeper without holders, or `Err` if memory runs out.
+    #[tactic(auto, using(crate::proofs::HolderMoves::begins))]
     pub fn new(alloc: Global) -> Result<Fresh, AllocError> {
         let (board, pass) = Board::of_words(alloc, &[0], &())?;
         Ok(Fresh { board, pass })

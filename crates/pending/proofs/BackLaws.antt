@@ -33,7 +33,7 @@ around : (row : ℕ) (rows : List ℕ) → 0 < times row rows
     → (front : List ℕ) × (back : List ℕ) × (rows ≡ front ++ row ∷ back)
 around row [] some = absurd (omega arith)
 around row (x ∷ xs) some = elim (cases_eq x row) [
-  | inl same ↦ ([], xs, ap (λ y. y ∷ xs) same)
+  | inl same ↦ ([], xs, rw same)
   | inr other ↦
       let rest = around row xs (let e = times-other row x xs other in omega arith) in
       (x ∷ rest.0, rest.1, ap (λ ys. x ∷ ys) rest.2)
@@ -52,17 +52,12 @@ ring-before next last rows front row back ring is leads few =
   where
     ends : (xs : List ℕ) (x : ℕ) → Leads next x xs last → 0 < times last (x ∷ xs)
     ends [] x way = omega (arith, times-same last x [] way)
-    ends (y ∷ ys) x way = elim (cases_eq x last) [
-      | inl same ↦ omega (arith, times-same last x (y ∷ ys) same)
-      | inr other ↦ omega (arith, times-other last x (y ∷ ys) other, ends ys y way.1)
-    ]
+    ends (y ∷ ys) x way = grind (arith, ends ys y way.1, cases_eq, times-same, times-other)
 
     by_back : (front back : List ℕ) → Leads next last (front ++ row ∷ back) last
         → times last (front ++ row ∷ back) ≤ 1
         → ((front ≡ []) × (back ≡ [])) ⊎ (back ≡ last ∷ [])
-    by_back front (b ∷ []) way once =
-        let rest = leads-back next last front row (b ∷ []) last way in
-        inr (ap (λ y. y ∷ []) (sym rest.0 ∙ leads))
+    by_back front (b ∷ []) way once = grind (arith, leads-back)
     by_back front (b ∷ y ∷ ys) way once = absurd (
         let rest = leads-back next last front row (b ∷ y ∷ ys) last way in
         let first = times-same last b (y ∷ ys) (sym rest.0 ∙ leads) in
@@ -75,34 +70,15 @@ ring-before next last rows front row back ring is leads few =
               let e = times-other last row (b ∷ y ∷ ys) other in omega arith
         ])
     by_back [] [] way once = inl (refl, refl)
-    by_back (f ∷ fs) [] way once = absurd (
-        let rest = leads-back next last (f ∷ fs) row [] last way in
-        let first : f ≡ last = sym way.0 ∙ ap (after next) (sym rest) ∙ leads in
-        let here = times-same last f (fs ++ row ∷ []) first in
-        let apart = times-append last fs (row ∷ []) in
-        let end = times-same last row [] rest in
-        omega arith)
+    by_back (f ∷ fs) [] way once = grind (arith, leads-back, times-same, times-append)
 
 -- If a row is in a ring, its link leads to a row of this ring.
 ring-closed : (next : List ℕ) (last : ℕ) (front : List ℕ) (row : ℕ) (back : List ℕ)
     → Leads next last (front ++ row ∷ back) last
     → 0 < times (after next row) (front ++ row ∷ back)
-ring-closed next last front row (b ∷ bs) way =
-    let rest = leads-back next last front row (b ∷ bs) last way in
-    let to = after next row in
-    omega (
-      arith,
-      times-append to front (row ∷ b ∷ bs),
-      times-append to (row ∷ []) (b ∷ bs),
-      times-same to b bs (sym rest.0),
-    )
-ring-closed next last [] row [] way =
-    let same : row ≡ after next row = sym way.0 ∙ ap (after next) (sym way.1) in
-    omega (arith, times-same (after next row) row [] same)
-ring-closed next last (f ∷ fs) row [] way =
-    let rest = leads-back next last (f ∷ fs) row [] last way in
-    let same : f ≡ after next row = sym way.0 ∙ ap (after next) (sym rest) in
-    omega (arith, times-same (after next row) f (fs ++ row ∷ []) same)
+ring-closed next last front row (b ∷ bs) way = grind (arith, leads-back, times-append, times-same)
+ring-closed next last [] row [] way = grind (arith, times-same)
+ring-closed next last (f ∷ fs) row [] way = grind (arith, leads-back, times-same)
 
 -- If a row is in a chain, its link leads to a row of this chain.
 chain-closed : {next : List ℕ} {lasts : List (Option ℕ)} {chains : List (List ℕ)}
@@ -144,15 +120,9 @@ row-of {next} {lasts} {chains} h chain last row noted small leads =
 -- If links lead along some rows to a row, the link of one of them leads to this row.
 way-end : (next : List ℕ) (from row : ℕ) (rows : List ℕ) (to : ℕ) → Leads next from (row ∷ rows) to
     → (x : ℕ) × (after next x ≡ to) × (0 < times x (from ∷ row ∷ rows))
-way-end next from row [] to way =
-    (from, way.0 ∙ way.1, omega (arith, times-same from from (row ∷ []) refl))
+way-end next from row [] to way = grind (arith, times-same)
 way-end next from row (other ∷ rows) to way =
-    let rest = way-end next row other rows to way.1 in (
-      rest.0,
-      rest.1,
-      let some = rest.2 in
-          omega (arith, times-append rest.0 (from ∷ []) (row ∷ other ∷ rows)),
-    )
+    grind (arith, way-end next row other rows to way.1, times-append)
 
 -- For each chain that has a last row, the link of some row leads to this last row.
 pub before-there : {next : List ℕ} {lasts : List (Option ℕ)} {chains : List (List ℕ)}
@@ -219,13 +189,7 @@ module _ {T : Type 0} where
       → (new : List ℕ) × (drop 1 new ++ take 1 new ≡ chain_in chains chain)
       × IsTable next (set lasts chain (Some row)) rows (set chains chain new)
   back-table {next} {lasts} {rows} {chains} t chain last row shown noted small leads =
-      let back = back-rows t.holds chain last row noted small leads in (
-        back.0,
-        back.1,
-        table-kept t next (set lasts chain (Some row)) (set chains chain back.0) back.2
-            refl (length-set lasts chain (Some row))
-            (in-other chains chain 0 back.0 (λ e. absurd (omega arith))),
-      )
+      grind (arith, back-rows, table-kept, length-set, in-other)
 
   -- what the walk sees after that
   pub back-made : (links : Links) (rows : List (Option T)) (walk : Option Walk) (w : Walk)
@@ -255,8 +219,4 @@ module _ {T : Type 0} where
 pub back-turned : (chains : List (List ℕ)) (chain : ℕ) (new : List ℕ) → chain < length chains
     → drop 1 new ++ take 1 new ≡ chain_in chains chain
     → turned (set chains chain new) chain ≡ chains
-back-turned chains chain new within is =
-    ap (λ xs. set (set chains chain new) chain (drop 1 xs ++ take 1 xs))
-    (in-put chains chain new within)
-    ∙ set-set chains chain new (drop 1 new ++ take 1 new)
-    ∙ ap (λ xs. set chains chain xs) is ∙ set-get_or chains chain []
+back-turned chains chain new within is = grind (arith, in-put, set-set, set-get_or)

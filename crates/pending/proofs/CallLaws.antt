@@ -33,8 +33,7 @@ on-some (Some x) P p = p
 seen-free : (lasts : List (Option ℕ)) (walk : Option Walk) → IsWalk lasts walk
     → last_in (seen_lasts lasts walk) 0 ≡ last_in lasts 0
 seen-free lasts None walks = refl
-seen-free lasts (Some walk) walks =
-    let some = walks.0 in get_or-set_other lasts walk.chain 0 walk.at None (λ e. absurd (omega arith))
+seen-free lasts (Some walk) walks = grind (arith, get_or-set_other)
 
 -- If the test `is_some` fails, there is no value.
 not-some : (found : Option ℕ) → is_some found ≡ false → found ≡ None
@@ -45,10 +44,7 @@ not-some (Some x) none = cc
 -- has this value.
 pub begun-filled : {X : Type 0} (chains : List (List X)) (chain : ℕ) (x : X) → chain ≡ length chains
     → lengthened (chains ++ [] ∷ []) chain x ≡ chains ++ (x ∷ []) ∷ []
-begun-filled chains chain x is =
-    ap (λ xs. set (chains ++ [] ∷ []) chain (xs ++ x ∷ []))
-    (get_or_at chains [] [] [] chain (sym is))
-    ∙ set_at chains [] [] (x ∷ []) chain (sym is)
+begun-filled chains chain x is = grind (arith, get_or_at, set_at)
 
 -- Each element of a list of defaults is the default.
 pub default-in : {X : Type 0} (n i : ℕ) (d : X) → get_or (replicate n d) i d ≡ d
@@ -63,16 +59,7 @@ sum-none f (suc n) x none = omega (arith, sum_by-cons f x (replicate n x), sum-n
 
 -- Without rows, the links hold n chains without rows.
 pub holds-none : (n : ℕ) → Holds [] (replicate n None) [] (replicate n [])
-holds-none n = record {
-  size = length-replicate n [] ∙ sym (length-replicate n None);
-  each =
-      λ chain. chain-at [] None (last_in (replicate n None) chain) []
-      (chain_in (replicate n []) chain)
-      (sym (default-in n chain None)) (sym (default-in n chain [])) refl;
-  once = λ row less. absurd (omega arith);
-  within = λ row past. let e = sum-none (times row) n [] refl in omega arith;
-  all = let e = sum-none (λ (rows : List ℕ). length rows) n [] refl in omega arith;
-}
+holds-none n = grind (arith, length-replicate, chain-at, default-in, sum-none)
 
 -- The link of a chain's last row leads to the chain's first row.
 pub first-row : {next : List ℕ} {lasts : List (Option ℕ)} {loose : List ℕ} {chains : List (List ℕ)}
@@ -80,14 +67,12 @@ pub first-row : {next : List ℕ} {lasts : List (Option ℕ)} {loose : List ℕ}
     → (chain last row : ℕ) → last_in lasts chain ≡ Some last → row ≡ after next last
     → (rest : List ℕ) × (chain_in chains chain ≡ row ∷ rest)
 first-row {next} {lasts} {loose} {chains} h chain last row noted is =
-    let first = first-of (ring-at h chain last noted) in
-    (first.0, (first.1).is ∙ ap (λ r. r ∷ first.0) (sym is))
+    grind (arith, first-of, ring-at)
 
 -- If a row is put before the first free row, there is one more free row.
 pub longer-free : (chains : List (List ℕ)) (row : ℕ) → 0 < length chains
     → length (chain_in (preceded chains 0 row) 0) ≡ 1 + length (chain_in chains 0)
-longer-free chains row within =
-    let e = ap length (in-put chains 0 (row ∷ chain_in chains 0) within) in omega arith
+longer-free chains row within = grind (arith, in-put)
 
 -- If the first free row is taken out, there is one free row less.
 pub shorter-free : (chains : List (List ℕ))
@@ -96,9 +81,7 @@ shorter-free chains = by_chain (chain_in chains 0) refl
   where
     by_chain : (free : List ℕ) → chain_in chains 0 ≡ free
         → length (chain_in (shortened chains 0) 0) ≡ length (chain_in chains 0) - 1
-    by_chain [] is =
-        ap (λ cs. length (chain_in cs 0)) (nothing-cut chains 0 is) ∙ ap length is
-        ∙ sym (ap (λ rs. length rs - 1) is)
+    by_chain [] is = grind (arith, nothing-cut)
     by_chain (row ∷ free) is =
         let within = there chains 0 (let e = ap length is in omega arith) in
         let cut =
@@ -125,9 +108,8 @@ module _ {T : Type 0} where
       let found = value-there (value_at rows row) (chain-full t chain row shown (omega arith)) in (
         found.0,
         found.1,
-        ap (λ vs. slice_get vs 0)
-            (chain-map (values_of rows) chains chain refl ∙ ap (λ rs. values_of rows rs) is
-            ∙ values-first rows row rest found.0 found.1),
+        rw (chain-map (values_of rows) chains chain refl ∙ ap (λ rs. values_of rows rs) is ∙
+            values-first rows row rest found.0 found.1),
       )
 
   -- a row of a chain is a row of the table
@@ -145,22 +127,13 @@ module _ {T : Type 0} where
   pub chain-noted : {next : List ℕ} {lasts : List (Option ℕ)} {rows : List (Option T)}
       {chains : List (List ℕ)} → IsTable next lasts rows chains
       → (chain : ℕ) → chain < length (map (values_of rows) chains) → chain < length lasts
-  chain-noted {next} {lasts} {rows} {chains} t chain less =
-      let size = (t.holds).size in omega (arith, length-map chains (values_of rows))
+  chain-noted {next} {lasts} {rows} {chains} t chain less = grind (arith, length-map)
 
   -- the loose row of a table may be put to the free rows, or to a chain
   pub loose-open : {next : List ℕ} {lasts : List (Option ℕ)} {rows : List (Option T)} {row : ℕ}
       {chains : List (List ℕ)} → IsOpen next lasts rows row chains
       → (chain : ℕ) → chain < length lasts → IsLoose next lasts chain row
-  loose-open {next} {lasts} {rows} {row} {chains} o chain less = record {
-    lasts = lasts;
-    loose = [];
-    chains = chains;
-    holds = o.holds;
-    same = refl;
-    there = less;
-    within = less;
-  }
+  loose-open {next} {lasts} {rows} {row} {chains} o chain less = grind arith
 
   -- the loose row is a row of the table
   pub open-within : {next : List ℕ} {lasts : List (Option ℕ)} {rows : List (Option T)} {row : ℕ}
@@ -214,8 +187,7 @@ module _ {T : Type 0} where
       → (before free : ℕ) → length rows ≡ max before (before - free + 1) → free ≤ before
       → length (chain_in chains 0) ≡ free - 1
       → length rows ≡ max before (count_in (map (values_of rows) chains))
-  table-rows {next} {lasts} {rows} {chains} t before free grew few less =
-      let count = table-count t in omega arith
+  table-rows {next} {lasts} {rows} {chains} t before free grew few less = grind (arith, table-count)
 
   -- the room for new rows is that of the links and of the values
   pub room-of : {links : Links} {rows : List (Option T)} {walk : Option Walk} → (capacity : ℕ)
@@ -230,10 +202,7 @@ module _ {T : Type 0} where
       → new_rows_room (shown_of links rows capacity walk)
       ≡ (shown_of links rows capacity walk).spare
   all-new {links} {rows} {walk} capacity s none =
-      let last =
-      seen-free links.lasts.items walk s.walks ∙ not-some (last_in links.lasts.items 0) none in
-      let free = ap length (none-at s.table.holds 0 last) in
-      let count = table-count s.table in omega arith
+      grind (arith, seen-free, not-some, none-at, table-count)
 
   -- there are at most as many free rows as rows
   pub free-few : {next : List ℕ} {lasts : List (Option ℕ)} {rows : List (Option T)}
@@ -252,10 +221,7 @@ module _ {T : Type 0} where
       → IsOpen mid.next.items mid.lasts.items (set rows row None) row
       (shortened (seen_chains links walk) chain)
   taken-open {links} {rows} {walk} s rest chain last row shown noted is mid changes step =
-      let t = table-rest s rest in
-      let first = first-row t.holds chain last row noted is in
-      open-taken t mid.next.items mid.lasts.items chain row first.0 shown first.1
-      (step t.holds) changes.rows changes.chains
+      grind (arith, table-rest, first-row, open-taken)
 
   -- the table after the row was put to the free rows
   pub taken-table : {mid : Links} {rows : List (Option T)} {row : ℕ} {chains : List (List ℕ)}
@@ -267,9 +233,7 @@ module _ {T : Type 0} where
       (preceded chains 0 row))
       → IsTable new.next.items new.lasts.items rows (preceded chains 0 row)
   taken-table {mid} {rows} {row} {chains} o new changes noted step =
-      closed-free o new.next.items new.lasts.items
-      (holds-same new.next.items new.next.items new.lasts.items refl noted
-      (step o.holds)) changes.rows changes.chains
+      grind (arith, closed-free, holds-same)
 
   -- the table after the row got a value and was appended to a chain
   pub filled-table : {mid : Links} {rows : List (Option T)} {row : ℕ} {chains : List (List ℕ)}
@@ -280,8 +244,7 @@ module _ {T : Type 0} where
       → IsTable new.next.items new.lasts.items (set rows row (Some value))
       (lengthened chains chain row)
   filled-table {mid} {rows} {row} {chains} o new most chain value shown changes step =
-      closed-filled o new.next.items new.lasts.items chain value shown
-      (step o.holds) changes.rows changes.chains
+      grind (arith, closed-filled)
 
   -- if links lead to the same rows, and the values are equal, the table is as sound as before
   pub sound-same : (links new : Links) (rows other : List (Option T)) (walk : Option Walk)
@@ -330,7 +293,7 @@ module _ {T : Type 0} where
   pub map-none : (rows : List (Option T)) (more : ℕ)
       → map (values_of rows) (replicate more []) ≡ replicate more []
   map-none rows zero = refl
-  map-none rows (suc more) = ap (λ vs. [] ∷ vs) (map-none rows more)
+  map-none rows (suc more) = grind (arith, map-none rows more)
 
   -- a chain has no values if and only if it has no last row
   pub empty-is : {next : List ℕ} {lasts : List (Option ℕ)} {rows : List (Option T)}
@@ -339,11 +302,8 @@ module _ {T : Type 0} where
       → is_some last ≡ not empty
       → empty ≡ (length (values_of rows (chain_in chains chain)) == 0)
   empty-is {next} {lasts} {rows} {chains} t chain None true shown noted there =
-      sym (ap (λ rs. length (values_of rows rs) == 0) (none-at t.holds chain (sym noted)))
+      grind (arith, none-at)
   empty-is {next} {lasts} {rows} {chains} t chain None false shown noted there = cc
   empty-is {next} {lasts} {rows} {chains} t chain (Some last) true shown noted there = cc
   empty-is {next} {lasts} {rows} {chains} t chain (Some last) false shown noted there =
-      let ring = ring-at t.holds chain last (sym noted) in
-      let long = chain-length t chain shown in
-      let some = ring.some in
-      sym (ne_eqb (length (values_of rows (chain_in chains chain))) 0 (λ e. absurd (omega arith)))
+      grind (arith, ring-at, chain-length, ne_eqb)

@@ -1,13 +1,13 @@
 -- Examples that hold, and examples that don't, for: sound cores, the links that a call may change,
 -- the moments to which numbers of entries belong, and events that differ only in their results.
-use Rattle.std.proofs.Common.{◌≡◌, true, false, List, [], ◌∷◌, length, map, replicate, refl, arith}
+use Rattle.std.proofs.Common.{◌≡◌, true, false, List, [], ◌∷◌, map, replicate, refl, arith}
 use Rattle.bio.specs.declared.event.CoreEvent.{CoreEvent}
 use Rattle.bio.specs.declared.event.CoreEvent.TheVariants.{Submit, Complete, Mark, Stop, Close}
 use Rattle.refusals.specs.declared.end.End.TheVariants.{Full}
 use Rattle.bio.specs.declared.request.Bio.TheVariants.{Write, Flush}
 use Rattle.pending.specs.Prefixes.{BelongsTo, queued_by}
 use Rattle.pending.specs.CompletionList.{dm_log_writes}
-use Rattle.pending.specs.CoreState.{CoreState, IsSound, LinksBound, items_of, new_state}
+use Rattle.pending.specs.CoreState.{CoreState, IsSound, LinksBound, new_state}
 use Rattle.pending.specs.CoreState.{queued_between}
 use Rattle.pending.specs.Results.{as_success}
 
@@ -27,9 +27,7 @@ sector_size : IsSound (record new_state { sector_bytes = 100 }) → ⊥
 sector_size told = let size : false ≡ true = told.sector_size in cc
 
 within : IsSound (record new_state { taken = 1 }) → ⊥
-within told =
-    let most = told.within in
-    let none : length (items_of (record new_state { taken = 1 })) ≡ 0 = refl in omega arith
+within told = grind arith
 
 -- nor one that was closed twice, one that goes on after a Stop, or one that was stopped by none
 well_formed : IsSound (record new_state { events = Close ∷ Close ∷ [] }) → ⊥

@@ -1,6 +1,6 @@
 -- A request that is durable at a moment is queued by then. And if a request ended before another
 -- was submitted, it is queued first, if the two overlap or the other has a flush.
-use Rattle.std.proofs.Common.{◌≡◌, ℕ, ◌<◌, ◌≤◌, Bool, true, false, not, ◌&&◌, ◌||◌, Option, Some}
+use Rattle.std.proofs.Common.{◌≡◌, ℕ, ◌<◌, ◌≤◌, Bool, true, false, ◌&&◌, ◌||◌, Option, Some}
 use Rattle.std.proofs.Common.{None, List, [], ◌∷◌, ◌++◌, length, take, drop, refl, ap, sym, ◌∙◌}
 use Rattle.std.proofs.Common.{subst, inl, inr, arith, append-nil, append_assoc, length-append}
 use Rattle.std.proofs.Math.Nat.{eq-or-lt_of_le}
@@ -53,10 +53,8 @@ pub queued-longer : (events : List CoreEvent) (m id p : ℕ)
     → queue_event log_writes_order events id ≡ Some p
 queued-longer events m id p queued =
     is_at-some p (queue_event log_writes_order events id) (
-    ap (λ es. is_at p (queue_event log_writes_order es id)) (sym (take-append-drop m events))
-    ∙ same-longer (take m events) (drop m events) id p (queued-within (take m events) id p queued)
-    ∙ ap (is_at p) queued
-    ∙ eq-eqb p p refl)
+    rw (← take-append-drop m events) (same-longer (take m events) (drop m events) id p
+    (queued-within (take m events) id p queued) ∙ ap (is_at p) queued ∙ eq-eqb p p refl))
 
 -- what they queue before a moment, the beginning up to it queues
 pub queued-shorter : (events : List CoreEvent) (m id p : ℕ) → m ≤ length events → p < m
@@ -73,13 +71,7 @@ queued-shorter events m id p within less queued =
 -- what comes before the moment comes before the Stop
 going-on : (events : List CoreEvent) (moment p : ℕ) → IsMoment events moment → p < moment
     → unless_stopped (first_place is_stop events) (Some p) ≡ Some p
-going-on events moment p safe less = elim (option_cases (first_place is_stop events)) [
-  | inl none ↦ ap (λ stop. unless_stopped stop (Some p)) none
-  | inr some ↦
-      ap (λ stop. unless_stopped stop (Some p)) some.1
-      ∙ ap (λ b. if b then Some p else None)
-      (lt-ltb p some.0 (let later = safe.going some.0 some.1 in omega arith))
-]
+going-on events moment p safe less = grind (arith, option_cases, lt-ltb)
 
 -- what comes no later than what comes before the Stop comes before it
 in-time : (stop : Option ℕ) (first event : ℕ) → unless_stopped stop (Some event) ≡ Some event
@@ -90,8 +82,7 @@ in-time (Some stop) first event e less = by_test (nat_lt event stop) refl e
   where
     by_test : (b : Bool) → nat_lt event stop ≡ b → (if b then Some event else None) ≡ Some event
         → (if nat_lt first stop then Some first else None) ≡ Some first
-    by_test true f e = ap (λ b. if b then Some first else None)
-        (lt-ltb first stop (let before = ltb-true event stop f in omega arith))
+    by_test true f e = grind (arith, lt-ltb, ltb-true)
     by_test false f e = cc
 
 -- The end of a request before the moment, and the request.
@@ -121,8 +112,7 @@ need-found events id end event within less needed =
     λ p. nat_lt end p && log_writes_order events end (slice_get events id) p
     (slice_get events p) in
     let here : test event ≡ true =
-    ap (λ b. b && log_writes_order events end (slice_get events id) event
-    (slice_get events event)) (lt-ltb end event less) ∙ needed in
+    rw (lt-ltb end event less) needed in
     elim (option_cases (first_need log_writes_order events id (Some end))) [
       | inl none ↦ let not_here = first_below-none test (length events) none event within in cc
       | inr some ↦
@@ -243,18 +233,8 @@ own-needs : (events : List CoreEvent) (earlier later event : ℕ)
     → (found : IsFound events earlier later)
     → (has_flush found.second || has_fua found.second) ≡ true
     → is_needed_by events found.end found.first event later found.second ≡ true
-own-needs events earlier later event found own = elim found.why [
-  | inr flush ↦
-      needed-flush events found.end found.first event later found.second flush found.before
-  | inl overlap ↦ elim (bool_cases (has_flush found.second)) [
-    | inl flush ↦
-        needed-flush events found.end found.first event later found.second flush found.before
-    | inr other ↦
-        let fua = ap (λ b. b || has_fua found.second) (sym other) ∙ own in
-        needed-linked events found.end found.first event later found.second fua
-        (linked-here events found.second event event found.end found.first overlap)
-  ]
-]
+own-needs events earlier later event found own =
+    grind (arith, needed-flush, bool_cases, needed-linked, linked-here)
 
 -- what a request finds is needed by the event that queues it
 found-needed : (events : List CoreEvent) (earlier later end event : ℕ)
@@ -270,8 +250,7 @@ found-needed events earlier later end event found ends queued =
       | inl own ↦
           let by_own : Some end ≡ Some event =
           sym ends ∙ sym
-          (ap (λ b. if b then end_of events later else first_need log_writes_order events later
-          (end_of events later)) own) ∙ of_second in
+          (rw own) ∙ of_second in
           let same : end ≡ event = cc in
           let P : ℕ → Type 0 =
           λ e. (log_writes_order events found.end (Some (Submit found.first)) e
@@ -291,8 +270,7 @@ found-needed events earlier later end event found ends queued =
       | inr plain ↦
           let need : first_need log_writes_order events later (Some end) ≡ Some event =
           sym (ap (first_need log_writes_order events later) ends)
-          ∙ sym (ap (λ b. if b then end_of events later else first_need log_writes_order events
-          later (end_of events later)) plain)
+          ∙ sym (rw plain)
           ∙ of_second in
           let first =
           first_below-found (λ p. nat_lt end p
@@ -311,7 +289,7 @@ found-needed events earlier later end event found ends queued =
                   ends = there.2.1;
                   earlier = there.1;
                   submitted = found.second_is;
-                  plain = ap (λ b. not b) plain;
+                  plain = rw plain;
                 })
                 rises after (meets plain found.why)
                 (ap (λ s. log_writes_order events end s event (slice_get events event))
@@ -324,8 +302,7 @@ found-needed events earlier later end event found ends queued =
         → (overlaps found.first found.second ≡ true) ⊎ (has_flush found.second ≡ true)
         → overlaps found.first found.second ≡ true
     meets plain (inl overlap) = overlap
-    meets plain (inr flush) = absurd (let own = ap (λ b. b || has_fua found.second) flush in
-        let contra : true ≡ false = sym own ∙ plain in cc)
+    meets plain (inr flush) = grind arith
 
 -- What a queued request finds is queued by the same event or before it.
 pub found-queued : (events : List CoreEvent) (earlier later event : ℕ)

@@ -16,11 +16,7 @@ pub way-found : (next : List ℕ) (from row : ℕ) (rows : List ℕ) (last steps
     → times last (row ∷ rows) ≤ 1 → length (row ∷ rows) ≤ steps
     → row ∷ rows ≡ rows_from next last steps from
 way-found next from row rows last zero leads few long = absurd (omega arith)
-way-found next from row [] last (suc steps) leads few long =
-    let here = leads.0 in
-    let end = eq-eqb (after next from) last (here ∙ leads.1) in
-    ap (λ r. r ∷ []) (sym here)
-    ∙ sym (ap (λ b. after next from ∷ cond b [] (rows_from next last steps (after next from))) end)
+way-found next from row [] last (suc steps) leads few long = grind (arith, eq-eqb)
 way-found next from row (other ∷ rows) last (suc steps) leads few long =
     let here = leads.0 in
     let end = leads-end next row other rows last leads.1 in
@@ -40,16 +36,14 @@ pub ring-found : (next : List ℕ) (last : ℕ) (rows : List ℕ) (steps : ℕ) 
     → times last rows ≤ 1 → length rows ≤ steps
     → rows ≡ rows_from next last steps last
 ring-found next last [] steps ring few long = absurd (let some = ring.some in omega arith)
-ring-found next last (row ∷ rows) steps ring few long =
-    way-found next last row rows last steps ring.leads few long
+ring-found next last (row ∷ rows) steps ring few long = grind (arith, way-found)
 
 -- Following the links finds a chain.
 pub chain-found : (next : List ℕ) (last : Option ℕ) (rows : List ℕ) → IsChain next last rows
     → ((row : ℕ) → times row rows ≤ 1)
     → length rows ≤ length next → rows ≡ chain_of next last
 chain-found next None rows chain few long = chain
-chain-found next (Some last) rows chain few long =
-    ring-found next last rows (length next) chain (few last) long
+chain-found next (Some last) rows chain few long = grind (arith, ring-found)
 
 -- Following the links finds each chain.
 pub chains-found : {next : List ℕ} {lasts : List (Option ℕ)} {loose : List ℕ}

@@ -31,52 +31,36 @@ after-grown next row = default-grown next row 0
 pub chain-at : (next : List ℕ) (last other : Option ℕ) (rows same : List ℕ) → last ≡ other
     → rows ≡ same → IsChain next last rows
     → IsChain next other same
-chain-at next last other rows same e d chain =
-    let P : Option ℕ → Type 0 = λ l. IsChain next l rows in
-    let Q : List ℕ → Type 0 = λ rs. IsChain next other rs in
-    subst Q d (subst P e chain)
+chain-at next last other rows same e d chain = grind arith
 
 -- If a chain has a last row, the chain exists.
 pub last-there : (lasts : List (Option ℕ)) (chain last : ℕ) → last_in lasts chain ≡ Some last
     → chain < length lasts
-last-there lasts chain last is = elim (cases_lt chain (length lasts)) [
-  | inl less ↦ less
-  | inr past ↦ absurd (let e = get_or_past lasts chain None past in cc)
-]
+last-there lasts chain last is = grind (arith, cases_lt, get_or_past)
 
 -- If a chain has a last row, it is a ring.
 pub ring-at : {next : List ℕ} {lasts : List (Option ℕ)} {loose : List ℕ} {chains : List (List ℕ)}
     → Holds next lasts loose chains
     → (chain last : ℕ) → last_in lasts chain ≡ Some last → IsRing next last (chain_in chains chain)
-ring-at {next} {lasts} {loose} {chains} h chain last is =
-    chain-at next (last_in lasts chain) (Some last) (chain_in chains chain)
-    (chain_in chains chain) is refl (h.each chain)
+ring-at {next} {lasts} {loose} {chains} h chain last is = grind (arith, chain-at)
 
 -- If a chain has no last row, it has no rows.
 pub none-at : {next : List ℕ} {lasts : List (Option ℕ)} {loose : List ℕ} {chains : List (List ℕ)}
     → Holds next lasts loose chains
     → (chain : ℕ) → last_in lasts chain ≡ None → chain_in chains chain ≡ []
-none-at {next} {lasts} {loose} {chains} h chain is =
-    chain-at next (last_in lasts chain) None (chain_in chains chain) (chain_in chains chain) is refl
-    (h.each chain)
+none-at {next} {lasts} {loose} {chains} h chain is = grind (arith, chain-at)
 
 -- A row is at most once in all chains and among the loose rows.
 pub holds-few : {next : List ℕ} {lasts : List (Option ℕ)} {loose : List ℕ} {chains : List (List ℕ)}
     → Holds next lasts loose chains
     → (row : ℕ) → times row loose + times_in row chains ≤ 1
-holds-few {next} h row = elim (cases_lt row (length next)) [
-  | inl less ↦ let e = h.once row less in omega arith
-  | inr past ↦ let e = h.within row past in omega arith
-]
+holds-few {next} h row = grind (arith, cases_lt)
 
 -- A row is at most once in a chain and among the loose rows.
 pub few-in : {next : List ℕ} {lasts : List (Option ℕ)} {loose : List ℕ} {chains : List (List ℕ)}
     → Holds next lasts loose chains
     → (chain row : ℕ) → times row loose + times row (chain_in chains chain) ≤ 1
-few-in {next} {lasts} {loose} {chains} h chain row =
-    let few = holds-few h row in
-    let part = one-of (times row) chains chain [] refl in
-    omega arith
+few-in {next} {lasts} {loose} {chains} h chain row = grind (arith, holds-few, one-of)
 
 -- A row is at most once in two chains.
 pub few-in-two : {next : List ℕ} {lasts : List (Option ℕ)} {loose : List ℕ} {chains : List (List ℕ)}
@@ -84,21 +68,13 @@ pub few-in-two : {next : List ℕ} {lasts : List (Option ℕ)} {loose : List ℕ
     → (chain other row : ℕ) → chain ≢ other
     → times row loose + times row (chain_in chains chain) + times row (chain_in chains other) ≤ 1
 few-in-two {next} {lasts} {loose} {chains} h chain other row apart =
-    let few = holds-few h row in
-    let part = two-of (times row) chains chain other [] refl apart in
-    omega arith
+    grind (arith, holds-few, two-of)
 
 -- A row of a chain, or a loose row, is a row of the links.
 pub is-row : {next : List ℕ} {lasts : List (Option ℕ)} {loose : List ℕ} {chains : List (List ℕ)}
     → Holds next lasts loose chains
     → (chain row : ℕ) → 0 < times row loose + times row (chain_in chains chain) → row < length next
-is-row {next} {lasts} {loose} {chains} h chain row some = elim (cases_lt row (length next)) [
-  | inl less ↦ less
-  | inr past ↦ absurd (
-      let e = h.within row past in
-      let part = one-of (times row) chains chain [] refl in
-      omega arith)
-]
+is-row {next} {lasts} {loose} {chains} h chain row some = grind (arith, cases_lt, one-of)
 
 -- One chain is replaced by another chain. The rows that it loses become loose, and the rows that it
 -- gains were loose.
@@ -114,40 +90,17 @@ pub holds-put : {next : List ℕ} {lasts : List (Option ℕ)} {loose : List ℕ}
     → Holds new (set lasts chain last) left (set chains chain rows)
 holds-put {next} {lasts} {loose}
     {chains} h new left chain last rows less long here others same count =
-    let within : chain < length chains = let e = h.size in omega arith in
-    record {
-      size = length-set chains chain rows ∙ h.size ∙ sym (length-set lasts chain last);
-      each = λ other. elim (cases_eq other chain) [
-        | inl is ↦
-            chain-at new last (last_in (set lasts chain last) other) rows
-            (chain_in (set chains chain rows) other)
-            (sym (get_or-set_same lasts chain last None less)
-            ∙ ap (λ c. last_in (set lasts chain last) c) (sym is))
-            (sym (in-put chains chain rows within)
-            ∙ ap (λ c. chain_in (set chains chain rows) c) (sym is))
-            here
-        | inr apart ↦
-            chain-at new (last_in lasts other) (last_in (set lasts chain last) other)
-            (chain_in chains other) (chain_in (set chains chain rows) other)
-            (sym (get_or-set_other lasts chain other last None apart))
-            (sym (in-other chains chain other rows apart))
-            (others other apart)
-      ];
-      once = λ row small.
-          let e = h.once row (omega arith) in
-          let put = sum-put (times row) chains chain rows within in
-          let counts = same row in
-          omega arith;
-      within = λ row past.
-          let e = h.within row (omega arith) in
-          let put = sum-put (times row) chains chain rows within in
-          let counts = same row in
-          omega arith;
-      all =
-          let e = h.all in
-          let put = sum-put length chains chain rows within in
-          omega arith;
-    }
+    grind (
+      arith,
+      length-set,
+      cases_eq,
+      chain-at,
+      get_or-set_same,
+      in-put,
+      get_or-set_other,
+      in-other,
+      sum-put,
+    )
 
 -- The links hold the chain also if another of its rows counts as the last.
 pub holds-turned : {next : List ℕ} {lasts : List (Option ℕ)} {loose : List ℕ}
@@ -213,9 +166,7 @@ pub record IsFirst (next : List ℕ) (last : ℕ) (rows rest : List ℕ) : Type 
 -- A ring has a first row.
 pub first-of : {next : List ℕ} {last : ℕ} {rows : List ℕ} → IsRing next last rows
     → (rest : List ℕ) × IsFirst next last rows rest
-first-of {next} {last} {rows} ring =
-    let parts = ring-parts next last rows ring in
-    (parts.0, record { is = parts.1; leads = parts.2; behind = ap (λ rs. drop 1 rs) parts.1 })
+first-of {next} {last} {rows} ring = grind (arith, ring-parts)
 
 -- The first row of a chain is a row of the links.
 pub first-is-row : {next : List ℕ} {lasts : List (Option ℕ)} {loose : List ℕ}
@@ -509,7 +460,7 @@ holds-named {next} {lasts} {loose} {chains} two rows h moved chain less there =
     let empty = none-at h chain there in
     let P : List ℕ → Type 0 = λ rs. IsRing next two rs in
     let e : rows ≡ rows ++ chain_in chains chain =
-    sym (ap (λ rs. rows ++ rs) empty ∙ append-nil rows) in
+    sym (rw empty (append-nil rows)) in
     holds-put h next loose chain (Some two) (rows ++ chain_in chains chain) less refl
     (subst P e moved)
     (λ other apart. h.each other)
@@ -520,15 +471,12 @@ holds-named {next} {lasts} {loose} {chains} two rows h moved chain less there =
 pub holds-at : {next : List ℕ} {loose : List ℕ} (lasts other : List (Option ℕ))
     (chains same : List (List ℕ)) → lasts ≡ other → chains ≡ same
     → Holds next lasts loose chains → Holds next other loose same
-holds-at {next} {loose} lasts other chains same e d h =
-    let P : List (Option ℕ) → Type 0 = λ ls. Holds next ls loose chains in
-    let Q : List (List ℕ) → Type 0 = λ cs. Holds next other loose cs in
-    subst Q d (subst P e h)
+holds-at {next} {loose} lasts other chains same e d h = grind arith
 
 -- Writing the last row of a chain that it has already changes nothing.
 pub last-again : (lasts : List (Option ℕ)) (chain : ℕ) (last : Option ℕ)
     → last_in lasts chain ≡ last → set lasts chain last ≡ lasts
-last-again lasts chain last is = ap (λ l. set lasts chain l) (sym is) ∙ set-get_or lasts chain None
+last-again lasts chain last is = grind (arith, set-get_or)
 
 -- One chain is put before another chain that has rows.
 pub holds-fronted : {next : List ℕ} {lasts : List (Option ℕ)} {loose : List ℕ}
@@ -539,12 +487,7 @@ pub holds-fronted : {next : List ℕ} {lasts : List (Option ℕ)} {loose : List 
     (chain_in chains from ++ chain_in (set chains from []) onto)))
     → Holds new noted loose (fronted chains from onto)
 holds-fronted {next} {lasts} {loose} {chains} h from onto apart less new noted step =
-    let e = in-other chains from onto [] (λ d. apart (sym d)) in
-    holds-at noted noted (set (set chains from []) onto
-    (chain_in chains from ++ chain_in (set chains from []) onto))
-    (fronted chains from onto) refl
-    (ap (λ rows. set (set chains from []) onto (chain_in chains from ++ rows)) e)
-    (step (holds-loosened h from less))
+    grind (arith, in-other, holds-at, holds-loosened)
 
 -- If one chain is put before another, and its last row then counts as the last, it comes after the
 -- other.
@@ -596,16 +539,12 @@ holds-lengthened new noted loose chains chain row less h =
 pub holds-same : {lasts : List (Option ℕ)} {loose : List ℕ} {chains : List (List ℕ)}
     (next new : List ℕ) (noted : List (Option ℕ)) → new ≡ next → noted ≡ lasts
     → Holds next lasts loose chains → Holds new noted loose chains
-holds-same {lasts} {loose} {chains} next new noted e d h =
-    let P : List ℕ → Type 0 = λ n. Holds n noted loose chains in
-    let Q : List (Option ℕ) → Type 0 = λ l. Holds next l loose chains in
-    subst P (sym e) (subst Q (sym d) h)
+holds-same {lasts} {loose} {chains} next new noted e d h = grind arith
 
 -- A ring is a ring in equal links too.
 pub ring-same : (next new : List ℕ) (last : ℕ) (rows : List ℕ) → new ≡ next → IsRing next last rows
     → IsRing new last rows
-ring-same next new last rows e ring =
-    let P : List ℕ → Type 0 = λ n. IsRing n last rows in subst P (sym e) ring
+ring-same next new last rows e ring = grind arith
 
 -- One more row, which is in no chain, is loose.
 pub holds-grown : {next : List ℕ} {lasts : List (Option ℕ)} {chains : List (List ℕ)}
@@ -645,16 +584,5 @@ holds-grown {next} {lasts} {chains} h =
 pub holds-more : {next : List ℕ} {lasts : List (Option ℕ)} {loose : List ℕ} {chains : List (List ℕ)}
     → Holds next lasts loose chains
     → Holds next (lasts ++ None ∷ []) loose (chains ++ [] ∷ [])
-holds-more {next} {lasts} {loose} {chains} h = record {
-  size =
-      let e = h.size in
-      omega (arith, length-append lasts (None ∷ []), length-append chains ([] ∷ []));
-  each =
-      λ chain. chain-at next (last_in lasts chain) (last_in (lasts ++ None ∷ []) chain)
-      (chain_in chains chain) (chain_in (chains ++ [] ∷ []) chain)
-      (sym (default-grown lasts chain None)) (sym (default-grown chains chain [])) (h.each chain);
-  once = λ row less. let e = h.once row less in omega (arith, sum_by_push (times row) chains []);
-  within =
-      λ row past. let e = h.within row past in omega (arith, sum_by_push (times row) chains []);
-  all = let e = h.all in omega (arith, sum_by_push length chains []);
-}
+holds-more {next} {lasts} {loose} {chains} h =
+    grind (arith, length-append, chain-at, default-grown, sum_by_push)

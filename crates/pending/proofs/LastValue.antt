@@ -1,8 +1,8 @@
 -- After replaying entries a sector has the value of the last entry that has one for it.
-use Rattle.std.proofs.Common.{◌≡◌, ℕ, zero, suc, ◌*◌, ◌<◌, Option, Some, None, List, [], ◌∷◌, true}
-use Rattle.std.proofs.Common.{length, take, refl, ap, sym, ◌∙◌, inl, inr, arith}
-use Rattle.std.specs.Prelude.{◌⊎◌, slice_get, option_map, unwrap_or}
-use Rattle.bio.specs.Content.{Content, Patch, over, put, sector_of}
+use Rattle.std.proofs.Common.{◌≡◌, ℕ, zero, suc, ◌<◌, Option, Some, None, List, [], ◌∷◌, true}
+use Rattle.std.proofs.Common.{length, take, refl, ap, ◌∙◌, inl, inr, arith}
+use Rattle.std.specs.Prelude.{◌⊎◌, slice_get, unwrap_or}
+use Rattle.bio.specs.Content.{Content, Patch, over, put}
 use Rattle.bio.specs.ContentLaws.{over_cases}
 use Rattle.bio.specs.PlaceLaws.{all_below-each, option_cases, slice_get-within}
 use Rattle.bio.specs.declared.event.CoreEvent.{CoreEvent}
@@ -10,7 +10,7 @@ use Rattle.bio.specs.declared.event.CoreEvent.TheVariants.{Submit, Complete, Mar
 use Rattle.bio.specs.Lawful.{all_aligned, submits_aligned}
 use Rattle.bio.specs.Possible.{values_at}
 use Rattle.log_format.specs.declared.entry.Entry.{Entry}
-use Rattle.log_format.specs.Entries.{is_sector_size, kind_of, sectors_per}
+use Rattle.log_format.specs.Entries.{is_sector_size, kind_of}
 use Rattle.log_format.specs.AlignmentLaws.{entries_keep_values}
 use Rattle.log_format.specs.Replay.{kind_values, replay}
 use Rattle.pending.specs.CompletionList.{Item, entry_at}
@@ -50,7 +50,7 @@ last-value size (e ∷ es) sector first =
       })
       | inl none ↦ elim (option_cases (entry_values size e sector)) [
         | inl nothing_here ↦ inl (
-          none.0 ∙ ap (λ v. unwrap_or v (first sector)) nothing_here,
+          none.0 ∙ rw nothing_here,
           λ k entry there. first_too k entry there nothing_here none.1,
         )
         | inr some ↦ inr (record {
@@ -58,8 +58,7 @@ last-value size (e ∷ es) sector first =
           entry = e;
           is = refl;
           value =
-              some.1 ∙ ap (λ v. Some v)
-              (sym (none.0 ∙ ap (λ v. unwrap_or v (first sector)) some.1));
+              some.1 ∙ rw (← none.0 ∙ ap (λ v. unwrap_or v (first sector)) some.1);
           after = λ k later less there. rest_only k later less there none.1;
         })
       ]
@@ -75,8 +74,7 @@ last-value size (e ∷ es) sector first =
     first_too : (k : ℕ) (entry : Entry) → slice_get (e ∷ es) k ≡ Some entry
         → entry_values size e sector ≡ None → NoneAt size es sector
         → entry_values size entry sector ≡ None
-    first_too zero entry there here none =
-        let same : e ≡ entry = cc in ap (λ x. entry_values size x sector) (sym same) ∙ here
+    first_too zero entry there here none = grind arith
     first_too (suc k) entry there here none = none k entry there
 
     rest_only : (k : ℕ) (later : Entry) → 0 < k → slice_get (e ∷ es) k ≡ Some later
@@ -87,25 +85,18 @@ last-value size (e ∷ es) sector first =
 -- a range of no sectors has no values
 empty_range : (n first : ℕ) (value : ℕ → List ℕ) (sector : ℕ) → n ≡ 0
     → over first n value sector ≡ None
-empty_range n first value sector none = elim (over_cases first n value sector) [
-  | inl within ↦ absurd (let some = within.1 in omega arith)
-  | inr nothing_here ↦ nothing_here
-]
+empty_range n first value sector none = grind (arith, over_cases)
 
 -- the entry of what an event submits has the values of the request
 pub entry-values : (size : ℕ) (there : Option CoreEvent) (sector : ℕ) → is_sector_size size ≡ true
     → submits_aligned size there ≡ true
     → entry_values size (entry_at size there) sector ≡ values_at there sector
-entry-values size (Some (Submit bio)) sector right aligned =
-    entries_keep_values size bio sector right aligned
-entry-values size (Some (Complete id ok)) sector right aligned =
-    empty_range (0 * sectors_per size) (0 * sectors_per size) (sector_of []) sector (omega arith)
+entry-values size (Some (Submit bio)) sector right aligned = simp (entries_keep_values)
+entry-values size (Some (Complete id ok)) sector right aligned = grind (arith, empty_range)
 entry-values size (Some (Mark text)) sector right aligned = refl
-entry-values size (Some (Stop cause)) sector right aligned =
-    empty_range (0 * sectors_per size) (0 * sectors_per size) (sector_of []) sector (omega arith)
+entry-values size (Some (Stop cause)) sector right aligned = grind (arith, empty_range)
 entry-values size (Some Close) sector right aligned = refl
-entry-values size None sector right aligned =
-    empty_range (0 * sectors_per size) (0 * sectors_per size) (sector_of []) sector (omega arith)
+entry-values size None sector right aligned = grind (arith, empty_range)
 
 -- each request that the events submit is aligned, and what stands at a place submits no other
 pub aligned-at : (size : ℕ) (events : List CoreEvent) (id : ℕ) → all_aligned size events ≡ true
@@ -133,5 +124,5 @@ pub item-entry : (items : List Item) (n k : ℕ) (item : Item) → slice_get ite
     → slice_get (entries_of (take n items)) k ≡ Some item.1
 item-entry items zero k item is less = absurd (omega arith)
 item-entry [] (suc n) k item is less = cc
-item-entry (x ∷ items) (suc n) zero item is less = ap (option_map (λ i. i.1)) is
+item-entry (x ∷ items) (suc n) zero item is less = grind arith
 item-entry (x ∷ items) (suc n) (suc k) item is less = item-entry items n k item is (omega arith)

@@ -1,6 +1,6 @@
 -- Laws of lists of lists: what a chain has after a write, and sums over all chains.
 use Rattle.std.proofs.Common.{◌≡◌, ◌≢◌, ℕ, zero, suc, ◌+◌, ◌<◌, ◌≤◌, List, [], ◌∷◌, length, get_or}
-use Rattle.std.proofs.Common.{set, refl, ap, inl, inr, arith}
+use Rattle.std.proofs.Common.{set, refl, ap, arith}
 use Rattle.std.proofs.lemmas.Bool.{cases_lt}
 use Rattle.std.proofs.lemmas.List.{get_or-set_same, get_or-set_other, get_or_past}
 use Rattle.std.proofs.lemmas.List.Sums.{sum_by-cons, sum_by-set}
@@ -10,10 +10,7 @@ use Rattle.pending.specs.Edits.{chain_in}
 -- If a chain has an element, it exists.
 pub there : {X : Type 0} (chains : List (List X)) (chain : ℕ) → 0 < length (chain_in chains chain)
     → chain < length chains
-there chains chain some = elim (cases_lt chain (length chains)) [
-  | inl less ↦ less
-  | inr past ↦ absurd (let e = ap length (get_or_past chains chain [] past) in omega arith)
-]
+there chains chain some = grind (arith, cases_lt, get_or_past)
 
 -- A term is at most the sum.
 pub one-of : {X : Type 0} (f : X → ℕ) (xs : List X) (i : ℕ) (d : X) → f d ≡ 0

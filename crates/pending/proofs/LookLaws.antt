@@ -115,11 +115,8 @@ module _ {T : Type 0} where
       → IsLook links.next.items rows last at
       × (values_left links.next.items rows last at
       ≡ chain_in (map (values_of rows) (seen_chains links walk)) chain)
-  look-begun {links} {rows} {walk} s chain last None shown noted same = (
-    record { sized = s.table.sized; way = λ row e. cc },
-    sym (chain-map (values_of rows) (seen_chains links walk) chain refl
-        ∙ ap (λ rs. values_of rows rs) (none-at s.table.holds chain (sym noted))),
-  )
+  look-begun {links} {rows} {walk} s chain last None shown noted same =
+      grind (arith, chain-map, none-at)
   look-begun {links} {rows} {walk} s chain last (Some row) shown noted same =
       let t = s.table in
       let chains = seen_chains links walk in

@@ -7,7 +7,7 @@ use Rattle.std.proofs.lemmas.List.{get_or-set_same, get_or-set_other, set-get_or
 use Rattle.std.proofs.lemmas.List.{get_or_past, length-map, map-set}
 use Rattle.pending.specs.Edits.{chain_in, lengthened, preceded, shortened}
 use Rattle.pending.specs.inside.Rings.{times, Holds}
-use Rattle.pending.specs.inside.Tables.{filled, value_at, values_of, with_value, IsOpen, IsTable}
+use Rattle.pending.specs.inside.Tables.{filled, value_at, values_of, IsOpen, IsTable}
 use Rattle.pending.proofs.ListLaws.{in-put, in-other, one-of, there}
 use Rattle.pending.proofs.RingLaws.{times-same, times-other}
 use Rattle.pending.proofs.HoldsLaws.{default-grown, few-in, few-in-two, is-row, holds-grown}
@@ -30,16 +30,13 @@ pub shown-put : {T : Type 0} (rows : List (Option T)) (chains : List (List ℕ))
     → values_of rows other ≡ values_of rows (chain_in chains chain)
     → map (values_of rows) (set chains chain other) ≡ map (values_of rows) chains
 shown-put rows chains chain other same =
-    map-set (values_of rows) chains chain other
-    ∙ ap (λ vs. set (map (values_of rows) chains) chain vs)
-    (same ∙ sym (chain-map (values_of rows) chains chain refl))
-    ∙ set-get_or (map (values_of rows) chains) chain []
+    map-set (values_of rows) chains chain other ∙ rw (same ∙ sym (chain-map (values_of rows)
+    chains chain refl)) (set-get_or (map (values_of rows) chains) chain [])
 
 -- Taking the first value out of an empty chain changes nothing.
 pub nothing-cut : {X : Type 0} (chains : List (List X)) (chain : ℕ) → chain_in chains chain ≡ []
     → shortened chains chain ≡ chains
-nothing-cut chains chain is =
-    ap (λ rs. set chains chain rs) (ap (λ rs. drop 1 rs) is ∙ sym is) ∙ set-get_or chains chain []
+nothing-cut chains chain is = grind (arith, set-get_or)
 
 module _ {T : Type 0} where
   -- a free row has no value
@@ -81,19 +78,7 @@ module _ {T : Type 0} where
       → length noted ≡ length lasts
       → IsOpen new noted rows row (shortened chains 0)
   open-free {next} {lasts} {rows} {chains} t new noted row rest is h long as_many =
-      let within : 0 < length chains = there chains 0 (let e = ap length is in omega arith) in
-      record {
-        holds = h;
-        sized = t.sized ∙ sym long;
-        free = let f = t.free in omega arith;
-        full = λ r less.
-            let f = t.full r less in
-            let e = ap (times r) is in
-            let d =
-            ap (times r) (in-put chains 0 (drop 1 (chain_in chains 0)) within
-            ∙ ap (λ rs. drop 1 rs) is) in
-            omega arith;
-      }
+      grind (arith, in-put)
 
   -- a new row is added, which is loose
   pub open-grown : {next : List ℕ} {lasts : List (Option ℕ)} {rows : List (Option T)}
@@ -197,15 +182,14 @@ module _ {T : Type 0} where
       ∙ length-map chains (values_of rows)))
       (λ other. elim (cases_eq other chain) [
         | inl same ↦
-            ap (λ c. values_of (set rows row None) (chain_in (shortened chains chain) c)) same
-            ∙ ap (λ rs. values_of (set rows row None) rs)
-            (in-put chains chain (drop 1 (chain_in chains chain)) within ∙ ap (λ rs. drop 1 rs) is)
-            ∙ values-kept rows row None rest (omega arith)
-            ∙ sym (ap (λ vs. drop 1 vs)
-            (ap (λ rs. values_of rows rs) is ∙ values-first rows row rest found.0 found.1))
-            ∙ sym (in-put seen chain (drop 1 (chain_in seen chain)) there_too
-            ∙ ap (λ vs. drop 1 vs) (chain-map (values_of rows) chains chain refl))
-            ∙ ap (λ c. chain_in (shortened seen chain) c) (sym same)
+            rw (
+              same,
+              in-put chains chain (drop 1 (chain_in chains chain)) within ∙ ap (λ rs.
+                  drop 1 rs) is,
+            ) (values-kept rows row None rest (omega arith) ∙ sym (ap (λ vs. drop
+            1 vs) (ap (λ rs. values_of rows rs) is ∙ values-first rows row rest found.0
+            found.1)) ∙ sym (in-put seen chain (drop 1 (chain_in seen chain)) there_too ∙ ap
+            (λ vs. drop 1 vs) (chain-map (values_of rows) chains chain refl)) ∙ rw (← same))
         | inr apart ↦
             let two = few-in-two t.holds chain other row (λ e. apart (sym e)) in
             ap (λ rs. values_of (set rows row None) rs)
@@ -222,16 +206,7 @@ module _ {T : Type 0} where
       → length new ≡ length next → length noted ≡ length lasts
       → IsTable new noted rows (preceded chains 0 row)
   closed-free {next} {lasts} {rows} {row} {chains} o new noted h long as_many =
-      let within : 0 < length chains = let e = (o.holds).size in let f = o.free in omega arith in
-      record {
-        holds = h;
-        sized = o.sized ∙ sym long;
-        free = let f = o.free in omega arith;
-        full = λ r less.
-            let f = o.full r less in
-            let e = ap (times r) (in-put chains 0 (row ∷ chain_in chains 0) within) in
-            omega arith;
-      }
+      grind (arith, in-put)
 
   -- what is shown doesn't change
   pub shown-closed : {next : List ℕ} {lasts : List (Option ℕ)} {rows : List (Option T)} {row : ℕ}
@@ -244,7 +219,7 @@ module _ {T : Type 0} where
       let full = o.full row small in
       let none = value-none (value_at rows row) (omega arith) in
       shown-put rows chains 0 (row ∷ chain_in chains 0)
-      (ap (λ found. with_value found (values_of rows (chain_in chains 0))) none)
+      (rw none)
 
   -- the loose row gets a value and is appended to a chain
   pub closed-filled : {next : List ℕ} {lasts : List (Option ℕ)} {rows : List (Option T)} {row : ℕ}
@@ -254,33 +229,17 @@ module _ {T : Type 0} where
       → length new ≡ length next → length noted ≡ length lasts
       → IsTable new noted (set rows row (Some value)) (lengthened chains chain row)
   closed-filled {next} {lasts} {rows} {row} {chains} o new noted chain value shown h long as_many =
-      let one = times-same row row [] refl in
-      let small : row < length rows = let r = is-row o.holds 0 row (omega arith) in
-      let e = o.sized in omega arith in
-      record {
-        holds = h;
-        sized = length-set rows row (Some value) ∙ o.sized ∙ sym long;
-        free = let f = o.free in omega arith;
-        full = λ r less.
-            let kept =
-            ap (times r) (in-other chains chain 0 (chain_in chains chain ++ row ∷ [])
-            (λ e. absurd (omega arith))) in
-            let full = o.full r (omega (arith, length-set rows row (Some value))) in
-            elim (cases_eq row r) [
-              | inl same ↦
-                  let one = times-same r row [] same in
-                  let found =
-                  ap filled (ap (λ x. value_at (set rows row (Some value)) x) (sym same)
-                  ∙ get_or-set_same rows row (Some value) None small) in
-                  omega arith
-              | inr apart ↦
-                  let none = times-other r row [] apart in
-                  let other =
-                  ap filled (get_or-set_other rows row r (Some value) None
-                  (λ e. apart (sym e))) in
-                  omega arith
-            ];
-      }
+      grind (
+        arith,
+        times-same,
+        is-row,
+        length-set,
+        in-other,
+        cases_eq,
+        get_or-set_same,
+        times-other,
+        get_or-set_other,
+      )
 
   -- what is shown after that: the chain with the value at its end
   pub shown-filled : {next : List ℕ} {lasts : List (Option ℕ)} {rows : List (Option T)} {row : ℕ}
@@ -305,20 +264,17 @@ module _ {T : Type 0} where
       let kept = values-kept rows row (Some value) (chain_in chains other) (omega arith) in
       elim (cases_eq other chain) [
         | inl same ↦
-            ap (λ c. values_of new (chain_in (lengthened chains chain row) c)) same
-            ∙ ap (λ rs. values_of new rs) (in-put chains chain longer within)
-            ∙ values-append new (chain_in chains chain) (row ∷ [])
-            ∙ ap (λ vs. vs ++ values_of new (row ∷ []))
-            (ap (λ c. values_of new (chain_in chains c)) (sym same) ∙ kept
-            ∙ ap (λ c. values_of rows (chain_in chains c)) same)
-            ∙ ap (λ vs. values_of rows (chain_in chains chain) ++ vs)
-            (values-first new row [] value (get_or-set_same rows row (Some value) None small))
-            ∙ sym (in-put seen chain (chain_in seen chain ++ value ∷ []) there_too
-            ∙ ap (λ vs. vs ++ value ∷ []) (chain-map (values_of rows) chains chain refl))
-            ∙ ap (λ c. chain_in (lengthened seen chain value) c) (sym same)
+            rw (same, in-put chains chain longer within) (values-append new (chain_in chains
+            chain) (row ∷ []) ∙ rw (
+              ap (λ c. values_of new (chain_in chains c)) (sym same) ∙
+                  kept ∙ ap (λ c. values_of rows (chain_in chains c)) same,
+              values-first new row []
+                  value (get_or-set_same rows row (Some value) None small),
+            ) (sym (in-put seen chain
+            (chain_in seen chain ++ value ∷ []) there_too ∙ ap (λ vs. vs ++ value ∷ [])
+            (chain-map (values_of rows) chains chain refl)) ∙ rw (← same)))
         | inr apart ↦
-            ap (λ rs. values_of new rs) (in-other chains chain other longer apart)
-            ∙ kept
-            ∙ sym (chain-map (values_of rows) chains other refl)
-            ∙ sym (in-other seen chain other (chain_in seen chain ++ value ∷ []) apart)
+            rw (in-other chains chain other longer apart) (kept ∙ sym (chain-map (values_of rows)
+            chains other refl) ∙ sym (in-other seen chain other (chain_in seen chain ++ value
+            ∷ []) apart))
       ])

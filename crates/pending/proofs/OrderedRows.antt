@@ -9,7 +9,7 @@ use Rattle.bio.specs.declared.request.Bio.{Bio}
 use Rattle.bio.specs.declared.request.Bio.TheVariants.{Write, Flush}
 use Rattle.pending.specs.Chains.{AtFua, Chain, Direct, EndsPlain, IsFirstNeed, IsNeed, Through}
 use Rattle.pending.specs.Moments.{last_moment}
-use Rattle.pending.specs.QueueEvent.{ends_plain, is_linked, log_writes_order}
+use Rattle.pending.specs.QueueEvent.{ends_plain, log_writes_order}
 use Rattle.pending.specs.declared.row.PendingEntry.{PendingEntry}
 use Rattle.pending.specs.inside.Release.{is_beyond, is_taken, kept_from, lies_in, queues_itself}
 use Rattle.pending.specs.inside.Release.{ranges_meet, taken_from}
@@ -45,18 +45,10 @@ chain =
 
 -- not from the write elsewhere, and not from the first where it ended last
 no-chain : Chain linked last 7 1 (wide 9 512) → ⊥
-no-chain told =
-    let is = chain-linked linked last 7 1 (wide 9 512) told in
-    let none : is_linked linked last 7 7 1 (wide 9 512) ≡ false = refl in
-    let contra : true ≡ false = sym is ∙ none in
-    cc
+no-chain told = grind (arith, chain-linked)
 
 too-late : Chain linked last 7 6 (wide 5 1024) → ⊥
-too-late told =
-    let is = chain-linked linked last 7 6 (wide 5 1024) told in
-    let none : is_linked linked last 7 7 6 (wide 5 1024) ≡ false = refl in
-    let contra : true ≡ false = sym is ∙ none in
-    cc
+too-late told = grind (arith, chain-linked)
 
 -- so the end of the FUA write needs it, and no other event before that
 need : IsNeed linked 3 (wide 5 1024) 7

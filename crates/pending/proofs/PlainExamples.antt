@@ -1,8 +1,8 @@
 -- The headline's plain definitions: for each one an example that holds and one that doesn't.
-use Rattle.std.proofs.Common.{◌≡◌, ℕ, zero, suc, ◌+◌, ◌<◌, ◌≤◌, Bool, true, false, Some, List, []}
-use Rattle.std.proofs.Common.{◌∷◌, ◌++◌, ◌||◌, get_or, length, replicate, take, refl, ap, sym}
+use Rattle.std.proofs.Common.{◌≡◌, ℕ, zero, suc, ◌+◌, ◌<◌, Bool, true, false, Some, List, []}
+use Rattle.std.proofs.Common.{◌∷◌, ◌++◌, get_or, length, replicate, take, refl, ap}
 use Rattle.std.proofs.Common.{subst, ◌∙◌, inl, inr, arith}
-use Rattle.std.specs.Prelude.{◌⊎◌, slice_get}
+use Rattle.std.specs.Prelude.{◌⊎◌}
 use Rattle.byteorder.specs.Endian.{little_bytes}
 use Rattle.bio.specs.declared.event.CoreEvent.{CoreEvent}
 use Rattle.bio.specs.declared.event.CoreEvent.TheVariants.{Submit, Complete, Stop, Close}
@@ -10,8 +10,6 @@ use Rattle.refusals.specs.declared.end.End.TheVariants.{Full}
 use Rattle.bio.specs.declared.request.Bio.{Bio}
 use Rattle.bio.specs.declared.request.Bio.TheVariants.{Write, Flush}
 use Rattle.bio.specs.Content.{Content, over, sector_of}
-use Rattle.bio.specs.Events.{submits}
-use Rattle.bio.specs.Requests.{has_flush, has_fua}
 use Rattle.log_format.specs.Replay.{replay}
 use Rattle.pending.specs.PlainLists.{entries_at}
 use Rattle.pending.specs.Plain.{AClose, AMark, AtClose, AtEnd, AtFlush, AtFua, Belongs, Chain}
@@ -28,7 +26,7 @@ abbrev full : ℕ → List ℕ
 full byte = replicate 512 byte
 
 at-place : (n : ℕ) (xs ys : List ℕ) → xs ≡ ys → get_or xs n 0 ≡ get_or ys n 0
-at-place n xs ys same = ap (λ (bytes : List ℕ). get_or bytes n 0) same
+at-place n xs ys same = grind (arith, get_or)
 
 same-byte : (a b : ℕ) → full a ≡ full b → a ≡ b
 same-byte a b same = at-place 0 (full a) (full b) same
@@ -96,8 +94,7 @@ overlap : Overlap plain_write fua_write
 overlap = (5, covers, covers-fua)
 
 overlap-neighbour : Overlap next_write fua_write → ⊥
-overlap-neighbour it =
-    let from : 6 ≤ it.0 = it.1.1.0 in let to : it.0 < 6 = it.2.1.1 in omega arith
+overlap-neighbour it = grind arith
 
 -- Submits: an end submits nothing
 submits-flush : Submits flushed 2 Flush
@@ -130,8 +127,7 @@ durable-early : Durable early 0 → ⊥
 durable-early it = let is : false ≡ true = plain-durable early 0 refl it in cc
 
 flush-early : Flushed early 2 → ⊥
-flush-early it = durable-early
-    (record { bio = plain_write; end = 2; submitted = refl; ended = refl; sure = inr it })
+flush-early it = grind (arith, durable-early)
 
 -- nor is one with FUA that failed
 durable-fua : Durable linked 2
@@ -158,20 +154,14 @@ unflushed-ends id (suc (suc zero)) ok is = cc
 unflushed-ends id (suc (suc (suc end))) ok is = cc
 
 could-lose : CouldHold unflushed zeroes zeroes
-could-lose sector = inl (
-  refl,
-  λ id it. durable-unflushed
-      (subst (λ i. Durable unflushed i) (unflushed-ends id it.0.end true it.0.ended) it.0),
-)
+could-lose sector = grind (arith, durable-unflushed, unflushed-ends)
 
 -- the old value is ruled out after a flush
 flushed-puts : (id : ℕ) (bio : Bio) (value : List ℕ) → Submits flushed id bio → Puts bio 5 value
     → value ≡ full 65
-flushed-puts zero bio value is it =
-    let same : bio ≡ plain_write = cc in (subst (λ b. Puts b 5 value) same it).2
+flushed-puts zero bio value is it = grind arith
 flushed-puts (suc zero) bio value is it = cc
-flushed-puts (suc (suc zero)) bio value is it =
-    let same : bio ≡ Flush = cc in absurd (subst (λ b. Puts b 5 value) same it)
+flushed-puts (suc (suc zero)) bio value is it = grind arith
 flushed-puts (suc (suc (suc zero))) bio value is it = cc
 flushed-puts (suc (suc (suc (suc id)))) bio value is it = cc
 
@@ -187,8 +177,7 @@ linked-puts : (id : ℕ) (bio : Bio) (value : List ℕ) → Submits linked id bi
     → (id ≡ 0) ⊎ (value ≡ full 66)
 linked-puts zero bio value is it = inl refl
 linked-puts (suc zero) bio value is it = cc
-linked-puts (suc (suc zero)) bio value is it =
-    let same : bio ≡ fua_write = cc in inr (subst (λ b. Puts b 5 value) same it).2
+linked-puts (suc (suc zero)) bio value is it = grind arith
 linked-puts (suc (suc (suc zero))) bio value is it = cc
 linked-puts (suc (suc (suc (suc id)))) bio value is it = cc
 
@@ -198,7 +187,7 @@ could-replaced it = elim (it 5) [
   | inr held ↦ elim (linked-puts held.0 held.1 (full 65) held.2 held.3) [
     | inl first ↦
         let ended : Ends linked held.0 1 true =
-        ap (λ i. Some (Complete i true)) (sym first) in
+        rw (← first) in
         held.4 2 1 true kept-fua ended (omega arith)
     | inr same ↦ let byte = same-byte 65 66 same in omega arith
   ]
@@ -209,10 +198,7 @@ chain : Chain linked fua_write 3 1 plain_write
 chain = Direct 1 plain_write overlap
 
 linked-between : (id later : ℕ) (ok : Bool) → Ends linked id later ok → 1 < later → later < 3 → ⊥
-linked-between id later ok is from to =
-    let two : later ≡ 2 = omega arith in
-    let there : Some (Submit fua_write) ≡ Some (Complete id ok) =
-    ap (slice_get linked) (sym two) ∙ is in cc
+linked-between id later ok is from to = grind arith
 
 chain-apart : Chain linked fua_write 3 1 next_write → ⊥
 chain-apart (Direct _ _ meets) = overlap-neighbour meets
@@ -226,10 +212,7 @@ need = AtFlush 2 true Flush refl refl refl (omega arith)
 need-early : Need early 2 plain_write 3 → ⊥
 need-early (AtClose is) = cc
 need-early (AtFlush id ok last ended is flush less) = let same : id ≡ 1 = cc in omega arith
-need-early (AtFua id ok last ended is fua links) =
-    let same : id ≡ 1 = cc in
-    let there : Some (Submit Flush) ≡ Some (Submit last) = ap (slice_get early) (sym same) ∙ is in
-    let none : false ≡ true = ap (submits has_fua) there ∙ fua in cc
+need-early (AtFua id ok last ended is fua links) = grind arith
 
 -- Queues: a write is queued by the flush's end, and not by its own
 no-need : Need flushed 1 plain_write 2 → ⊥
@@ -245,9 +228,7 @@ queues-write = Later 1 3 plain_write true refl refl refl (omega arith) need
 queues-own : (end place : ℕ) → end ≡ place → Queues flushed 0 end place → ⊥
 queues-own end place same (AMark text is) = cc
 queues-own end place same (AClose is) = cc
-queues-own end place same (AtEnd _ bio ok is ended own) =
-    let one : plain_write ≡ bio = cc in
-    let none : false ≡ true = ap (λ b. has_flush b || has_fua b) one ∙ own in cc
+queues-own end place same (AtEnd _ bio ok is ended own) = grind arith
 queues-own end place same (Later _ _ bio ok is ended plain less needs first) = omega arith
 
 -- GoesOn, Queued: logging goes on up to a Stop, and no further
@@ -274,8 +255,7 @@ list-submitted it =
 
 -- Belongs: these ids are neither fewer than were queued, nor more than the next event queues
 belongs : Belongs flushed (0 ∷ 2 ∷ []) 4 2
-belongs = belongs-plain 512 flushed 4 2 refl (omega arith)
-    (record { from = omega arith; to = omega arith })
+belongs = grind (arith, belongs-plain)
 
 belongs-few : Belongs flushed (0 ∷ 2 ∷ []) 4 1 → ⊥
 belongs-few it = let less = it.all 1 2 3 3 refl queued (omega arith) in omega arith
@@ -327,9 +307,7 @@ has_log =
 
 has_log-more : HasLog 512 flushed (0 ∷ 2 ∷ []) 4 (log_disk 3) → ⊥
 unfolding log_disk
-has_log-more log =
-    let count = at-place 16 (take 28 (log_disk 3 0)) (take 28 (log_disk 2 0)) log.super_block in
-    omega arith
+has_log-more log = grind (arith, at-place, log_disk)
 
 -- Replays: the last of two overlapping writes wins, and not the first
 abbrev replayed : Content

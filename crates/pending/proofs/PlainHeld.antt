@@ -1,13 +1,13 @@
 -- The plain definitions of what a device could hold agree with those of the contracts.
-use Rattle.std.proofs.Common.{◌≡◌, ℕ, ◌+◌, ◌-◌, ◌/◌, ◌<◌, ◌≤◌, Bool, true, false, ◌&&◌, ◌||◌}
-use Rattle.std.proofs.Common.{Option, Some, None, List, length, replicate, refl, ap, sym, ◌∙◌, inl, inr, arith}
+use Rattle.std.proofs.Common.{◌≡◌, ℕ, ◌+◌, ◌-◌, ◌<◌, ◌≤◌, Bool, true, false, ◌&&◌, ◌||◌}
+use Rattle.std.proofs.Common.{Option, Some, None, List, length, refl, ap, sym, ◌∙◌, inl, inr, arith}
 use Rattle.std.proofs.lemmas.Bool.{and_parts}
 use Rattle.std.specs.Prelude.{slice_get}
 use Rattle.bio.specs.declared.request.Bio.{Bio}
 use Rattle.bio.specs.declared.request.Bio.TheVariants.{Write, Flush, Discard, Read}
 use Rattle.bio.specs.declared.event.CoreEvent.{CoreEvent}
 use Rattle.bio.specs.declared.event.CoreEvent.TheVariants.{Submit, Complete, Mark, Stop, Close}
-use Rattle.bio.specs.Content.{Content, over, sector_of}
+use Rattle.bio.specs.Content.{Content, over}
 use Rattle.bio.specs.ContentLaws.{over-in, over_cases}
 use Rattle.bio.specs.PlaceLaws.{any_below-at, any_below-some, bool_cases, option_cases, or_cases, or_second}
 use Rattle.bio.specs.PlaceLaws.{slice_get-within}
@@ -17,29 +17,20 @@ use Rattle.bio.specs.EventLaws.{well_formed-end}
 use Rattle.bio.specs.Events.{end_of, is_before, is_flush_submit, submits}
 use Rattle.bio.specs.Lawful.{is_well_formed}
 use Rattle.bio.specs.Requests.{has_fua}
-use Rattle.bio.specs.Possible.{Possible, covers_at, ended_ok, has_kept, is_durable, is_flushed, is_kept}
+use Rattle.bio.specs.Possible.{Possible, ended_ok, has_kept, is_durable, is_flushed, is_kept}
 use Rattle.bio.specs.Possible.{is_replaced, is_success, is_success_at, values_at, values_of}
 use Rattle.pending.specs.Plain.{CouldHold, Durable, Ends, Flushed, Kept, Puts, Submits}
 use Rattle.pending.proofs.Ends.{ends-there, flush_submit-some}
 
 -- two tests that hold
 pub and_holds : (a b : Bool) → a ≡ true → b ≡ true → (a && b) ≡ true
-and_holds a b ha hb = ap (λ x. x && b) ha ∙ hb
+and_holds a b ha hb = grind arith
 
 -- what a range has for a sector
 over-has : (first count : ℕ) (value : ℕ → List ℕ) (sector : ℕ) (v : List ℕ)
     → over first count value sector ≡ Some v
     → (first ≤ sector) × (sector < first + count) × (v ≡ value (sector - first))
-over-has first count value sector v e = elim (over_cases first count value sector) [
-  | inl within ↦
-      let is = within.2 in
-      let less = within.1 in
-      let same : over first count value sector ≡ Some (value within.0) =
-      ap (over first count value) is ∙ over-in first count value within.0 less in
-      let k : within.0 ≡ sector - first = omega arith in
-      let v_is : v ≡ value within.0 = cc in (omega arith, omega arith, v_is ∙ ap value k)
-  | inr none ↦ absurd (let contra : None ≡ Some v = sym none ∙ e in cc)
-]
+over-has first count value sector v e = grind (arith, over_cases, over-in)
 
 has-over : (first count : ℕ) (value : ℕ → List ℕ) (sector : ℕ) → first ≤ sector
     → sector < first + count → over first count value sector ≡ Some (value (sector - first))
@@ -50,21 +41,16 @@ has-over first count value sector low high =
 -- a request puts the value that it has for a sector
 pub puts-values : (bio : Bio) (sector : ℕ) (value : List ℕ) → values_of bio sector ≡ Some value
     → Puts bio sector value
-puts-values (Write first bytes flush fua meta) sector value e =
-    over-has first (length bytes / 512) (sector_of bytes) sector value e
+puts-values (Write first bytes flush fua meta) sector value e = grind (arith, over-has)
 puts-values Flush sector value e = cc
-puts-values (Discard first count) sector value e =
-    over-has first count (λ _. replicate 512 0) sector value e
+puts-values (Discard first count) sector value e = grind (arith, over-has)
 puts-values (Read first count) sector value e = cc
 
 pub values-puts : (bio : Bio) (sector : ℕ) (value : List ℕ) → Puts bio sector value
     → values_of bio sector ≡ Some value
-values-puts (Write first bytes flush fua meta) sector value puts =
-    has-over first (length bytes / 512) (sector_of bytes) sector puts.0 puts.1
-    ∙ ap (λ v. Some v) (sym puts.2)
+values-puts (Write first bytes flush fua meta) sector value puts = grind (arith, has-over)
 values-puts Flush sector value puts = absurd puts
-values-puts (Discard first count) sector value puts =
-    has-over first count (λ _. replicate 512 0) sector puts.0 puts.1 ∙ ap (λ v. Some v) (sym puts.2)
+values-puts (Discard first count) sector value puts = grind (arith, has-over)
 values-puts (Read first count) sector value puts = absurd puts
 
 -- the same of what an event submits
@@ -81,8 +67,7 @@ event-puts None sector value e = cc
 pub puts-event : (events : List CoreEvent) (id : ℕ) (bio : Bio) (sector : ℕ) (value : List ℕ)
     → Submits events id bio → Puts bio sector value
     → values_at (slice_get events id) sector ≡ Some value
-puts-event events id bio sector value is puts =
-    ap (λ e. values_at e sector) is ∙ values-puts bio sector value puts
+puts-event events id bio sector value is puts = grind (arith, values-puts)
 
 -- what an event submits that passes a test
 submits-some : (test : Bio → Bool) (there : Option CoreEvent) → submits test there ≡ true
@@ -105,14 +90,12 @@ ok-ends events id ok = elim (option_cases (end_of events id)) [
       let is = there.2.1 in
       let success : there.2.0 ≡ true =
       sym (ap is_success is) ∙ (sym (ap (is_success_at events) some.1) ∙ ok) in
-      (some.0, some.1, is ∙ ap (λ b. Some (Complete id b)) success)
+      (some.0, some.1, is ∙ rw success)
 ]
 
 ends-ok : (events : List CoreEvent) (id end : ℕ) → is_well_formed events ≡ true
     → Ends events id end true → ended_ok events id ≡ true
-ends-ok events id end well_formed ends =
-    let ended = well_formed-end events end id true well_formed ends in
-    ap (is_success_at events) ended.ends ∙ ap is_success ends
+ends-ok events id end well_formed ends = grind (arith, well_formed-end)
 
 -- a flush
 flushed-after : (events : List CoreEvent) (id end : ℕ) → end_of events id ≡ Some end
@@ -182,7 +165,7 @@ plain-durable events id well_formed durable =
     and_holds (ended_ok events id) (submits has_fua (slice_get events id) || is_flushed events id)
     (ends-ok events id durable.end well_formed durable.ended) (elim durable.sure [
       | inl fua ↦
-          ap (λ b. b || is_flushed events id) (ap (submits has_fua) durable.submitted ∙ fua)
+          rw (ap (submits has_fua) durable.submitted ∙ fua)
       | inr flushed ↦
           or_second (submits has_fua (slice_get events id)) (is_flushed events id)
           (after-flushed events id durable.end well_formed ended.ends flushed)
@@ -192,18 +175,12 @@ plain-durable events id well_formed durable =
 pub kept-plain : (events : List CoreEvent) (sector id : ℕ) → is_well_formed events ≡ true
     → is_kept events sector id ≡ true → Kept events sector id
 kept-plain events sector id well_formed kept =
-    let parts = and_parts (is_durable events id) (covers_at sector (slice_get events id)) kept in
-    let value = covered_value (slice_get events id) sector parts.1 in
-    let puts = event-puts (slice_get events id) sector value.0 value.1 in
-    (durable-plain events id well_formed parts.0, puts.0, puts.1, (value.0, puts.2))
+    grind (arith, and_parts, covered_value, event-puts, durable-plain)
 
 pub plain-kept : (events : List CoreEvent) (sector id : ℕ) → is_well_formed events ≡ true
     → Kept events sector id → is_kept events sector id ≡ true
 plain-kept events sector id well_formed kept =
-    and_holds (is_durable events id) (covers_at sector (slice_get events id))
-    (plain-durable events id well_formed kept.0)
-    (value_covers (slice_get events id) sector kept.3.0
-    (puts-event events id kept.1 sector kept.3.0 kept.2 kept.3.1))
+    grind (arith, and_holds, plain-durable, value_covers, puts-event)
 
 -- it stands among the events
 kept-within : (events : List CoreEvent) (sector id : ℕ) → Kept events sector id → id < length events

@@ -3,7 +3,7 @@ use Rattle.std.proofs.Common.{◌≡◌, ℕ, zero, suc, ◌<◌, Bool, true, fa
 use Rattle.std.proofs.Common.{[], ◌∷◌, length, refl, ap, sym, subst, ◌∙◌, inl, inr, arith}
 use Rattle.std.proofs.Math.Nat.{eq-or-lt_of_le}
 use Rattle.std.proofs.lemmas.Bool.{and_parts, cases_lt, le-ltb, lt-ltb, ltb-true}
-use Rattle.std.specs.Prelude.{◌⊎◌, slice_get, nat_lt, option_map, if◌then◌else◌}
+use Rattle.std.specs.Prelude.{◌⊎◌, slice_get, nat_lt}
 use Rattle.bio.specs.declared.request.Bio.{Bio}
 use Rattle.refusals.specs.declared.end.End.{End}
 use Rattle.bio.specs.declared.event.CoreEvent.{CoreEvent}
@@ -16,7 +16,7 @@ use Rattle.bio.specs.Events.{end_of, first_place, is_stop}
 use Rattle.bio.specs.Lawful.{is_well_formed}
 use Rattle.bio.specs.Requests.{covers, has_flush, has_fua, overlaps}
 use Rattle.pending.specs.Chains as old
-use Rattle.pending.specs.QueueEvent.{first_need, log_writes_order, queue_event, queue_of, unless_stopped}
+use Rattle.pending.specs.QueueEvent.{first_need, log_writes_order, queue_of, unless_stopped}
 use Rattle.pending.specs.CompletionList.{IsQueued, IsQueuedBefore, Item, completion_list, dm_log_writes, entry_at, own_end}
 use Rattle.pending.specs.PlainLists.{ids_of}
 use Rattle.pending.specs.Plain.{AClose, AMark, AtClose, AtEnd, AtFlush, AtFua, Chain, Covers, Direct}
@@ -33,18 +33,13 @@ covers-plain bio sector covered =
     (value.0, puts-values bio sector value.0 value.1)
 
 plain-covers : (bio : Bio) (sector : ℕ) → Covers bio sector → covers bio sector ≡ true
-plain-covers bio sector puts =
-    value_covers (Some (Submit bio)) sector puts.0 (values-puts bio sector puts.0 puts.1)
+plain-covers bio sector puts = grind (arith, value_covers, values-puts)
 
 overlap-plain : (a b : Bio) → overlaps a b ≡ true → Overlap a b
-overlap-plain a b h =
-    let common = (overlaps-common a b).0 h in
-    (common.0, covers-plain a common.0 common.1, covers-plain b common.0 common.2)
+overlap-plain a b h = grind (arith, overlaps-common, covers-plain)
 
 plain-overlap : (a b : Bio) → Overlap a b → overlaps a b ≡ true
-plain-overlap a b common =
-    (overlaps-common a b).1
-    (common.0, plain-covers a common.0 common.1, plain-covers b common.0 common.2)
+plain-overlap a b common = grind (arith, overlaps-common, plain-covers)
 
 not_true : (b : Bool) → not b ≡ true → b ≡ false
 not_true true e = cc
@@ -102,24 +97,16 @@ need-within : (events : List CoreEvent) (end : ℕ) (bio : Bio) (place : ℕ)
 need-within events end bio place (AtClose is) =
     (slice_get-within events place Close is, ap is_stop is)
 need-within events end bio place (AtFlush id ok last is submitted has rises) =
-    (slice_get-within events place (Complete id ok) is, ap is_stop is)
+    grind (arith, slice_get-within)
 need-within events end bio place (AtFua id ok last is submitted has chain) =
-    (slice_get-within events place (Complete id ok) is, ap is_stop is)
+    grind (arith, slice_get-within)
 
 -- where logging goes on
 by_stop : (stop queued : Option ℕ) (p : ℕ) → unless_stopped stop queued ≡ Some p
     → (stop ≡ None) ⊎ ((s : ℕ) × (stop ≡ Some s) × (p < s))
 by_stop None queued p e = inl refl
 by_stop (Some s) None p e = cc
-by_stop (Some s) (Some q) p e = elim (cases_lt q s) [
-  | inl less ↦
-      let same : q ≡ p =
-      let is : Some q ≡ Some p =
-      sym (ap (λ b. if b then Some q else None) (lt-ltb q s less)) ∙ e in cc in
-      inr (s, refl, omega arith)
-  | inr above ↦ absurd (
-      let contra : None ≡ Some p = sym (ap (λ b. if b then Some q else None) (le-ltb q s above)) ∙ e in cc)
-]
+by_stop (Some s) (Some q) p e = grind (arith, cases_lt, lt-ltb, le-ltb)
 
 pub stop-some : (there : Option CoreEvent) → is_stop there ≡ true
     → (cause : End) × (there ≡ Some (Stop cause))
@@ -150,25 +137,8 @@ goes_on-plain events queued p e = λ k cause less is.
 
 plain-goes_on : (events : List CoreEvent) (p : ℕ) → is_stop (slice_get events p) ≡ false
     → GoesOn events p → unless_stopped (first_place is_stop events) (Some p) ≡ Some p
-plain-goes_on events p other goes = elim (option_cases (first_place is_stop events)) [
-  | inl none ↦ ap (λ s. unless_stopped s (Some p)) none
-  | inr some ↦
-      let found = first_below-found (λ place. is_stop (slice_get events place))
-      (length events) some.0 some.1 in
-      let less : p < some.0 = elim (cases_lt p some.0) [
-        | inl less ↦ less
-        | inr above ↦ elim (eq-or-lt_of_le above) [
-          | inl same ↦ absurd (
-              let contra : true ≡ false =
-              sym found.here ∙ (ap (λ k. is_stop (slice_get events k)) same ∙ other) in cc)
-          | inr more ↦
-              let stop = stop-some (slice_get events some.0) found.here in
-              absurd (goes some.0 stop.0 more stop.1)
-        ]
-      ] in
-      ap (λ s. unless_stopped s (Some p)) some.1
-      ∙ ap (λ b. if b then Some p else None) (lt-ltb p some.0 less)
-]
+plain-goes_on events p other goes =
+    grind (arith, option_cases, first_below-found, cases_lt, eq-or-lt_of_le, stop-some, lt-ltb)
 
 or_false : (a b : Bool) → (a || b) ≡ false → (a ≡ false) × (b ≡ false)
 or_false true b e = cc
@@ -309,7 +279,7 @@ item-there (item ∷ items) (suc n) id is = item-there items n id is
 pub there-item : (items : List Item) (n : ℕ) (item : Item) → slice_get items n ≡ Some item
     → slice_get (ids_of items) n ≡ Some item.0
 there-item [] n item is = cc
-there-item (x ∷ items) zero item is = ap (option_map (λ i. i.0)) is
+there-item (x ∷ items) zero item is = grind arith
 there-item (x ∷ items) (suc n) item is = there-item items n item is
 
 -- the ids of the completion list are one in the plain words
@@ -344,22 +314,4 @@ list-plain size events well_formed =
         → IsQueued log_writes_order events a place end
         → IsQueued log_writes_order events b other_place other_end
         → (place < other_place) ⊎ ((place ≡ other_place) × (end < other_end))
-    sorted-of events x y a b end place other_end other_place xa yb order qa qb =
-        let fa = order.first_queued in
-        let fb = order.second_queued in
-        let pa : order.first_event ≡ place =
-        let both : Some order.first_event ≡ Some place =
-        sym fa.queues ∙ (ap (queue_event log_writes_order events) xa ∙ qa.queues) in cc in
-        let pb : order.second_event ≡ other_place =
-        let both : Some order.second_event ≡ Some other_place =
-        sym fb.queues ∙ (ap (queue_event log_writes_order events) yb ∙ qb.queues) in cc in
-        let ea : order.first_end ≡ end =
-        let both : Some order.first_end ≡ Some end =
-        sym fa.ends ∙ (ap (λ i. own_end events i (slice_get events i)) xa ∙ qa.ends) in cc in
-        let eb : order.second_end ≡ other_end =
-        let both : Some order.second_end ≡ Some other_end =
-        sym fb.ends ∙ (ap (λ i. own_end events i (slice_get events i)) yb ∙ qb.ends) in cc in
-        elim order.earlier [
-          | inl less ↦ inl (omega arith)
-          | inr same ↦ let one = same.0 in let less = same.1 in inr (omega arith, omega arith)
-        ]
+    sorted-of events x y a b end place other_end other_place xa yb order qa qb = grind arith

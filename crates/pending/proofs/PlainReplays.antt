@@ -99,7 +99,7 @@ sector-after size events ids first sector right aligned =
           let at = there-entry size events ids last.place last.entry last.is in
           let value =
           sym (entry-values size (slice_get events at.0) sector right (aligned-at size events at.0 aligned))
-          ∙ (ap (λ e. entry_values size e sector) at.2 ∙ last.value) in
+          ∙ (rw at.2 last.value) in
           let puts =
           event-puts (slice_get events at.0) sector
           (replay size (entries_at size events ids) first sector) value in
@@ -141,9 +141,7 @@ entries-are : (size : ℕ) (events : List CoreEvent) (items : List Item)
     → entries_of items ≡ entries_at size events (ids_of items)
 entries-are size events [] each = refl
 entries-are size events (item ∷ items) each =
-    ap (λ e. e ∷ entries_of items) (each 0 item refl)
-    ∙ ap (λ es. entry_at size (slice_get events item.0) ∷ es)
-    (entries-are size events items (λ k i is. each (suc k) i is))
+    rw (each 0 item refl, entries-are size events items (λ k i is. each (suc k) i is))
 
 -- an item of a beginning is one of the list
 pub slice_get-beginning : {A : Type 0} (n k : ℕ) (xs : List A) (x : A) → slice_get (take n xs) k ≡ Some x

@@ -4,7 +4,7 @@ use Rattle.std.proofs.Common.{Some, None, List, length, take, drop, replicate, r
 use Rattle.std.proofs.Common.{inl, inr, arith}
 use Rattle.std.proofs.lemmas.Bool.{and_parts}
 use Rattle.std.proofs.lemmas.List.{length-take, take-append-drop}
-use Rattle.std.specs.Prelude.{slice_get, unwrap_or}
+use Rattle.std.specs.Prelude.{slice_get}
 use Rattle.bio.specs.Content.{Content, over, sector_of}
 use Rattle.bio.specs.ContentLaws.{over-in, over_cases}
 use Rattle.bio.specs.PlaceLaws.{bool_cases, option_cases, first_below-found}
@@ -15,7 +15,7 @@ use Rattle.bio.specs.declared.event.CoreEvent.{CoreEvent}
 use Rattle.bio.specs.declared.event.CoreEvent.TheVariants.{Submit, Complete, Mark, Stop, Close}
 use Rattle.bio.specs.Requests.{covers, has_fua}
 use Rattle.bio.specs.RequestLaws.{covers-parts, covers-within, is_before-end, overlaps-common}
-use Rattle.bio.specs.Events.{end_of, first_place, is_before, is_end_of, is_flush_submit, is_stop}
+use Rattle.bio.specs.Events.{end_of, is_before, is_end_of, is_flush_submit}
 use Rattle.bio.specs.Events.{submits}
 use Rattle.bio.specs.Lawful.{all_aligned, is_well_formed, submits_aligned}
 use Rattle.bio.specs.EventLaws.{length-prefix, slice_get-take}
@@ -42,24 +42,8 @@ use Rattle.pending.proofs.MarkPlaces.{found-longer, well_formed-beginning}
 -- a moment that is no later than the last one
 pub moment-from : (events : List CoreEvent) (moment : ℕ) → is_well_formed events ≡ true
     → moment ≤ last_moment events → IsMoment events moment
-moment-from events moment well_formed last = elim (option_cases (first_place is_stop events)) [
-  | inl none ↦ record {
-    well_formed = well_formed;
-    within = let same = ap (λ found. unwrap_or found (length events)) none in omega arith;
-    going = λ stop found. cc;
-  }
-  | inr some ↦
-      let same : last_moment events ≡ some.0 =
-      ap (λ found. unwrap_or found (length events)) some.1 in
-      let inside =
-      (first_below-found (λ k. is_stop (slice_get events k))
-      (length events) some.0 some.1).within in
-      record {
-        well_formed = well_formed;
-        within = omega arith;
-        going = λ stop found. let one : some.0 ≡ stop = let a = some.1 in cc in omega arith;
-      }
-]
+moment-from events moment well_formed last =
+    grind (arith, option_cases, first_below-found)
 
 -- an event that puts a value in a sector
 covers-some : (there : Option CoreEvent) (sector : ℕ) → covers_at sector there ≡ true
@@ -84,8 +68,8 @@ end-longer : (events : List CoreEvent) (moment id end : ℕ) → moment ≤ leng
 end-longer events moment id end within ends =
     let there = ends-there (take moment events) id end ends in
     let long = length-prefix events moment within in (
-      ap (λ es. end_of es id) (sym (take-append-drop moment events))
-          ∙ found-longer (is_end_of id) (take moment events) (drop moment events) id end ends,
+      rw (← take-append-drop moment events) (found-longer (is_end_of id) (take moment events)
+          (drop moment events) id end ends),
       there.1,
       (let less = there.0 in omega arith),
     )
@@ -223,20 +207,9 @@ item-before events moment id bio event well_formed is queued by_then =
 value-covers : (bio : Bio) (sector : ℕ) (now : List ℕ) → values_of bio sector ≡ Some now
     → covers bio sector ≡ true
 value-covers (bios.Write first bytes flush fua meta) sector now e =
-    elim (over_cases first (length bytes / 512) (sector_of bytes) sector) [
-      | inl within ↦ covers-within (bios.Write first bytes flush fua meta) sector refl
-          (let at = within.2 in omega arith)
-          (let at = within.2 in let less = within.1 in omega arith)
-      | inr none ↦ cc
-    ]
+    grind (arith, over_cases, covers-within)
 value-covers bios.Flush sector now e = cc
-value-covers (bios.Discard first count) sector now e =
-    elim (over_cases first count (λ _. replicate 512 0) sector) [
-      | inl within ↦ covers-within (bios.Discard first count) sector refl
-          (let at = within.2 in omega arith)
-          (let at = within.2 in let less = within.1 in omega arith)
-      | inr none ↦ cc
-    ]
+value-covers (bios.Discard first count) sector now e = grind (arith, over_cases, covers-within)
 value-covers (bios.Read first count) sector now e = cc
 
 -- a request that covers a sector has a value for it
@@ -248,9 +221,7 @@ covers-value (bios.Write first bytes flush fua meta) sector h e =
     ∙ over-in first (length bytes / 512) (sector_of bytes) (sector - first)
     (let low = parts.1 in let high = parts.2 in omega arith) in
     cc
-covers-value bios.Flush sector h e =
-    let parts = covers-parts bios.Flush sector h in
-    let low = parts.1 in let high = parts.2 in omega arith
+covers-value bios.Flush sector h e = grind (arith, covers-parts)
 covers-value (bios.Discard first count) sector h e =
     let parts = covers-parts (bios.Discard first count) sector h in
     let at : sector ≡ first + (sector - first) = let low = parts.1 in omega arith in
@@ -399,7 +370,7 @@ possible-at size events first moment count sector sized well_formed until belong
           by.by_then in
           inr (
             id,
-            ap (λ there. values_at there sector) (slice_get-take events moment id before) ∙ value,
+            rw (slice_get-take events moment id before) value,
             last-unreplaced size events moment count sector id last.place
                 (replay size es first sector) item.0.1 sized safe belongs last item.1 some.0 some.1
                 over,

@@ -1,6 +1,6 @@
 -- Laws of rows in lists, and of links that lead over them.
 use Rattle.std.proofs.Common.{◌≡◌, ◌≢◌, ℕ, ◌+◌, ◌<◌, ◌≤◌, List, [], ◌∷◌, ◌++◌, set, Option, Some}
-use Rattle.std.proofs.Common.{None, refl, ap, sym, ◌∙◌, subst, arith, length-append, cond}
+use Rattle.std.proofs.Common.{None, refl, ap, arith, length-append}
 use Rattle.std.proofs.lemmas.Bool.{eq-eqb, ne_eqb}
 use Rattle.std.proofs.lemmas.List.{get_or-set_other}
 use Rattle.std.specs.Prelude.{is_some, IfSome, true, false}
@@ -9,13 +9,12 @@ use Rattle.pending.specs.inside.Rings.{after, times, Leads, IsRing, IsChain}
 -- If a list begins with a row, this row is in it once more than in the rest.
 pub times-same : (row other : ℕ) (rows : List ℕ) → other ≡ row
     → times row (other ∷ rows) ≡ 1 + times row rows
-times-same row other rows same = ap (λ b. cond b 1 0 + times row rows) (eq-eqb other row same)
+times-same row other rows same = grind (arith, eq-eqb)
 
 -- If a list begins with another row, the row is in it as often as in the rest.
 pub times-other : (row other : ℕ) (rows : List ℕ) → other ≢ row
     → times row (other ∷ rows) ≡ times row rows
-times-other row other rows apart =
-    let e = ap (λ b. cond b 1 0 + times row rows) (ne_eqb other row apart) in omega arith
+times-other row other rows apart = grind (arith, ne_eqb)
 
 -- How often a row is in two lists together.
 pub times-append : (row : ℕ) (xs ys : List ℕ) → times row (xs ++ ys) ≡ times row xs + times row ys
@@ -30,8 +29,7 @@ not-first row other rows none same = absurd (let e = times-same row other rows s
 pub leads-append : (next : List ℕ) (from : ℕ) (xs : List ℕ) (by : ℕ) (ys : List ℕ) (to : ℕ)
     → Leads next from xs by → Leads next by ys to
     → Leads next from (xs ++ ys) to
-leads-append next from [] by ys to first second =
-    let P : ℕ → Type 0 = λ row. Leads next row ys to in subst P (sym first) second
+leads-append next from [] by ys to first second = grind arith
 leads-append next from (x ∷ xs) by ys to first second =
     (first.0, leads-append next x xs by ys to first.1 second)
 
@@ -53,10 +51,10 @@ leads-back next from (x ∷ xs) row ys to leads = leads-back next x xs row ys to
 pub leads-end : (next : List ℕ) (from row : ℕ) (rows : List ℕ) (to : ℕ)
     → Leads next from (row ∷ rows) to
     → (front : List ℕ) × (row ∷ rows ≡ front ++ to ∷ [])
-leads-end next from row [] to leads = ([], ap (λ last. last ∷ []) leads.1)
+leads-end next from row [] to leads = grind arith
 leads-end next from row (other ∷ rows) to leads =
     let rest = leads-end next row other rows to leads.1 in
-    (row ∷ rest.0, ap (λ more. row ∷ more) rest.1)
+    (row ∷ rest.0, rw rest.1)
 
 -- The rows whose links a way follows.
 abbrev pub sources : ℕ → List ℕ → List ℕ
@@ -67,8 +65,7 @@ sources from (row ∷ rows) = from ∷ sources row rows
 pub times-sources : (next : List ℕ) (from : ℕ) (rows : List ℕ) (to row : ℕ)
     → Leads next from rows to
     → times row (sources from rows) + times row (to ∷ []) ≡ times row (from ∷ rows)
-times-sources next from [] to row leads =
-    let e = ap (λ other. times row (other ∷ [])) leads in omega arith
+times-sources next from [] to row leads = grind arith
 times-sources next from (other ∷ rows) to row leads =
     omega (arith, times-sources next other rows to row leads.1)
 
@@ -78,17 +75,12 @@ pub record SameBut (next new : List ℕ) (one two : ℕ) : Type 0 where
 
 -- One link was written.
 pub same-but-one : (next : List ℕ) (row to : ℕ) → SameBut next (set next row to) row row
-same-but-one next row to =
-    record { at = λ other apart _. get_or-set_other next row other to 0 apart }
+same-but-one next row to = grind (arith, get_or-set_other)
 
 -- Two links were written.
 pub same-but-two : (next : List ℕ) (one to two by : ℕ)
     → SameBut next (set (set next one to) two by) one two
-same-but-two next one to two by = record {
-  at =
-      λ other apart away. get_or-set_other (set next one to) two other by 0 away
-      ∙ get_or-set_other next one other to 0 apart;
-}
+same-but-two next one to two by = grind (arith, get_or-set_other)
 
 -- If no link that a way follows was written, it is still a way.
 pub leads-kept : (next new : List ℕ) (from : ℕ) (rows : List ℕ) (to one two : ℕ)
@@ -96,13 +88,7 @@ pub leads-kept : (next new : List ℕ) (from : ℕ) (rows : List ℕ) (to one tw
     → times one (sources from rows) ≡ 0 → times two (sources from rows) ≡ 0 → Leads new from rows to
 leads-kept next new from [] to one two leads same first second = leads
 leads-kept next new from (row ∷ rows) to one two leads same first second =
-    let apart : from ≢ one = not-first one from (sources row rows) first in
-    let away : from ≢ two = not-first two from (sources row rows) second in (
-      same.at from apart away ∙ leads.0,
-      leads-kept next new row rows to one two leads.1 same
-          (omega (arith, times-other one from (sources row rows) apart))
-          (omega (arith, times-other two from (sources row rows) away)),
-    )
+    grind (arith, leads-kept next new row rows to one two leads.1 same, not-first, times-other)
 
 -- If no link of a ring's rows was written, it is still a ring.
 pub ring-kept : (next new : List ℕ) (last : ℕ) (rows : List ℕ) (one two : ℕ) → IsRing next last rows
@@ -123,8 +109,7 @@ pub chain-kept : (next new : List ℕ) (last : Option ℕ) (rows : List ℕ) (on
     → IsChain next last rows → SameBut next new one two
     → times one rows ≡ 0 → times two rows ≡ 0 → IsChain new last rows
 chain-kept next new None rows one two chain same first second = chain
-chain-kept next new (Some last) rows one two chain same first second =
-    ring-kept next new last rows one two chain same first second
+chain-kept next new (Some last) rows one two chain same first second = grind (arith, ring-kept)
 
 -- If a row isn't on a way, the way doesn't follow the row's link.
 pub sources-none : (next : List ℕ) (from : ℕ) (rows : List ℕ) (to row : ℕ) → Leads next from rows to
@@ -154,28 +139,19 @@ last-counts next last (row ∷ rows) ring =
 pub ring-parts : (next : List ℕ) (last : ℕ) (rows : List ℕ) → IsRing next last rows
     → (rest : List ℕ) × (rows ≡ after next last ∷ rest) × Leads next (after next last) rest last
 ring-parts next last [] ring = absurd (let some = ring.some in omega arith)
-ring-parts next last (row ∷ rows) ring =
-    let e = ring.leads.0 in (
-      rows,
-      ap (λ first. first ∷ rows) (sym e),
-      (let P : ℕ → Type 0 = λ first. Leads next first rows last in subst P (sym e) ring.leads.1),
-    )
+ring-parts next last (row ∷ rows) ring = grind arith
 
 -- A ring is a ring also if another of its rows counts as the last.
 pub ring-turned : (next : List ℕ) (last : ℕ) (front : List ℕ) (row : ℕ) (back : List ℕ)
     → IsRing next last (front ++ row ∷ back)
     → IsRing next row (back ++ (front ++ row ∷ []))
-ring-turned next last front row back ring = record {
-  leads = leads-append next row back last (front ++ row ∷ []) row
-      (leads-back next last front row back last ring.leads)
-      (leads-front next last front row back last ring.leads);
-  some = simp (length-append) (omega arith);
-}
+ring-turned next last front row back ring =
+    grind (arith, leads-append, leads-back, leads-front, length-append)
 
 -- If a row was found, and it equals `row`, then `row` was found.
 pub some-of : (found : Option ℕ) (row : ℕ) → is_some found ≡ true
     → IfSome found (λ other. other ≡ row) → found ≡ Some row
-some-of (Some other) row there same = ap (λ r. Some r) same
+some-of (Some other) row there same = grind arith
 some-of None row there same = cc
 
 -- If the test `is_some` fails, no row was found.

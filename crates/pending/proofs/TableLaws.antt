@@ -1,12 +1,12 @@
 -- How the calls change the table.
-use Rattle.std.proofs.Common.{◌≡◌, ℕ, ◌<◌, List, [], length, set, Option, Some, None, refl, ap, sym}
-use Rattle.std.proofs.Common.{◌∙◌, subst, arith, length-append, ◌++◌, ◌∷◌}
+use Rattle.std.proofs.Common.{◌≡◌, ℕ, ◌<◌, List, [], length, set, Option, Some, None, refl, sym}
+use Rattle.std.proofs.Common.{arith, length-append, ◌++◌, ◌∷◌}
 use Rattle.std.proofs.lemmas.List.{set-append_left}
 use Rattle.pending.specs.declared.chains.links.Links.{Links}
 use Rattle.pending.specs.declared.chains.walk.Walk.{Walk}
 use Rattle.pending.specs.Edits.{chain_in}
 use Rattle.pending.specs.ChainsView.{KeepsRoom}
-use Rattle.pending.specs.inside.Rings.{times, Holds}
+use Rattle.pending.specs.inside.Rings.{Holds}
 use Rattle.pending.specs.inside.ChainSteps.{Changes}
 use Rattle.pending.specs.inside.Tables.{seen_chains, seen_lasts, shown_of, walked_in, IsSound}
 use Rattle.pending.specs.inside.Tables.{IsTable, IsWalk}
@@ -28,9 +28,7 @@ walk-rest lasts (Some walk) rest = absurd (cc)
 -- If two chains other than that of the free rows were written, the free rows don't change.
 pub in-neither : (chains : List (List ℕ)) (from onto : ℕ) (left all : List ℕ) → 0 < from → 0 < onto
     → chain_in (set (set chains from left) onto all) 0 ≡ chain_in chains 0
-in-neither chains from onto left all some more =
-    in-other (set chains from left) onto 0 all (λ e. absurd (omega arith))
-    ∙ in-other chains from 0 left (λ e. absurd (omega arith))
+in-neither chains from onto left all some more = grind (arith, in-other)
 
 -- One more chain is seen as it is stored.
 pub seen-grown : (lasts : List (Option ℕ)) (walk : Option Walk) → IsWalk lasts walk
@@ -42,26 +40,20 @@ seen-grown lasts (Some walk) walks = set-append_left lasts (None ∷ []) walk.ch
 pub walk-grown : (lasts : List (Option ℕ)) (walk : Option Walk) → IsWalk lasts walk
     → IsWalk (lasts ++ None ∷ []) walk
 walk-grown lasts None walks = tt
-walk-grown lasts (Some walk) walks =
-    (walks.0, (let less = walks.1 in omega (arith, length-append lasts (None ∷ []))))
+walk-grown lasts (Some walk) walks = grind (arith, length-append)
 
 module _ {T : Type 0} where
   -- a table is the same table if its chains and last rows are replaced by equal ones
   pub table-at : {next : List ℕ} {rows : List (Option T)} (lasts other : List (Option ℕ))
       (chains same : List (List ℕ)) → lasts ≡ other → chains ≡ same
       → IsTable next lasts rows chains → IsTable next other rows same
-  table-at {next} {rows} lasts other chains same e d t =
-      let P : List (Option ℕ) → Type 0 = λ ls. IsTable next ls rows chains in
-      let Q : List (List ℕ) → Type 0 = λ cs. IsTable next other rows cs in
-      subst Q d (subst P e t)
+  table-at {next} {rows} lasts other chains same e d t = grind arith
 
   -- between walks, the table is the stored one
   pub table-rest : {links : Links} {rows : List (Option T)} {walk : Option Walk}
       → IsSound links rows walk → walked_in walk ≡ None
       → IsTable links.next.items links.lasts.items rows (seen_chains links walk)
-  table-rest {links} {rows} {walk} s rest =
-      table-at (seen_lasts links.lasts.items walk) links.lasts.items (seen_chains links walk)
-      (seen_chains links walk) (seen-rest links.lasts.items walk rest) refl s.table
+  table-rest {links} {rows} {walk} s rest = grind (arith, table-at, seen-rest)
 
   -- the chains of a table are those that are seen
   pub seen-of : (links : Links) (rows : List (Option T)) (walk : Option Walk)
@@ -87,9 +79,7 @@ module _ {T : Type 0} where
       (chains : List (List ℕ)) → walked_in walk ≡ None
       → IsTable links.next.items links.lasts.items rows chains
       → IsTable links.next.items (seen_lasts links.lasts.items walk) rows chains
-  table-seen links rows walk chains rest t =
-      table-at links.lasts.items (seen_lasts links.lasts.items walk) chains chains
-      (sym (seen-rest links.lasts.items walk rest)) refl t
+  table-seen links rows walk chains rest t = grind (arith, table-at, seen-rest)
 
   -- the table after a change that leaves the free rows and the values as they were
   pub table-kept : {next : List ℕ} {lasts : List (Option ℕ)} {rows : List (Option T)}
@@ -98,29 +88,14 @@ module _ {T : Type 0} where
       → length new ≡ length next
       → length noted ≡ length lasts → chain_in other 0 ≡ chain_in chains 0
       → IsTable new noted rows other
-  table-kept {next} {lasts} {rows} {chains} t new noted other h long as_many same = record {
-    holds = h;
-    sized = t.sized ∙ sym long;
-    free = let f = t.free in omega arith;
-    full = λ row less. let f = t.full row less in let e = ap (times row) same in omega arith;
-  }
+  table-kept {next} {lasts} {rows} {chains} t new noted other h long as_many same = grind arith
 
   -- if the free rows don't change, the room doesn't either
   pub keeps-room : (links new : Links) (rows : List (Option T)) (capacity most : ℕ)
       (walk later : Option Walk) → Changes links new most
       → chain_in (seen_chains new later) 0 ≡ chain_in (seen_chains links walk) 0
       → KeepsRoom (shown_of links rows capacity walk) (shown_of new rows capacity later)
-  keeps-room links new rows capacity most walk later changes same =
-      let capacities = changes.row_room in
-      let counts = changes.rows in
-      let room = changes.chain_room in
-      let chains = changes.chains in
-      let free = ap length same in
-      record {
-        rows = refl;
-        room = omega arith;
-        spare = omega arith;
-      }
+  keeps-room links new rows capacity most walk later changes same = grind arith
 
   -- the table after links were written between walks, if the free rows and the values don't change
   pub table-moved : {links : Links} {rows : List (Option T)} {walk : Option Walk}
@@ -131,7 +106,4 @@ module _ {T : Type 0} where
       → chain_in other 0 ≡ chain_in (seen_chains links walk) 0
       → IsTable new.next.items (seen_lasts new.lasts.items walk) rows other
   table-moved {links} {rows} {walk} s rest new most changes other step same =
-      let t = table-rest s rest in
-      table-seen new rows walk other rest
-      (table-kept t new.next.items new.lasts.items other
-      (step t.holds) changes.rows changes.chains same)
+      grind (arith, table-rest, table-seen, table-kept)

@@ -25,9 +25,7 @@ with-append (Some value) xs ys = refl
 pub values-append : {T : Type 0} (rows : List (Option T)) (xs ys : List ℕ)
     → values_of rows (xs ++ ys) ≡ values_of rows xs ++ values_of rows ys
 values-append rows [] ys = refl
-values-append rows (x ∷ xs) ys =
-    ap (λ vs. with_value (value_at rows x) vs) (values-append rows xs ys)
-    ∙ with-append (value_at rows x) (values_of rows xs) (values_of rows ys)
+values-append rows (x ∷ xs) ys = grind (arith, values-append rows xs ys, with-append)
 
 -- Writing a value to a row that isn't in a chain doesn't change the chain's values.
 pub values-kept : {T : Type 0} (rows : List (Option T)) (row : ℕ) (value : Option T)
@@ -47,11 +45,14 @@ pub values-grown : {T : Type 0} (rows more : List (Option T)) (chain : List ℕ)
     → values_of (rows ++ more) chain ≡ values_of rows chain
 values-grown rows more [] within = refl
 values-grown rows more (row ∷ chain) within =
-    ap (λ found. with_value found (values_of (rows ++ more) chain))
-    (get_or_append_left rows more None row
-    (within row (omega (arith, times-same row row chain refl))))
-    ∙ ap (λ vs. with_value (value_at rows row) vs)
-    (values-grown rows more chain (λ r some. within r (omega arith)))
+    rw (
+      get_or_append_left rows more None row (within row (omega (
+        arith,
+        times-same row row chain
+            refl,
+      ))),
+      values-grown rows more chain (λ r some. within r (omega arith)),
+    )
 
 -- If each row of a chain has a value, there are as many values as rows.
 pub values-full : {T : Type 0} (rows : List (Option T)) (chain : List ℕ)
@@ -85,7 +86,7 @@ values-none {T} rows (row ∷ chain) none =
 pub values-first : {T : Type 0} (rows : List (Option T)) (row : ℕ) (rest : List ℕ) (value : T)
     → value_at rows row ≡ Some value
     → values_of rows (row ∷ rest) ≡ value ∷ values_of rows rest
-values-first rows row rest value is = ap (λ found. with_value found (values_of rows rest)) is
+values-first rows row rest value is = grind arith
 
 -- A row that counts as filled has a value.
 pub value-there : {T : Type 0} (found : Option T) → filled found ≡ 1
@@ -102,26 +103,10 @@ value-none (Some value) is = absurd (omega arith)
 pub map-joined : {T : Type 0} (rows : List (Option T)) (chains : List (List ℕ)) (from onto : ℕ)
     → map (values_of rows) (joined chains from onto)
     ≡ joined (map (values_of rows) chains) from onto
-map-joined rows chains from onto =
-    let f = λ (chain : List ℕ). values_of rows chain in
-    map-set f (set chains from []) onto (chain_in chains onto ++ chain_in chains from)
-    ∙ ap (λ cs. set cs onto (f (chain_in chains onto ++ chain_in chains from)))
-    (map-set f chains from [])
-    ∙ ap (λ vs. set (set (map f chains) from []) onto vs)
-    (values-append rows (chain_in chains onto) (chain_in chains from)
-    ∙ ap (λ vs. vs ++ f (chain_in chains from)) (sym (chain-map f chains onto refl))
-    ∙ ap (λ vs. chain_in (map f chains) onto ++ vs) (sym (chain-map f chains from refl)))
+map-joined rows chains from onto = grind (arith, map-set, values-append, chain-map)
 
 -- The values of chains after one was put before another.
 pub map-fronted : {T : Type 0} (rows : List (Option T)) (chains : List (List ℕ)) (from onto : ℕ)
     → map (values_of rows) (fronted chains from onto)
     ≡ fronted (map (values_of rows) chains) from onto
-map-fronted rows chains from onto =
-    let f = λ (chain : List ℕ). values_of rows chain in
-    map-set f (set chains from []) onto (chain_in chains from ++ chain_in chains onto)
-    ∙ ap (λ cs. set cs onto (f (chain_in chains from ++ chain_in chains onto)))
-    (map-set f chains from [])
-    ∙ ap (λ vs. set (set (map f chains) from []) onto vs)
-    (values-append rows (chain_in chains from) (chain_in chains onto)
-    ∙ ap (λ vs. vs ++ f (chain_in chains onto)) (sym (chain-map f chains from refl))
-    ∙ ap (λ vs. chain_in (map f chains) from ++ vs) (sym (chain-map f chains onto refl)))
+map-fronted rows chains from onto = grind (arith, map-set, values-append, chain-map)

@@ -25,26 +25,18 @@ use Rattle.pending.proofs.CallLaws.{chain-noted, first-row, first-value, row-wit
 -- Turning an empty chain changes nothing.
 pub nothing-turned : {X : Type 0} (chains : List (List X)) (chain : ℕ) → chain_in chains chain ≡ []
     → turned chains chain ≡ chains
-nothing-turned chains chain is =
-    ap (λ xs. set chains chain (drop 1 xs ++ take 1 xs)) is
-    ∙ ap (λ xs. set chains chain xs) (sym is) ∙ set-get_or chains chain []
+nothing-turned chains chain is = grind (arith, set-get_or)
 
 -- Lifting from an empty chain changes nothing.
 pub nothing-lifted : {X : Type 0} (chains : List (List X)) (chain onto : ℕ)
     → chain_in chains chain ≡ [] → lifted chains chain onto ≡ chains
-nothing-lifted chains chain onto is =
-    ap (λ cs. set cs onto (take 1 (chain_in chains chain) ++ chain_in chains onto))
-    (nothing-cut chains chain is)
-    ∙ ap (λ xs. set chains onto (take 1 xs ++ chain_in chains onto)) is
-    ∙ set-get_or chains onto []
+nothing-lifted chains chain onto is = grind (arith, nothing-cut, set-get_or)
 
 -- The last row that is seen of a chain other than the walked one is the stored one.
 pub last-other : (lasts : List (Option ℕ)) (walk : Walk) (left : Option ℕ) (onto : ℕ)
     → onto ≢ walk.chain
     → last_in (set (seen_lasts lasts (Some walk)) walk.chain left) onto ≡ last_in lasts onto
-last-other lasts walk left onto apart =
-    get_or-set_other (seen_lasts lasts (Some walk)) walk.chain onto left None apart
-    ∙ get_or-set_other lasts walk.chain onto walk.at None apart
+last-other lasts walk left onto apart = grind (arith, get_or-set_other)
 
 -- Which chain is being walked.
 pub walked-is : (walk : Option Walk) (w : Walk) (chain : ℕ) → walk ≡ Some w
@@ -54,28 +46,19 @@ walked-is walk w chain is walked = let both = sym (ap walked_in is) ∙ walked i
 -- The changes of two steps together.
 pub both-changes : {links mid new : Links} → Changes links mid 1 → Changes mid new 2
     → Changes links new 3
-both-changes first second = record {
-  few = let a = first.few in let b = second.few in omega arith;
-  rises = let a = first.rises in let b = second.rises in omega arith;
-  row_room = second.row_room ∙ first.row_room;
-  chain_room = second.chain_room ∙ first.chain_room;
-  rows = second.rows ∙ first.rows;
-  chains = second.chains ∙ first.chains;
-}
+both-changes first second = grind arith
 
 module _ {T : Type 0} where
   -- the same table with an equal walk is sound
   pub sound-at : {links : Links} {rows : List (Option T)} (walk other : Option Walk) → walk ≡ other
       → IsSound links rows walk → IsSound links rows other
-  sound-at {links} {rows} walk other e s =
-      let P : Option Walk → Type 0 = λ w. IsSound links rows w in subst P e s
+  sound-at {links} {rows} walk other e s = grind arith
 
   -- the row at which the walk is counts as the last row of its chain
   pub walk-last : {links : Links} {rows : List (Option T)} (walk : Walk)
       → IsSound links rows (Some walk)
       → last_in (seen_lasts links.lasts.items (Some walk)) walk.chain ≡ walk.at
-  walk-last {links} {rows} walk s =
-      get_or-set_same links.lasts.items walk.chain walk.at None s.walks.1
+  walk-last {links} {rows} walk s = grind (arith, get_or-set_same)
 
   -- a chain's values are its first value and the others
   pub chain-parts : {next : List ℕ} {lasts : List (Option ℕ)} {rows : List (Option T)}
@@ -92,18 +75,8 @@ module _ {T : Type 0} where
           ≡ drop 1 (values_of rows (chain_in chains chain)))
           × (values_of rows (take 1 (chain_in chains chain))
           ≡ take 1 (values_of rows (chain_in chains chain)))
-      by_chain [] is = (
-        ap (λ xs. values_of rows (drop 1 xs)) is ∙ sym (ap (λ xs. drop 1 (values_of rows xs)) is),
-        ap (λ xs. values_of rows (take 1 xs)) is ∙ sym (ap (λ xs. take 1 (values_of rows xs)) is),
-      )
-      by_chain (row ∷ rest) is =
-          let value = first-value t chain row rest shown is in
-          let front = ap (λ xs. values_of rows xs) is ∙ values-first rows row rest
-          value.0 value.1 in (
-            ap (λ xs. values_of rows (drop 1 xs)) is ∙ sym (ap (λ vs. drop 1 vs) front),
-            ap (λ xs. values_of rows (take 1 xs)) is ∙ values-first rows row [] value.0 value.1
-                ∙ sym (ap (λ vs. take 1 vs) front),
-          )
+      by_chain [] is = grind arith
+      by_chain (row ∷ rest) is = grind (arith, first-value, values-first)
 
   -- the table after a chain was turned by one row
   pub turned-table : {next : List ℕ} {lasts : List (Option ℕ)} {rows : List (Option T)}
@@ -120,7 +93,7 @@ module _ {T : Type 0} where
       table-kept t next noted (turned chains chain)
       (holds-at noted noted (set chains chain (first.0 ++ ([] ++ after next at ∷ [])))
       (turned chains chain) refl
-      (sym (ap (λ xs. set chains chain xs) same))
+      (sym (rw same))
       (holds-turned t.holds chain [] (after next at) first.0 is))
       refl (length-set lasts chain (Some (after next at)))
       (in-other chains chain 0 (drop 1 (chain_in chains chain) ++ take 1 (chain_in chains chain))
@@ -132,15 +105,7 @@ module _ {T : Type 0} where
       → (chain : ℕ) → 0 < chain
       → map (values_of rows) (turned chains chain) ≡ turned (map (values_of rows) chains) chain
   shown-turned {next} {lasts} {rows} {chains} t chain shown =
-      let parts = chain-parts t chain shown in
-      let xs = chain_in chains chain in
-      let seen = chain-map (values_of rows) chains chain refl in
-      map-set (values_of rows) chains chain (drop 1 xs ++ take 1 xs)
-      ∙ ap (λ vs. set (map (values_of rows) chains) chain vs)
-      (values-append rows (drop 1 xs) (take 1 xs)
-      ∙ ap (λ vs. vs ++ values_of rows (take 1 xs)) parts.0
-      ∙ ap (λ vs. drop 1 (values_of rows xs) ++ vs) parts.1
-      ∙ sym (ap (λ vs. drop 1 vs ++ take 1 vs) seen))
+      grind (arith, chain-parts, chain-map, map-set, values-append)
 
   -- what is shown after the first value of one chain was put before another chain
   pub shown-lifted : {next : List ℕ} {lasts : List (Option ℕ)} {rows : List (Option T)}
@@ -149,20 +114,7 @@ module _ {T : Type 0} where
       → map (values_of rows) (lifted chains chain onto)
       ≡ lifted (map (values_of rows) chains) chain onto
   shown-lifted {next} {lasts} {rows} {chains} t chain onto shown =
-      let parts = chain-parts t chain shown in
-      let f = λ (rs : List ℕ). values_of rows rs in
-      let xs = chain_in chains chain in
-      let ys = chain_in chains onto in
-      let seen = chain-map (values_of rows) chains chain refl in
-      let other = chain-map (values_of rows) chains onto refl in
-      map-set f (shortened chains chain) onto (take 1 xs ++ ys)
-      ∙ ap (λ cs. set cs onto (f (take 1 xs ++ ys)))
-      (map-set f chains chain (drop 1 xs)
-      ∙ ap (λ vs. set (map f chains) chain vs) (parts.0 ∙ sym (ap (λ vs. drop 1 vs) seen)))
-      ∙ ap (λ vs. set (shortened (map f chains) chain) onto vs)
-      (values-append rows (take 1 xs) ys
-      ∙ ap (λ vs. vs ++ f ys) (parts.1 ∙ sym (ap (λ vs. take 1 vs) seen))
-      ∙ ap (λ vs. take 1 (chain_in (map f chains) chain) ++ vs) (sym other))
+      grind (arith, chain-parts, chain-map, map-set, values-append)
 
   -- the table after the first row of the walked chain was put before the first row of another chain
   pub lifted-table : (links mid new : Links) (rows : List (Option T)) (walk : Walk)
@@ -256,15 +208,11 @@ module _ {T : Type 0} where
       ∙ length-map chains (values_of rows)))
       (λ other. elim (cases_eq other chain) [
         | inl same ↦
-            ap (λ c. values_of new (chain_in chains c)) same
-            ∙ ap (λ rs. values_of new rs) is
-            ∙ values-first new row rest value (get_or-set_same rows row (Some value) None small)
-            ∙ ap (λ vs. value ∷ vs) (values-kept rows row (Some value) rest (omega arith)
-            ∙ sym (ap (λ vs. drop 1 vs)
-            (chain-map (values_of rows) chains chain refl ∙ ap (λ rs. values_of rows rs) is
-            ∙ values-first rows row rest old.0 old.1)))
-            ∙ sym (in-put seen chain (value ∷ drop 1 (chain_in seen chain)) there_too)
-            ∙ ap (λ c. chain_in (with_first seen chain value) c) (sym same)
+            rw (same, is) (values-first new row rest value (get_or-set_same rows row (Some value)
+            None small) ∙ rw (values-kept rows row (Some value) rest (omega arith) ∙ sym (ap
+            (λ vs. drop 1 vs) (chain-map (values_of rows) chains chain refl ∙ ap (λ rs.
+            values_of rows rs) is ∙ values-first rows row rest old.0 old.1))) (sym (in-put
+            seen chain (value ∷ drop 1 (chain_in seen chain)) there_too) ∙ rw (← same)))
         | inr apart ↦
             let two = few-in-two t.holds chain other row (λ e. apart (sym e)) in
             values-kept rows row (Some value) (chain_in chains other) (omega arith)
@@ -278,14 +226,7 @@ module _ {T : Type 0} where
       → walked_in walk ≡ Some chain
       → (0 < chain) × (last_in (seen_lasts links.lasts.items walk) chain ≡ w.at)
   walked-last {links} {rows} walk w chain s is walked =
-      let at = sound-at walk (Some w) is s in
-      let same = walked-is walk w chain is walked in
-      let shown = at.walks.0 in (
-        omega arith,
-        ap (λ k. last_in (seen_lasts links.lasts.items k) chain) is
-            ∙ ap (λ c. last_in (seen_lasts links.lasts.items (Some w)) c) (sym same)
-            ∙ walk-last w at,
-      )
+      grind (arith, sound-at, walked-is, walk-last)
 
   -- what the walk sees after the walked chain was turned by one row
   pub turn-made : (links : Links) (rows : List (Option T)) (walk : Option Walk) (w : Walk)
@@ -331,20 +272,8 @@ module _ {T : Type 0} where
       → Changes links mid 1 → mid.lasts.items ≡ links.lasts.items → onto ≢ w.chain
       → onto < length links.lasts.items
       → IsLoose mid.next.items mid.lasts.items onto row
-  lift-loose links mid rows w row onto left h changes same apart less = record {
-    lasts = set (seen_lasts links.lasts.items (Some w)) w.chain left;
-    loose = [];
-    chains = shortened (seen_chains links (Some w)) w.chain;
-    holds = h;
-    same = last-other links.lasts.items w left onto apart ∙ sym (ap (λ ls. last_in ls onto) same);
-    there = let e = changes.chains in omega arith;
-    within =
-        omega (
-          arith,
-          length-set (seen_lasts links.lasts.items (Some w)) w.chain left,
-          length-set links.lasts.items w.chain w.at,
-        );
-  }
+  lift-loose links mid rows w row onto left h changes same apart less =
+      grind (arith, last-other, length-set)
 
   -- what the walk sees after the first row of the walked chain was put before the first row of
   -- another chain
@@ -399,11 +328,7 @@ module _ {T : Type 0} where
       → 0 < chain → chain < length links.lasts.items → at ≡ last_in links.lasts.items chain
       → IsSound links rows (Some (record { chain = chain; at = at }))
   walk-made links rows walk chain at s rest shown less is =
-      let noted = last-again links.lasts.items chain at (sym is) in
-      sound-of links rows (Some (record { chain = chain; at = at })) (seen_chains links walk)
-      (table-at links.lasts.items (set links.lasts.items chain at) (seen_chains links walk)
-      (seen_chains links walk) (sym noted) refl (table-rest s rest))
-      (shown, less)
+      grind (arith, last-again, sound-of, table-at, table-rest)
 
   -- a chain that is seen is stored
   pub lift-within : {links : Links} {rows : List (Option T)} {walk : Option Walk}

@@ -152,7 +152,7 @@ pub no-need-unqueued : (events : List CoreEvent) (id end : ℕ) (bio : Bio)
     → ((event : ℕ) → end < event → event < length events → IsNeed events end bio event → ⊥)
     → queue_event log_writes_order events id ≡ None
 no-need-unqueued events id end bio is no_flush no_fua ends none =
-    plain-queue_event events id end bio is (ap (λ b. b || has_fua bio) no_flush ∙ no_fua) ends
+    plain-queue_event events id end bio is (rw no_flush no_fua) ends
     ∙ ap (unless_stopped (first_place is_stop events)) (
     none_first_below (λ k. nat_lt end k
     && log_writes_order events end (slice_get events id) k (slice_get events k)) (length events)

@@ -1,6 +1,6 @@
 -- For each clause about a copy: stores that break only this clause, and that the clause refuses.
-use Rattle.std.proofs.Common.{◌≡◌, ℕ, ◌+◌, true, false, List, [], ◌∷◌, ◌++◌, drop, length, None}
-use Rattle.std.proofs.Common.{replicate, slice_index_or, take, refl, sym, ap, ◌∙◌, inl, inr}
+use Rattle.std.proofs.Common.{◌≡◌, ℕ, true, false, List, [], ◌∷◌, ◌++◌, length, None}
+use Rattle.std.proofs.Common.{replicate, slice_index_or, refl, sym, ap, ◌∙◌, inl, inr}
 use Rattle.std.proofs.Common.{arith}
 use Rattle.std.specs.Prelude.{Result}
 use Rattle.bio.specs.declared.outcome.DevError.{DevError}
@@ -173,7 +173,7 @@ replays_nothing : (new : Store) → new.device.lies ≡ 0 → entries_of new ≡
 unfolding none clears sevens contents.over
 replays_nothing new honest empty told =
     let same : sevens ≡ replay 512 (clears ∷ []) sevens =
-    sym (ap (λ (xs : List Entry). replay new.sector_bytes (take 1 (drop 0 xs)) sevens) empty)
+    sym (rw empty)
     ∙ told honest 1 sevens in
     let byte : 7 ≡ 0 = ap (λ (c : Content). slice_index_or (c 0) 0 0) same in
     omega (arith, byte)

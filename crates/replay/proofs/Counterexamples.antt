@@ -3,7 +3,7 @@
 use Rattle.std.proofs.Common.{◌≡◌, ℕ, zero, suc, ◌<◌, ◌≤◌, true, false, Option, Some, None, Result}
 use Rattle.std.proofs.Common.{Ok, Err, List, [], ◌∷◌, replicate, slice_index_or, refl, ap}
 use Rattle.std.proofs.Common.{sym, ◌∙◌, inl, inr, arith}
-use Rattle.std.specs.Prelude.{slice_get, unwrap_or}
+use Rattle.std.specs.Prelude.{slice_get}
 use Rattle.bio.specs.declared.outcome.DevError.{DevError}
 use Rattle.bio.specs.declared.outcome.DevError.TheVariants.{Io}
 use Rattle.bio.specs.Content as contents
@@ -29,7 +29,7 @@ all value sector = replicate 512 value
 
 -- sectors of one value tell it
 one_value : (a b : ℕ) → replicate 512 a ≡ replicate 512 b → a ≡ b
-one_value a b same = ap (λ (xs : List ℕ). slice_index_or xs 0 0) same
+one_value a b same = grind (arith, slice_index_or)
 
 -- a write of 1s to sector 5, and a flush
 write : Entry
@@ -86,7 +86,7 @@ unfolding write all contents.over
 part_other told is = elim (told.content 6) [
   | inl old ↦ let same = one_value 2 0 old in omega arith
   | inr new ↦ let same = one_value 2 0
-      (new ∙ ap (λ (e : Entry). unwrap_or (values e 6) (replicate 512 0)) is) in omega arith
+      (new ∙ rw is) in omega arith
 ]
   where
     values : Entry → ℕ → Option (List ℕ)
@@ -113,10 +113,7 @@ upto_flush = (
   where
     none : (k : ℕ) (x : Entry) → 0 ≤ k → k < 1 → slice_get (write ∷ flush ∷ flush ∷ []) k ≡ Some x
         → IsFlush x → ⊥
-    none zero x low high there is =
-        let same : false ≡ true =
-        ap (λ (o : Option Entry). (unwrap_or o write).flags.flush) there ∙ is.flush in
-        cc
+    none zero x low high there is = grind arith
     none (suc k) x low high there is = omega arith
 
 -- more entries are asked for than there are; just as many aren't
@@ -146,13 +143,7 @@ reaches = record { next = write; there = refl; past = omega arith }
 
 reaches_end : ReachesPast 512 (write ∷ []) 0 6 → ⊥
 unfolding write
-reaches_end told =
-    let sector : 5 ≡ told.next.sector =
-    ap (λ (o : Option Entry). (unwrap_or o write).sector) told.there in
-    let count : 1 ≡ told.next.nr_sectors =
-    ap (λ (o : Option Entry). (unwrap_or o write).nr_sectors) told.there in
-    let past = told.past in
-    omega arith
+reaches_end told = grind arith
 
 -- a target of another size, and counts that fall
 keeps_size : KeepsTarget still (record still { size = 9 }) → ⊥
@@ -169,8 +160,7 @@ refuses_before old refused = λ same. same
 
 refuses_first : (old new : Reader) → old.failed ≡ false → new.failed ≡ true
     → RefusesNoMore old new → ⊥
-refuses_first old new fresh refused no_more =
-    let same : false ≡ true = sym fresh ∙ no_more refused in cc
+refuses_first old new fresh refused no_more = grind arith
 
 -- a write of one byte to sector 5, and a discard of two sectors from sector 6 on
 small : Entry

@@ -1,8 +1,8 @@
 -- Laws of the chain of a sector's calls, from its newest back to the durable one.
-use Rattle.std.proofs.Common.{◌≡◌, ℕ, suc, zero, ◌-◌, ◌<◌, ◌&&◌, true, false, Some, List, [], ◌∷◌}
+use Rattle.std.proofs.Common.{◌≡◌, ℕ, suc, zero, ◌-◌, ◌<◌, true, false, Some, List, [], ◌∷◌}
 use Rattle.std.proofs.Common.{◌++◌, length, refl, ap, sym, ◌∙◌, inl, inr, arith}
 use Rattle.std.proofs.lemmas.Bool.{and_parts, ltb-true}
-use Rattle.std.specs.Prelude.{not, nat_lt, slice_get, unwrap_or, Option}
+use Rattle.std.specs.Prelude.{nat_lt, slice_get, unwrap_or}
 use Rattle.bio.specs.PlaceLaws.{last_or_below, length-snoc, slice_get-append_front}
 use Rattle.bio.specs.PlaceLaws.{slice_get-append_here}
 use Rattle.sector_disk.specs.declared.call.Call.{Call}
@@ -14,41 +14,26 @@ chain_parts : (calls : List Call) (synced s n place : ℕ)
     → is_chain calls synced s (suc (suc n)) place ≡ true
     → (nat_lt place (length calls) ≡ true) × (is_open calls synced place ≡ true)
     × (is_chain calls synced s (suc n) (before_at calls place s) ≡ true)
-chain_parts calls synced s n place e =
-    let first =
-    and_parts (nat_lt place (length calls))
-    (is_open calls synced place
-    && is_chain calls synced s (suc n) (before_at calls place s)) e in
-    let rest =
-    and_parts (is_open calls synced place)
-    (is_chain calls synced s (suc n) (before_at calls place s)) first.1 in
-    (first.0, rest.0, rest.1)
+chain_parts calls synced s n place e = grind (arith, and_parts)
 
 -- a chain begins within the calls
 pub chain-within : (calls : List Call) (synced s n place : ℕ)
     → is_chain calls synced s n place ≡ true → place < length calls
 chain-within calls synced s zero place e = let never : ⊥ = cc in absurd never
-chain-within calls synced s (suc zero) place e =
-    ltb-true place (length calls)
-    (and_parts (nat_lt place (length calls)) (not (is_open calls synced place)) e).0
-chain-within calls synced s (suc (suc n)) place e =
-    ltb-true place (length calls) (chain_parts calls synced s n place e).0
+chain-within calls synced s (suc zero) place e = grind (arith, ltb-true, and_parts)
+chain-within calls synced s (suc (suc n)) place e = grind (arith, ltb-true, chain_parts)
 
 -- an open call isn't the last of a chain
 pub chain-open : (calls : List Call) (synced s n place : ℕ) → is_chain calls synced s n place ≡ true
     → is_open calls synced place ≡ true
     → (1 < n) × (is_chain calls synced s (n - 1) (before_at calls place s) ≡ true)
 chain-open calls synced s zero place e open_there = let never : ⊥ = cc in absurd never
-chain-open calls synced s (suc zero) place e open_there =
-    let closed = (and_parts (nat_lt place (length calls)) (not (is_open calls synced place)) e).1 in
-    let never : ⊥ = let turned = ap not open_there in cc in
-    absurd never
+chain-open calls synced s (suc zero) place e open_there = grind (arith, and_parts)
 chain-open calls synced s (suc (suc n)) place e open_there =
     let parts = chain_parts calls synced s n place e in
     let less : suc (suc n) - 1 ≡ suc n = omega arith in (
       omega arith,
-      ap (λ (m : ℕ). is_chain calls synced s m (before_at calls place s)) less
-          ∙ parts.2,
+      rw less parts.2,
     )
 
 -- a durable one is
@@ -56,11 +41,7 @@ pub chain-closed : (calls : List Call) (synced s n place : ℕ)
     → is_chain calls synced s n place ≡ true → is_open calls synced place ≡ false → n ≡ 1
 chain-closed calls synced s zero place e closed = let never : ⊥ = cc in absurd never
 chain-closed calls synced s (suc zero) place e closed = refl
-chain-closed calls synced s (suc (suc n)) place e closed =
-    let parts = chain_parts calls synced s n place e in
-    let there = parts.1 in
-    let never : ⊥ = cc in
-    absurd never
+chain-closed calls synced s (suc (suc n)) place e closed = grind (arith, chain_parts)
 
 -- each call of a chain is within the calls
 pub walk-within : (calls : List Call) (synced s n place k : ℕ)
@@ -76,8 +57,7 @@ walk-within calls synced s (suc (suc n)) place (suc k) e h =
 pub length-back : (calls : List Call) (s n place : ℕ) → length (back calls s n place) ≡ n
 length-back calls s zero place = refl
 length-back calls s (suc n) place =
-    length-snoc (back calls s n (before_at calls place s)) (value_at calls place s)
-    ∙ ap (λ (m : ℕ). suc m) (length-back calls s n (before_at calls place s))
+    grind (arith, length-back calls s n (before_at calls place s), length-snoc)
 
 -- each of them is the value of the call that is so many back
 pub back-at : (calls : List Call) (s n place j : ℕ) → j < n
@@ -106,15 +86,11 @@ pub candidate-value : (calls : List Call) (synced s place : ℕ) (now : List ℕ
     (j : ℕ)
     → IsPlaced calls synced s place now may → j < length may
     → value_at calls (walk calls s (length may - 1 - j) place) s ≡ unwrap_or (slice_get may j) []
-candidate-value calls synced s place now may j placed h =
-    let there = back-at calls s (length may) place j h in
-    let same = ap (λ (values : List (List ℕ)). slice_get values j) placed.values in
-    ap (λ (o : Option (List ℕ)). unwrap_or o []) (sym there ∙ same)
+candidate-value calls synced s place now may j placed h = grind (arith, back-at)
 
 -- which is within the calls
 pub candidate-within : (calls : List Call) (synced s place : ℕ) (now : List ℕ) (may : List (List ℕ))
     (j : ℕ)
     → IsPlaced calls synced s place now may → j < length may
     → walk calls s (length may - 1 - j) place < length calls
-candidate-within calls synced s place now may j placed h =
-    walk-within calls synced s (length may) place (length may - 1 - j) placed.chain (omega arith)
+candidate-within calls synced s place now may j placed h = grind (arith, walk-within)

@@ -19,7 +19,7 @@ all value sector = replicate 512 value
 
 -- sectors of one value tell it
 one_value : (a b : ℕ) → replicate 512 a ≡ replicate 512 b → a ≡ b
-one_value a b same = ap (λ (xs : List ℕ). slice_index_or xs 0 0) same
+one_value a b same = grind (arith, slice_index_or)
 
 -- a disk of 8 sectors of zeroes, to which nothing has happened
 start : View

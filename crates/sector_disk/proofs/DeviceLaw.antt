@@ -1,8 +1,8 @@
 -- Each call of a disk satisfies the law of devices.
 use Rattle.std.proofs.Common.{◌≡◌, ℕ, suc, zero, ◌+◌, ◌-◌, ◌*◌, ◌≤◌, Bool, true, false, Some, None}
-use Rattle.std.proofs.Common.{List, ◌∷◌, length, refl, ap, subst, sym, ◌∙◌, arith}
+use Rattle.std.proofs.Common.{List, ◌∷◌, length, refl, ap, sym, ◌∙◌, arith}
 use Rattle.std.specs.Prelude.{Option, slice_get}
-use Rattle.bio.specs.Content.{AgreeBelow, Content, Patch, gather, nothing, sector_of, writes}
+use Rattle.bio.specs.Content.{AgreeBelow, Patch, gather, nothing, sector_of, writes}
 use Rattle.bio.specs.SectorLaws.{gather-ext, length-gather, sector_of-gather}
 use Rattle.blockdev.specs.JoinLaws.{goes_none}
 use Rattle.blockdev.specs.Law.{DeviceFrame, WriteDone}
@@ -19,11 +19,7 @@ use Rattle.sector_disk.specs.inside.Storage.{content_at, past_of, step_after, st
 -- what holds of a view holds of an equal one
 moved : (P : View → Type 0) (old new : SectorDisk) (past : List Step) → HasPast old new past
     → P (view_of old.sectors (start_of old) past) → P (shown_of new)
-moved P old new past has holds =
-    let Size : ℕ → Type 0 = λ size. P (view_of size (start_of new) (shown.steps_of new)) in
-    let Start : Content → Type 0 = λ start. P (view_of old.sectors start (shown.steps_of new)) in
-    let Past : List Step → Type 0 = λ steps. P (view_of old.sectors (start_of old) steps) in
-    subst Size (sym has.sectors) (subst Start (sym has.start) (subst Past (sym has.past) holds))
+moved P old new past has holds = grind arith
 
 -- a disk that put values went and landed as the law has it
 pub goes_past : (old new : SectorDisk) (patch : Patch) (fua : Bool)
@@ -54,10 +50,7 @@ pub written_past : (old new : SectorDisk) (first : ℕ) (kept bytes : List ℕ) 
     → kept ≡ bytes
     → HasPast old new (Puts (writes first kept) fua ∷ shown.steps_of old)
     → HasPast old new (Puts (writes first bytes) fua ∷ shown.steps_of old)
-written_past old new first kept bytes fua same has =
-    let Past : List ℕ → Type 0 =
-    λ xs. HasPast old new (Puts (writes first xs) fua ∷ shown.steps_of old) in
-    subst Past same has
+written_past old new first kept bytes fua same has = grind arith
 
 -- calls end by a write or a discard, and no flush
 no_flush_last : (calls : List Call) (begun n : ℕ)
@@ -91,20 +84,14 @@ goes_flushed size calls base begun false =
 pub read_now : (disk : SectorDisk) (first n : ℕ) → first + n ≤ disk.sectors
     → gather (content_at disk.calls.items disk.newest.items) first n
     ≡ gather (cache_of disk).now first n
-read_now disk first n within =
-    gather-ext (content_at disk.calls.items disk.newest.items) (cache_of disk).now first first n
-    (λ s h. (disk.kept.placed.each (first + s) (omega arith)).value)
+read_now disk first n within = grind (arith, gather-ext)
 
 -- what was read of a disk is its content
 pub read_of : (disk : SectorDisk) (calls : List Call) (newest buffer : List ℕ) (first n : ℕ)
     → calls ≡ disk.calls.items → newest ≡ disk.newest.items
     → first + n ≤ disk.sectors → buffer ≡ gather (content_at calls newest) first n
     → buffer ≡ gather (cache_of disk).now first n
-read_of disk calls newest buffer first n same_calls same_newest within is =
-    is
-    ∙ ap (λ (cs : List Call). gather (content_at cs newest) first n) same_calls
-    ∙ ap (λ (places : List ℕ). gather (content_at disk.calls.items places) first n) same_newest
-    ∙ read_now disk first n within
+read_of disk calls newest buffer first n same_calls same_newest within is = grind (arith, read_now)
 
 -- The bytes of all sectors of a disk, which has given them.
 pub record IsGiven (disk : SectorDisk) (image : List ℕ) : Type 0 where
@@ -124,8 +111,7 @@ given_of disk calls newest image n same_calls same_newest count is =
     record {
       content = read;
       sectors =
-          subst (λ (xs : List ℕ). AgreeBelow disk.sectors (shown_of disk).content (sector_of xs))
-          (sym read) (sector_of-gather disk.sectors (shown_of disk).content whole);
+          rw read (sector_of-gather disk.sectors (shown_of disk).content whole);
       length =
           ap length read ∙ length-gather disk.sectors (shown_of disk).content 0 disk.sectors whole
           (omega arith);

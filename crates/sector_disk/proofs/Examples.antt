@@ -1,6 +1,6 @@
 -- Worked examples of crashes, by computation.
 use Rattle.std.proofs.Common.{◌≡◌, ℕ, suc, zero, ◌<◌, false, true, List, [], ◌∷◌, replicate, refl}
-use Rattle.std.proofs.Common.{ap, sym, ◌∙◌, inl, inr, arith}
+use Rattle.std.proofs.Common.{sym, ◌∙◌, inl, inr, arith}
 use Rattle.std.specs.Prelude.{◌⊎◌, slice_index_or}
 use Rattle.bio.specs.Content.{Content, discards, over, writes}
 use Rattle.sector_disk.specs.Candidates.{Cache, Flushes, MayLeave, Puts, Step, cache_after, left_by}
@@ -108,7 +108,7 @@ may-third content may third = elim (may-these content may) [
 ]
   where
     one_value : (a b : ℕ) → replicate 512 a ≡ replicate 512 b → a ≡ b
-    one_value a b same = ap (λ (xs : List ℕ). slice_index_or xs 0 0) same
+    one_value a b same = grind arith
 
 may-below : (content : Content) → MayLeave after_two content → content 2 ≡ replicate 512 0
 unfolding two put zeroes over

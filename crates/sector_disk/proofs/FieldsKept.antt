@@ -19,7 +19,7 @@ use Rattle.sector_disk.specs.inside.Storage.{AreWithin, ArePlaced, IsKept, IsPla
 use Rattle.sector_disk.specs.inside.Storage.{before_at, before_in, cache_of, change_values}
 use Rattle.sector_disk.specs.inside.Storage.{content_at, flushed_if, is_chain, is_open, is_plain}
 use Rattle.sector_disk.specs.inside.Storage.{is_table, past_of, place_of, step_after, steps_of}
-use Rattle.sector_disk.specs.inside.Storage.{value_at, value_in, values_of}
+use Rattle.sector_disk.specs.inside.Storage.{value_at, values_of}
 use Rattle.sector_disk.proofs.Chains.{chain-within}
 
 -- equal functions
@@ -39,31 +39,21 @@ table_cases sectors (suc n) is = inr (eqb-true (suc n) sectors is)
 -- a sector behind a table has the first call's place, and so has each sector of a new table
 pub place_past : (places : List ℕ) (sector : ℕ) → length places ≤ sector
     → place_of places sector ≡ 0
-place_past places sector past =
-    ap (λ (o : Option ℕ). unwrap_or o 0) (slice_get_past places sector past)
+place_past places sector past = grind (arith, slice_get_past)
 
 pub first_place : (n sector : ℕ) → place_of (replicate n 0) sector ≡ 0
-first_place n sector = elim (cases_lt sector n) [
-  | inl within ↦ unwrap_or-slice_get (replicate n 0) sector 0 ∙ get_or-replicate n sector 0 0 within
-  | inr past ↦
-      place_past (replicate n 0) sector (let size = length-replicate {A = ℕ} n 0 in omega arith)
-]
+first_place n sector =
+    grind (arith, cases_lt, unwrap_or-slice_get, get_or-replicate, place_past, length-replicate)
 
 -- so a new table has the places that none has
 new_place : (n : ℕ) (none table : List ℕ) → length none ≡ 0 → table ≡ replicate n 0 → (sector : ℕ)
     → place_of none sector ≡ place_of table sector
-new_place n none table empty zeroes sector =
-    place_past none sector (omega arith)
-    ∙ sym (ap (λ (xs : List ℕ). place_of xs sector) zeroes ∙ first_place n sector)
+new_place n none table empty zeroes sector = grind (arith, place_past, first_place)
 
 -- and tables without places have the same content
 pub start_opened : (calls : List Call) (none others : List ℕ) → length none ≡ 0 → others ≡ []
     → content_at calls none ≡ content_at calls others
-start_opened calls none others empty is =
-    let bare = ap length is in
-    same_content (content_at calls none) (content_at calls others)
-    (λ s. ap (λ (p : ℕ). value_at calls p s)
-    (place_past none s (omega arith) ∙ sym (place_past others s (omega arith))))
+start_opened calls none others empty is = grind (arith, same_content, place_past)
 
 -- what holds of the fields holds when the tables are made
 pub kept_opened : (sectors : ℕ) (calls : List Call) (newest base places others : List ℕ)
@@ -72,38 +62,8 @@ pub kept_opened : (sectors : ℕ) (calls : List Call) (newest base places others
     → places ≡ replicate sectors 0 → others ≡ []
     → IsKept sectors calls places others begun synced flushed
 kept_opened sectors calls newest base places others begun synced flushed kept empty zeroes
-    bare = record {
-      some = kept.some;
-      few = kept.few;
-      table =
-          ap (is_table sectors) (ap length zeroes ∙ length-replicate sectors 0)
-          ∙ whole_table sectors;
-      base_length = let none = ap length bare in omega arith;
-      begun_within = kept.begun_within;
-      synced_some = kept.synced_some;
-      synced_within = kept.synced_within;
-      synced_now = kept.synced_now;
-      base_within = record {
-        each = λ s. let h = kept.base_within.each s in
-            let none = ap length bare in
-            let is = place_past others s (omega arith) in
-            omega arith;
-      };
-      placed =
-          let Start : Content → Type 0 =
-          λ start. ArePlaced calls synced sectors places
-          (cache_after start (past_of calls begun flushed)) in
-          let few = kept.base_length in
-          subst Start (start_opened calls base others (omega arith) bare)
-          (record {
-            each = λ sector h.
-                let now = (cache_of calls base begun flushed).now sector in
-                let may = (cache_of calls base begun flushed).may sector in
-                let Placed : ℕ → Type 0 = λ place. IsPlaced calls synced sector place now may in
-                subst Placed (new_place sectors newest places empty zeroes sector)
-                (kept.placed.each sector h);
-          });
-    }
+    bare =
+    grind (arith, length-replicate, whole_table, place_past, start_opened, new_place)
 
 -- calls that were there stay as they were when one is added:
 -- their values, what came before, whether they are open
@@ -113,24 +73,19 @@ call-kept calls call place h = slice_get-append_front calls (call ∷ []) place 
 
 pub value-kept : (calls : List Call) (call : Call) (place sector : ℕ) → place < length calls
     → value_at (calls ++ call ∷ []) place sector ≡ value_at calls place sector
-value-kept calls call place sector h =
-    ap (λ (o : Option Call). value_in o sector) (call-kept calls call place h)
+value-kept calls call place sector h = grind (arith, call-kept)
 
 before-kept : (calls : List Call) (call : Call) (place sector : ℕ) → place < length calls
     → before_at (calls ++ call ∷ []) place sector ≡ before_at calls place sector
-before-kept calls call place sector h =
-    ap (λ (o : Option Call). before_in o sector) (call-kept calls call place h)
+before-kept calls call place sector h = grind (arith, call-kept)
 
 open-kept : (calls : List Call) (call : Call) (synced place : ℕ) → place < length calls
     → is_open (calls ++ call ∷ []) synced place ≡ is_open calls synced place
-open-kept calls call synced place h =
-    ap (λ (o : Option Call). nat_le synced place && is_plain o) (call-kept calls call place h)
+open-kept calls call synced place h = grind (arith, call-kept)
 
 within-kept : (calls : List Call) (call : Call) (place : ℕ) → place < length calls
     → nat_lt place (length (calls ++ call ∷ [])) ≡ nat_lt place (length calls)
-within-kept calls call place h =
-    lt-ltb place (length (calls ++ call ∷ [])) (let more = length-snoc calls call in omega arith)
-    ∙ sym (lt-ltb place (length calls) h)
+within-kept calls call place h = grind (arith, lt-ltb, length-snoc)
 
 -- so a chain stays a chain
 chain-kept : (calls : List Call) (call : Call) (synced sector n place : ℕ)
@@ -138,10 +93,7 @@ chain-kept : (calls : List Call) (call : Call) (synced sector n place : ℕ)
     → is_chain (calls ++ call ∷ []) synced sector n place ≡ true
 chain-kept calls call synced sector zero place e = e
 chain-kept calls call synced sector (suc zero) place e =
-    let within = chain-within calls synced sector 1 place e in
-    ap (λ b. b && not (is_open (calls ++ call ∷ []) synced place))
-    (within-kept calls call place within)
-    ∙ ap (λ b. nat_lt place (length calls) && not b) (open-kept calls call synced place within) ∙ e
+    grind (arith, chain-within, within-kept, open-kept)
 chain-kept calls call synced sector (suc (suc n)) place e =
     let within = chain-within calls synced sector (suc (suc n)) place e in
     let all = calls ++ call ∷ [] in
@@ -161,21 +113,14 @@ chain-kept calls call synced sector (suc (suc n)) place e =
   where
     rest : is_chain calls synced sector (suc (suc n)) place ≡ true
         → is_chain calls synced sector (suc n) (before_at calls place sector) ≡ true
-    rest e =
-        (and_parts (is_open calls synced place)
-        (is_chain calls synced sector (suc n) (before_at calls place sector))
-        (and_parts (nat_lt place (length calls))
-        (is_open calls synced place
-        && is_chain calls synced sector (suc n) (before_at calls place sector)) e).1).1
+    rest e = grind (arith, and_parts)
 
 -- with the same values
 back-kept : (calls : List Call) (call : Call) (synced sector n place : ℕ)
     → is_chain calls synced sector n place ≡ true
     → back (calls ++ call ∷ []) sector n place ≡ back calls sector n place
 back-kept calls call synced sector zero place e = refl
-back-kept calls call synced sector (suc zero) place e =
-    ap (λ (v : List ℕ). v ∷ [])
-    (value-kept calls call place sector (chain-within calls synced sector 1 place e))
+back-kept calls call synced sector (suc zero) place e = grind (arith, value-kept, chain-within)
 back-kept calls call synced sector (suc (suc n)) place e =
     let within = chain-within calls synced sector (suc (suc n)) place e in
     let all = calls ++ call ∷ [] in
@@ -188,35 +133,22 @@ back-kept calls call synced sector (suc (suc n)) place e =
   where
     rest : is_chain calls synced sector (suc (suc n)) place ≡ true
         → is_chain calls synced sector (suc n) (before_at calls place sector) ≡ true
-    rest e =
-        (and_parts (is_open calls synced place)
-        (is_chain calls synced sector (suc n) (before_at calls place sector))
-        (and_parts (nat_lt place (length calls))
-        (is_open calls synced place
-        && is_chain calls synced sector (suc n) (before_at calls place sector)) e).1).1
+    rest e = grind (arith, and_parts)
 
 -- a sector that the new call leaves alone stays placed
 pub placed-kept : (calls : List Call) (call : Call) (synced sector place : ℕ) (now : List ℕ)
     (may : List (List ℕ))
     → IsPlaced calls synced sector place now may
     → IsPlaced (calls ++ call ∷ []) synced sector place now may
-placed-kept calls call synced sector place now may placed = record {
-  value =
-      value-kept calls call place sector
-      (chain-within calls synced sector (length may) place placed.chain) ∙ placed.value;
-  values = back-kept calls call synced sector (length may) place placed.chain ∙ placed.values;
-  chain = chain-kept calls call synced sector (length may) place placed.chain;
-  few = let h = placed.few in let more = length-snoc calls call in omega arith;
-}
+placed-kept calls call synced sector place now may placed =
+    grind (arith, value-kept, chain-within, back-kept, chain-kept, length-snoc)
 
 -- the steps of the calls that were there stay
 steps-kept : (calls : List Call) (call : Call) (begun n : ℕ) → begun + n ≤ length calls
     → steps_of (calls ++ call ∷ []) begun n ≡ steps_of calls begun n
 steps-kept calls call begun zero h = refl
 steps-kept calls call begun (suc n) h =
-    ap (λ (o : Option Call). step_after o (steps_of (calls ++ call ∷ []) begun n))
-    (call-kept calls call (begun + n) (omega arith))
-    ∙ ap (step_after (slice_get calls (begun + n))) (steps-kept calls call begun n (omega arith))
+    grind (arith, steps-kept calls call begun n (omega arith), call-kept)
 
 -- and the new one's comes first
 pub past-put : (calls : List Call) (call : Call) (begun : ℕ) → begun ≤ length calls
@@ -238,9 +170,7 @@ past-put calls call begun h =
 -- the start stays
 pub start-put : (calls : List Call) (call : Call) (base : List ℕ) → AreWithin calls base
     → content_at (calls ++ call ∷ []) base ≡ content_at calls base
-start-put calls call base within =
-    same_content (content_at (calls ++ call ∷ []) base) (content_at calls base)
-    (λ s. value-kept calls call (place_of base s) s (within.each s))
+start-put calls call base within = grind (arith, same_content, value-kept)
 
 -- the value of a call within its range, and none outside
 values-in : (call : Call) (sector : ℕ) → call.first ≤ sector
@@ -271,10 +201,7 @@ values-out call sector outside = at call.change outside
     without : (count : ℕ) (value : ℕ → List ℕ)
         → (sector < call.first) ⊎ (call.first + count ≤ sector)
         → over call.first count value sector ≡ None
-    without count value side = elim side [
-      | inl before ↦ over-before call.first count value sector before
-      | inr after ↦ over-after call.first count value sector after
-    ]
+    without count value side = grind (arith, over-before, over-after)
 
     at : (change : Change) → (sector < call.first) ⊎ (call.first + count_of change ≤ sector)
         → change_values call.first change sector ≡ None
@@ -291,22 +218,14 @@ chain-more : (calls : List Call) (synced sector n place before : ℕ) → place 
     → is_open calls synced place ≡ true
     → before_at calls place sector ≡ before → is_chain calls synced sector n before ≡ true
     → is_chain calls synced sector (suc n) place ≡ true
-chain-more calls synced sector zero place before within opens is e =
-    let never : ⊥ = cc in absurd never
-chain-more calls synced sector (suc n) place before within opens is e =
-    ap (λ b. b && (is_open calls synced place
-    && is_chain calls synced sector (suc n) (before_at calls place sector)))
-    (lt-ltb place (length calls) within)
-    ∙ ap (λ b. b && is_chain calls synced sector (suc n) (before_at calls place sector)) opens
-    ∙ ap (is_chain calls synced sector (suc n)) is ∙ e
+chain-more calls synced sector zero place before within opens is e = grind arith
+chain-more calls synced sector (suc n) place before within opens is e = grind (arith, lt-ltb)
 
 -- a durable call is a chain by itself
 pub chain-alone : (calls : List Call) (synced sector place : ℕ) → place < length calls
     → is_open calls synced place ≡ false
     → is_chain calls synced sector 1 place ≡ true
-chain-alone calls synced sector place within closed =
-    ap (λ b. b && not (is_open calls synced place)) (lt-ltb place (length calls) within)
-    ∙ ap not closed
+chain-alone calls synced sector place within closed = grind (arith, lt-ltb)
 
 -- a sector of the new call is placed at it
 placed-new : (calls : List Call) (call : Call) (synced sector before : ℕ) (now value : List ℕ)
@@ -325,22 +244,19 @@ placed-new calls call synced sector before now value may placed low is came = at
 
     value_is : value_at (calls ++ call ∷ []) (length calls) sector ≡ value
     value_is =
-        ap (λ (o : Option Call). value_in o sector) (here calls call)
-        ∙ ap (λ (o : Option (List ℕ)). unwrap_or o (replicate 512 0)) is
+        rw (here calls call, is)
 
     open_is : (fua : Bool) → call.fua ≡ fua
         → is_open (calls ++ call ∷ []) synced (length calls) ≡ not fua
     open_is fua e =
-        ap (λ (o : Option Call). nat_le synced (length calls) && is_plain o) (here calls call)
-        ∙ ap (λ b. b && not call.fua) (le-leb synced (length calls) low)
-        ∙ ap not e
+        rw (here calls call, le-leb synced (length calls) low) (ap not e)
 
     at : (fua : Bool) → call.fua ≡ fua
         → IsPlaced (calls ++ call ∷ []) synced sector (length calls) value
         (candidates_after (Some value) fua may)
     at true e = record {
       value = value_is;
-      values = ap (λ (v : List ℕ). v ∷ []) value_is;
+      values = rw value_is;
       chain = chain-alone (calls ++ call ∷ []) synced sector (length calls) there (open_is true e);
       few = let h = there in omega arith;
     }
@@ -348,20 +264,14 @@ placed-new calls call synced sector before now value may placed low is came = at
         let many = length-snoc may value in
         let kept = placed-kept calls call synced sector before now may placed in
         let before_is : before_at (calls ++ call ∷ []) (length calls) sector ≡ before =
-        ap (λ (o : Option Call). before_in o sector) (here calls call) ∙ came in
+        rw (here calls call) came in
         record {
           value = value_is;
           values =
-              ap (λ (n : ℕ). back (calls ++ call ∷ []) sector n (length calls)) many
-              ∙ ap (λ (p : ℕ). back (calls ++ call ∷ []) sector (length may) p
-              ++ value_at (calls ++ call ∷ []) (length calls) sector ∷ []) before_is
-              ∙ ap (λ (xs : List (List ℕ)). xs
-              ++ value_at (calls ++ call ∷ []) (length calls) sector ∷ []) kept.values
-              ∙ ap (λ (v : List ℕ). may ++ v ∷ []) value_is;
+              rw (many, before_is, kept.values, value_is);
           chain =
-              ap (λ (n : ℕ). is_chain (calls ++ call ∷ []) synced sector n (length calls)) many
-              ∙ chain-more (calls ++ call ∷ []) synced sector (length may)
-              (length calls) before there (open_is false e) before_is kept.chain;
+              rw many (chain-more (calls ++ call ∷ []) synced sector (length may) (length calls)
+              before there (open_is false e) before_is kept.chain);
           few = let h = placed.few in let more = length-snoc calls call in omega arith;
         }
 
@@ -370,14 +280,7 @@ came-before : (newest before : List ℕ) (first count sector : ℕ)
     → before ≡ take count (drop first newest) → first ≤ sector → sector < first + count
     → unwrap_or (slice_get before (sector - first)) 0 ≡ place_of newest sector
 came-before newest before first count sector is low high =
-    let index = sector - first in
-    let place : first + index ≡ sector = omega arith in
-    unwrap_or-slice_get before index 0
-    ∙ ap (λ (xs : List ℕ). get_or xs index 0) is
-    ∙ get_or-take count (drop first newest) index 0 (omega arith)
-    ∙ get_or-drop first newest index 0
-    ∙ ap (λ (p : ℕ). get_or newest p 0) place
-    ∙ sym (unwrap_or-slice_get newest sector 0)
+    grind (arith, unwrap_or-slice_get, get_or, get_or-take, get_or-drop)
 
 -- the cache after the new call
 cache-put : (calls : List Call) (call : Call) (base : List ℕ) (begun : ℕ) (flushed : Bool)
@@ -387,11 +290,8 @@ cache-put : (calls : List Call) (call : Call) (base : List ℕ) (begun : ℕ) (f
     ≡ cache_after (content_at calls base)
     (Puts (values_of call) call.fua ∷ past_of calls begun flushed)
 cache-put calls call base begun flushed within base_within after =
-    ap (λ (start : Content). cache_after start (past_of (calls ++ call ∷ []) begun false))
-    (start-put calls call base base_within)
-    ∙ ap (cache_after (content_at calls base)) (past-put calls call begun within)
-    ∙ ap (λ b. cache_after (content_at calls base)
-    (Puts (values_of call) call.fua ∷ past_of calls begun b)) after
+    rw (start-put calls call base base_within) (ap (cache_after (content_at calls base))
+    (past-put calls call begun within) ∙ rw after)
 
 -- what holds of the fields holds when a call is added
 pub kept-put : (sectors : ℕ) (calls : List Call) (newest filled base : List ℕ) (begun synced : ℕ)
@@ -477,33 +377,27 @@ kept_added sectors calls all newest filled base begun synced count flushed call 
     let Filled : ℕ → Type 0 = λ n. IsFilled call.first n (length calls) newest filled in
     subst Kept (sym added) (
     kept-put sectors calls newest filled base begun synced flushed call kept opened after
-    (before ∙ ap (λ (n : ℕ). take n (drop call.first newest)) counted) (subst Filled counted fills)
+    (before ∙ rw counted) (subst Filled counted fills)
     )
 
 pub past_added : (calls all : List Call) (call : Call) (begun : ℕ) → all ≡ calls ++ call ∷ []
     → begun ≤ length calls
     → past_of all begun false
     ≡ Puts (values_of call) call.fua ∷ past_of calls begun call.after_flush
-past_added calls all call begun added within =
-    ap (λ (cs : List Call). past_of cs begun false) added ∙ past-put calls call begun within
+past_added calls all call begun added within = grind (arith, past-put)
 
 pub start_added : (calls all : List Call) (call : Call) (base : List ℕ) → all ≡ calls ++ call ∷ []
     → AreWithin calls base
     → content_at all base ≡ content_at calls base
 start_added calls all call base added within =
-    ap (λ (cs : List Call). content_at cs base) added ∙ start-put calls call base within
+    rw added (start-put calls call base within)
 
 -- a sector of durable newest call is placed with its value alone
 placed-alone : (calls : List Call) (synced sector place : ℕ) → place < length calls
     → is_open calls synced place ≡ false
     → IsPlaced calls synced sector place (value_at calls place sector)
     (value_at calls place sector ∷ [])
-placed-alone calls synced sector place within closed = record {
-  value = refl;
-  values = refl;
-  chain = chain-alone calls synced sector place within closed;
-  few = omega arith;
-}
+placed-alone calls synced sector place within closed = grind (arith, chain-alone)
 
 -- after a flush no call is open
 all-closed : (calls : List Call) (place : ℕ) → place < length calls
@@ -559,8 +453,7 @@ pub kept_synced : (sectors : ℕ) (calls : List Call) (newest base : List ℕ) (
     → IsKept sectors calls newest base begun synced flushed → count ≡ length calls
     → IsKept sectors calls newest base begun count true
 kept_synced sectors calls newest base begun synced count flushed kept is =
-    let Kept : ℕ → Type 0 = λ n. IsKept sectors calls newest base begun n true in
-    subst Kept (sym is) (kept_flushed sectors calls newest base begun synced flushed kept)
+    grind (arith, kept_flushed)
 
 -- after a crash, when the past begins anew with these places
 pub kept_begun : (sectors : ℕ) (calls : List Call) (places : List ℕ) → 0 < sectors
@@ -592,6 +485,4 @@ kept_begun sectors calls places some few table within = record {
 
 -- no call came since the past began
 pub past_begun : (calls : List Call) → past_of calls (length calls) false ≡ []
-past_begun calls =
-    let none : length calls - length calls ≡ 0 = omega arith in
-    ap (steps_of calls (length calls)) none
+past_begun calls = grind arith

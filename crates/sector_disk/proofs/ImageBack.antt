@@ -12,10 +12,9 @@ use Rattle.bio.specs.Content.{Content, gather, sector_of, writes}
 use Rattle.bio.specs.ContentLaws.{over-in}
 use Rattle.bio.specs.SectorLaws.{gather-ext}
 use Rattle.sector_disk.specs.declared.call.Call.{Call}
-use Rattle.sector_disk.specs.declared.call.Change.{Change}
 use Rattle.sector_disk.specs.declared.call.Change.TheVariants.{Write}
 use Rattle.sector_disk.specs.inside.Overlay.{is_image_in, is_write_of, left_at, put_over}
-use Rattle.sector_disk.specs.inside.Storage.{change_values, content_at, place_of, value_at}
+use Rattle.sector_disk.specs.inside.Storage.{content_at, place_of, value_at}
 
 -- a write from the first sector on leaves its bytes
 pub written_whole : (bytes : List ℕ) (sector : ℕ) → sector < length bytes / 512
@@ -30,9 +29,7 @@ written_whole bytes sector within =
 pub left_later : (later : List Call) (image : List ℕ) (place sector : ℕ) → 0 < place
     → left_at later image place sector ≡ value_at later (place - 1) sector
 left_later later image zero sector some = absurd (omega arith)
-left_later later image (suc place) sector some =
-    let back : place ≡ suc place - 1 = omega arith in
-    ap (λ (p : ℕ). value_at later p sector) back
+left_later later image (suc place) sector some = grind arith
 
 -- a sector of the first call is the image's
 pub left_first : (later : List Call) (image : List ℕ) (place sector : ℕ) → (0 < place → ⊥)
@@ -57,10 +54,7 @@ pub rest-put : (index : ℕ) (old first value : List ℕ) → 512 * (index + 1) 
     → drop (512 * index) old ≡ drop (512 * index) first
     → drop (512 * (index + 1)) (put_mid (index * 512) (index * 512 + 512 - index * 512) old value)
     ≡ drop (512 * (index + 1)) first
-rest-put index old first value within size rest =
-    drop-put_mid (index * 512) (index * 512 + 512 - index * 512) old value (512 * (index + 1))
-    (omega arith) (omega arith) (omega arith)
-    ∙ rest-next index old first rest
+rest-put index old first value within size rest = grind (arith, drop-put_mid, rest-next)
 
 -- the next sector stays as the image has it
 pub gather-kept : (content : Content) (index : ℕ) (old first : List ℕ)
@@ -92,7 +86,7 @@ given (call ∷ later) places sectors first bytes image at is same covers =
     (λ s within. each (place_of places (0 + s)) (0 + s) (omega arith))
   where
     change_is : call.change ≡ Write bytes
-    change_is = ap (λ (c : Call). c.change) (sym at) ∙ is
+    change_is = grind arith
 
     split : (a b : Bool) → (a && b) ≡ true → (a ≡ true) × (b ≡ true)
     split true b both = (refl, both)
@@ -105,24 +99,11 @@ given (call ∷ later) places sectors first bytes image at is same covers =
     zero_is = eqb-true call.first 0 parts.0
 
     size_is : length bytes ≡ sectors * 512
-    size_is =
-        eqb-true (length bytes) (sectors * 512)
-        (sym (ap (λ (change : Change). is_write_of change sectors) change_is) ∙ parts.1)
+    size_is = grind (arith, eqb-true, change_is)
 
     each : (place sector : ℕ) → sector < sectors
         → left_at (take (length (call ∷ later) - 1) later) image place sector
         ≡ value_at (call ∷ later) place sector
     each zero sector within =
-        let size = size_is in
-        ap (λ (xs : List ℕ). sector_of xs sector) same
-        ∙ sym (
-        ap (λ (from : ℕ). unwrap_or (change_values from call.change sector)
-        (replicate 512 0)) zero_is
-        ∙ ap (λ (change : Change). unwrap_or (change_values 0 change sector)
-        (replicate 512 0)) change_is
-        ∙ written_whole bytes sector (omega arith)
-        )
-    each (suc place) sector within =
-        let whole : length later ≤ length (call ∷ later) - 1 = omega arith in
-        ap (λ (cs : List Call). value_at cs place sector)
-        (take_all (length (call ∷ later) - 1) later whole)
+        grind (arith, size_is, zero_is, change_is, written_whole)
+    each (suc place) sector within = grind (arith, take_all)

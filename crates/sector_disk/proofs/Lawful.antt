@@ -1,7 +1,6 @@
 -- The candidates of a disk's sectors after each call, and what a crash may leave.
 use Rattle.std.proofs.Common.{◌≡◌, ℕ, ◌+◌, ◌-◌, ◌<◌, ◌≤◌, Bool, false, Some, List, [], ◌∷◌, length}
 use Rattle.std.proofs.Common.{refl, ap, subst, sym, ◌∙◌, arith}
-use Rattle.std.specs.Prelude.{Option}
 use Rattle.bio.specs.Content.{Content, Patch, Patched, over}
 use Rattle.bio.specs.ContentLaws.{over-in}
 use Rattle.sector_disk.specs.declared.disk.SectorDisk.{SectorDisk}
@@ -15,9 +14,7 @@ use Rattle.sector_disk.specs.DiskView as shown
 -- what a disk knows by its past
 cache_by : (old new : SectorDisk) (past : List Step) → HasPast old new past
     → cache_of new ≡ cache_after (start_of old) past
-cache_by old new past has =
-    ap (λ (start : Content). cache_after start (shown.steps_of new)) has.start
-    ∙ ap (cache_after (start_of old)) has.past
+cache_by old new past has = grind arith
 
 -- any picks leave what a crash may leave
 pub picks_leave : (disk : SectorDisk) (picks : List ℕ)
@@ -54,10 +51,7 @@ pub may-put : (old new : SectorDisk) (patch : Patch) (fua : Bool) (sector : ℕ)
     → HasPast old new (Puts patch fua ∷ shown.steps_of old)
     → patch sector ≡ Some value
     → (cache_of new).may sector ≡ candidates_after (Some value) fua ((cache_of old).may sector)
-may-put old new patch fua sector value has is =
-    ap (λ (cache : Cache). cache.may sector)
-    (cache_by old new (Puts patch fua ∷ shown.steps_of old) has)
-    ∙ ap (λ (o : Option (List ℕ)). candidates_after o fua ((cache_of old).may sector)) is
+may-put old new patch fua sector value has is = grind (arith, cache_by)
 
 -- and after a flush
 pub may-flushed : (old new : SectorDisk) (sector : ℕ)

@@ -21,12 +21,7 @@ use Rattle.sector_disk.proofs.SectorValues.{discarded}
 -- a past that begins with a content begins with an equal one
 pub begins_same : (n : ℕ) (c d : Content) (v : View) → ((s : ℕ) → s < n → c s ≡ d s) → Begins n c v
     → Begins n d v
-begins_same n c d v same begins = record {
-  size = begins.size;
-  content = λ sector h. begins.content sector h ∙ same sector h;
-  only = begins.only;
-  moment = begins.moment;
-}
+begins_same n c d v same begins = grind arith
 
 -- a disk with no past begins
 begins_fresh : (n : ℕ) (start content : Content) → ((s : ℕ) → s < n → start s ≡ content s)
@@ -109,19 +104,7 @@ chosen-within : (disk : SectorDisk) (picks chosen : List ℕ)
     → AreChosen disk.calls.items (cache_of disk) picks disk.sectors chosen
     → is_table disk.sectors (length chosen) ≡ true
     → AreWithin disk.calls.items chosen
-chosen-within disk picks chosen choice table = record {
-  each = λ sector. elim (cases_lt sector disk.sectors) [
-    | inl within ↦ choice.within sector within
-    | inr past ↦
-        let none = place_past chosen sector
-        (elim (table_cases disk.sectors (length chosen) table) [
-          | inl empty ↦ omega arith
-          | inr whole ↦ omega arith
-        ]) in
-        let some = disk.kept.base_within.each 0 in
-        omega arith
-  ];
-}
+chosen-within disk picks chosen choice table = grind (arith, cases_lt, place_past, table_cases)
 
 -- what holds of the fields holds after a crash
 pub kept_chosen : (disk : SectorDisk) (picks newest chosen : List ℕ) (count : ℕ)
@@ -130,13 +113,7 @@ pub kept_chosen : (disk : SectorDisk) (picks newest chosen : List ℕ) (count : 
     → count ≡ length disk.calls.items
     → IsKept disk.sectors disk.calls.items newest chosen count count false
 kept_chosen disk picks newest chosen count choice table same is =
-    let Newest : List ℕ → Type 0 =
-    λ places. IsKept disk.sectors disk.calls.items places chosen count count false in
-    let Count : ℕ → Type 0 = λ n. IsKept disk.sectors disk.calls.items chosen chosen n n false in
-    subst Newest (sym same) (subst Count (sym is) (
-    kept_begun disk.sectors disk.calls.items chosen disk.kept.some disk.kept.few table
-    (chosen-within disk picks chosen choice table)
-    ))
+    grind (arith, kept_begun, chosen-within)
 
 -- a crash leaves what its picks name
 pub begins_chosen : (disk : SectorDisk) (picks chosen : List ℕ) (count : ℕ)

@@ -6,12 +6,12 @@ use Rattle.std.proofs.Math.ListN.{get_or, set}
 use Rattle.std.proofs.lemmas.Bool.{and_parts, cases_lt, le-ltb, leb-true, lt-ltb}
 use Rattle.std.proofs.lemmas.List.{get_or-set_other, get_or-set_same}
 use Rattle.std.proofs.lemmas.Option.{unwrap_or-slice_get}
-use Rattle.std.specs.Prelude.{◌⊎◌, nat_le, nat_lt, slice_get, unwrap_or, if◌then◌else◌}
+use Rattle.std.specs.Prelude.{◌⊎◌, nat_le, slice_get, unwrap_or}
 use Rattle.bio.specs.PlaceLaws.{last_or_below}
 use Rattle.sector_disk.specs.declared.call.Call.{Call}
-use Rattle.sector_disk.specs.Candidates.{Cache, choice_of, left_by, unsynced_at, unsynced_below}
+use Rattle.sector_disk.specs.Candidates.{Cache, choice_of, left_by, unsynced_below}
 use Rattle.sector_disk.specs.inside.Choice.{AreChosen}
-use Rattle.sector_disk.specs.inside.Storage.{ArePlaced, before_at, is_chain, is_open, is_plain}
+use Rattle.sector_disk.specs.inside.Storage.{ArePlaced, is_chain, is_open, is_plain}
 use Rattle.sector_disk.specs.inside.Storage.{place_of, value_at, walk}
 use Rattle.sector_disk.proofs.Chains.{candidate-value, candidate-within}
 use Rattle.sector_disk.proofs.FieldsKept.{place_past}
@@ -19,15 +19,12 @@ use Rattle.sector_disk.proofs.FieldsKept.{place_past}
 -- a place that was set, and the others
 pub place_of-set_same : (places : List ℕ) (sector place : ℕ) → sector < length places
     → place_of (set places sector place) sector ≡ place
-place_of-set_same places sector place h =
-    unwrap_or-slice_get (set places sector place) sector 0 ∙ get_or-set_same places sector place 0 h
+place_of-set_same places sector place h = grind (arith, unwrap_or-slice_get, get_or-set_same)
 
 pub place_of-set_other : (places : List ℕ) (sector place other : ℕ) → other < sector
     → place_of (set places sector place) other ≡ place_of places other
 place_of-set_other places sector place other h =
-    unwrap_or-slice_get (set places sector place) other 0
-    ∙ get_or-set_other places sector other place 0 (λ same. omega arith)
-    ∙ sym (unwrap_or-slice_get places other 0)
+    grind (arith, unwrap_or-slice_get, get_or-set_other)
 
 -- a chain isn't empty
 chain-some : (calls : List Call) (synced s n place : ℕ) → is_chain calls synced s n place ≡ true
@@ -41,11 +38,7 @@ counted : (calls : List Call) (synced : ℕ) (newest : List ℕ) (sector count :
     → ((n : ℕ) → n ≤ length calls → is_chain calls synced sector n (get_or newest sector 0) ≡ true
     → count ≡ n)
     → count ≡ length (cache.may sector)
-counted calls synced newest sector count cache placed h counts =
-    let here = placed.each sector h in
-    let place = unwrap_or-slice_get newest sector 0 in
-    counts (length (cache.may sector)) here.few
-    (ap (is_chain calls synced sector (length (cache.may sector))) (sym place) ∙ here.chain)
+counted calls synced newest sector count cache placed h counts = grind (arith, unwrap_or-slice_get)
 
 -- the unsynced sectors, with the next one
 pub unsynced-next : (calls : List Call) (synced : ℕ) (newest : List ℕ)
@@ -64,16 +57,8 @@ unsynced-next calls synced newest sector count unsynced next cache placed h coun
   where
     at : (1 < count) ⊎ (count ≤ 1) → count ≡ length (cache.may sector)
         → next ≡ unsynced_below cache (suc sector)
-    at (inl many) is =
-        let up = more many in
-        let here : unsynced_at cache sector ≡ 1 =
-        ap (λ b. if b then 1 else 0) (lt-ltb 1 (length (cache.may sector)) (omega arith)) in
-        omega arith
-    at (inr few) is =
-        let up = same few in
-        let here : unsynced_at cache sector ≡ 0 =
-        ap (λ b. if b then 1 else 0) (le-ltb 1 (length (cache.may sector)) (omega arith)) in
-        omega arith
+    at (inl many) is = grind (arith, lt-ltb)
+    at (inr few) is = grind (arith, le-ltb)
 
 -- the next sector has the place of the candidate that the picks give it
 pub chosen-next : (calls : List Call) (synced : ℕ) (newest picks chosen : List ℕ)
@@ -137,16 +122,7 @@ chain-one : (calls : List Call) (synced s n place : ℕ) → is_open calls synce
     → is_chain calls synced s n place ≡ true → n ≡ 1
 chain-one calls synced s zero place closed e = let never : ⊥ = cc in absurd never
 chain-one calls synced s (suc zero) place closed e = refl
-chain-one calls synced s (suc (suc n)) place closed e =
-    let rest =
-    (and_parts (nat_lt place (length calls))
-    (is_open calls synced place
-    && is_chain calls synced s (suc n) (before_at calls place s)) e).1 in
-    let opened =
-    (and_parts (is_open calls synced place)
-    (is_chain calls synced s (suc n) (before_at calls place s)) rest).0 in
-    let never : ⊥ = cc in
-    absurd never
+chain-one calls synced s (suc (suc n)) place closed e = grind (arith, and_parts)
 
 first-closed : (calls : List Call) (synced place : ℕ) → 0 < synced → place ≡ 0
     → is_open calls synced place ≡ false
@@ -169,12 +145,7 @@ first_chosen calls synced sectors newest picks chosen cache none empty some plac
   where
     -- its place is the one that no pick changes
     back : (s : ℕ) → s < sectors → length (cache.may s) - 1 - choice_of cache picks s ≡ 0
-    back s h =
-        let here = placed.each s h in
-        let one = chain-one calls synced s (length (cache.may s)) (place_of newest s)
-        (first-closed calls synced (place_of newest s) some (place_past newest s (omega arith)))
-        here.chain in
-        omega arith
+    back s h = grind (arith, chain-one, first-closed, place_past)
 
     start : (s : ℕ) → s < sectors
         → place_of chosen s ≡ walk calls s (length (cache.may s) - 1 - choice_of cache picks s)
@@ -182,7 +153,7 @@ first_chosen calls synced sectors newest picks chosen cache none empty some plac
     start s h =
         place_past chosen s (omega arith)
         ∙ sym (place_past newest s (omega arith))
-        ∙ sym (ap (λ (n : ℕ). walk calls s n (place_of newest s)) (back s h))
+        ∙ sym (rw (back s h))
 
     candidate : (s : ℕ) → s < sectors
         → (value_at calls (walk calls s (length (cache.may s) - 1 - choice_of cache picks s)
@@ -190,12 +161,4 @@ first_chosen calls synced sectors newest picks chosen cache none empty some plac
         × (walk calls s (length (cache.may s) - 1 - choice_of cache picks s)
         (place_of newest s) < length calls)
     candidate s h =
-        let here = placed.each s h in
-        let may = cache.may s in
-        let choice = choice_of cache picks s in
-        let some_may = chain-some calls synced s (length may) (place_of newest s) here.chain in
-        let low : choice < length may =
-        mod-lt (unwrap_or (slice_get picks (unsynced_below cache s)) 0) some_may in (
-          candidate-value calls synced s (place_of newest s) (cache.now s) may choice here low,
-          candidate-within calls synced s (place_of newest s) (cache.now s) may choice here low,
-        )
+        grind (arith, chain-some, mod-lt, candidate-value, candidate-within)

@@ -40,32 +40,18 @@ refilled_at sector n last size less same =
 pub refilled_held : (sector : List ℕ) (n held last : ℕ) → length sector ≡ 512 → n ≤ 512
     → held ≡ min (n + 1) 512
     → drop n sector ≡ replicate (512 - n) last → refilled (take held sector) ≡ sector
-refilled_held sector n held last size within is same = elim (cases_lt n 512) [
-  | inl less ↦
-      let count : held ≡ n + 1 = omega arith in
-      ap (λ (k : ℕ). refilled (take k sector)) count ∙ refilled_at sector n last size less same
-  | inr all ↦
-      let whole = take_all held sector (omega arith) in
-      let none : 512 - length sector ≡ 0 = omega arith in
-      ap refilled whole
-      ∙ ap (λ (k : ℕ). sector ++ replicate k (slice_index sector (length sector - 1))) none
-      ∙ append-nil sector
-]
+refilled_held sector n held last size within is same =
+    grind (arith, cases_lt, refilled_at, take_all, append-nil)
 
 -- a part stays where it is when bytes are appended
 front : (bytes more : List ℕ) (from to : ℕ) → from ≤ to → to ≤ length bytes
     → slice_range (bytes ++ more) from to ≡ slice_range bytes from to
-front bytes more from to order within =
-    ap (take (to - from)) (drop-append-le from bytes more (omega arith))
-    ∙ take-append-le (to - from) (drop from bytes) more (omega (arith, length-drop from bytes))
+front bytes more from to order within = grind (arith, drop-append-le, take-append-le, length-drop)
 
 -- and what is appended is the part behind it
 seam : (bytes part : List ℕ) (from to : ℕ) → from ≡ length bytes → to ≡ length bytes + length part
     → slice_range (bytes ++ part) from to ≡ part
-seam bytes part from to begins ends =
-    ap (λ (n : ℕ). take (to - from) (drop n (bytes ++ part))) begins
-    ∙ ap (take (to - from)) (drop-append_seam bytes part)
-    ∙ take_all (to - from) part (omega arith)
+seam bytes part from to begins ends = grind (arith, drop-append_seam, take_all)
 
 -- one more sector is packed
 pub packed_more : (image bytes bounds part : List ℕ) (end count : ℕ)
@@ -87,10 +73,7 @@ packed_more image bytes bounds part end count earlier few is ends_at = record {
     older k within = get_or-append bounds (end ∷ []) 0 k within
 
     newest : slice_index new (count + 1) ≡ length bytes + length part
-    newest =
-        ap (slice_index new) (sym earlier.counted)
-        ∙ get_or-append_seam bounds end [] 0
-        ∙ ends_at
+    newest = grind (arith, get_or-append_seam)
 
     each : (sector : ℕ) → sector < count + 1
         → IsPart (bytes ++ part) (slice_index new sector) (slice_index new (sector + 1))
@@ -130,24 +113,13 @@ packed_all image bytes bounds count size done =
 -- each sector that is packed is whole
 pub packed_whole : (bytes bounds : List ℕ) → AreParts bytes bounds
     → HasWholeSectors (length bounds - 1) (packed bytes bounds)
-packed_whole bytes bounds parts = λ sector within.
-    let bound = parts sector (omega arith) in
-    let from = slice_index bounds sector in
-    let to = slice_index bounds (sector + 1) in
-    let held : List ℕ = part_at bytes bounds sector in
-    let size : length held ≡ to - from =
-    length-take-le (to - from) (drop from bytes) (omega (arith, length-drop from bytes)) in
-    length-append held (replicate (512 - length held) (slice_index held (length held - 1)))
-    ∙ ap (λ (n : ℕ). length held + n)
-    (length-replicate (512 - length held) (slice_index held (length held - 1)))
-    ∙ omega arith
+packed_whole bytes bounds parts =
+    grind (arith, length-take-le, length-drop, length-append, length-replicate)
 
 -- how many bytes they are
 pub length-unpacked : (bytes bounds : List ℕ) → AreParts bytes bounds
     → length (unpacked bytes bounds) ≡ 512 * (length bounds - 1)
-length-unpacked bytes bounds parts =
-    length-gather (length bounds - 1) (packed bytes bounds) 0 (length bounds - 1)
-    (packed_whole bytes bounds parts) (omega arith)
+length-unpacked bytes bounds parts = grind (arith, length-gather, packed_whole)
 
 -- the sector at a place of them
 pub sector_there : (bytes bounds : List ℕ) (from : ℕ) → AreParts bytes bounds → from % 512 ≡ 0

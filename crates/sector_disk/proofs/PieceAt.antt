@@ -1,6 +1,6 @@
 -- The piece that has a given sector of the bytes.
 use Rattle.std.proofs.Common.{◌≡◌, ℕ, suc, zero, ◌+◌, ◌-◌, ◌*◌, ◌%◌, ◌<◌, ◌≤◌, List, [], ◌∷◌, ◌++◌, ◌∙◌, ap}
-use Rattle.std.proofs.Common.{append_assoc, sym}
+use Rattle.std.proofs.Common.{append_assoc}
 use Rattle.std.proofs.lemmas.Grind.{common_steps}
 use Rattle.std.proofs.Common.{arith, drop, length, length-append, length-drop, refl, take, Some}
 use Rattle.std.proofs.Math.Seq.{drop-append-add}
@@ -23,9 +23,7 @@ first piece rest r within =
 
 later : (piece rest : List ℕ) (from : ℕ) → length piece ≡ 65536 → 65536 ≤ from
     → drop from (piece ++ rest) ≡ drop (from - 65536) rest
-later piece rest from size past =
-    let place : from ≡ length piece + (from - 65536) = omega arith in
-    ap (λ (n : ℕ). drop n (piece ++ rest)) place ∙ drop-append-add piece rest (from - 65536)
+later piece rest from size past = grind (arith, drop-append-add)
 
 pub lies_in : (pieces : List (List ℕ)) (from k r : ℕ) → from ≡ 65536 * k + r → r + 512 ≤ 65536
     → AreWhole pieces → from + 512 ≤ length (joined pieces) → LiesIn pieces from k r
@@ -37,11 +35,9 @@ lies_in (p ∷ []) from zero r place small whole within =
       piece = p;
       is = refl;
       within = size;
-      part = ap (λ (n : ℕ). take 512 (drop n (p ++ []))) same ∙ first p [] r size;
+      part = rw same (first p [] r size);
     }
-lies_in (p ∷ []) from (suc k) r place small whole within =
-    let few = whole.1 in
-    absurd (omega (arith, length-append p []))
+lies_in (p ∷ []) from (suc k) r place small whole within = grind (arith, length-append)
 lies_in (p ∷ (q ∷ ps)) from zero r place small whole within =
     let same : from ≡ r = omega arith in
     let full = whole.0 in
@@ -50,8 +46,7 @@ lies_in (p ∷ (q ∷ ps)) from zero r place small whole within =
       piece = p;
       is = refl;
       within = size;
-      part = ap (λ (n : ℕ). take 512 (drop n (p ++ joined (q ∷ ps)))) same
-          ∙ first p (joined (q ∷ ps)) r size;
+      part = rw same (first p (joined (q ∷ ps)) r size);
     }
 lies_in (p ∷ (q ∷ ps)) from (suc k) r place small whole within =
     let full = whole.0 in
@@ -68,22 +63,13 @@ lies_in (p ∷ (q ∷ ps)) from (suc k) r place small whole within =
 pub joined-more : (pieces : List (List ℕ)) (piece : List ℕ)
     → joined (pieces ++ piece ∷ []) ≡ joined pieces ++ piece
 joined-more [] piece = grind (arith, common_steps)
-joined-more (x ∷ xs) piece =
-    ap (λ (rest : List ℕ). x ++ rest) (joined-more xs piece)
-    ∙ sym (append_assoc x (joined xs) piece)
+joined-more (x ∷ xs) piece = grind (arith, joined-more xs piece, append_assoc)
 
 -- one more piece may follow whole pieces
 pub AreWhole-more : (pieces : List (List ℕ)) (piece : List ℕ) → AreWhole pieces
     → length (joined pieces) % 65536 ≡ 0 → 0 < length piece → length piece ≤ 65536
     → AreWhole (pieces ++ piece ∷ [])
 AreWhole-more [] piece whole full some few = (some, few)
-AreWhole-more (x ∷ []) piece whole full some few =
-    let low = whole.0 in
-    let high = whole.1 in
-    (omega (arith, length-append x []), (some, few))
+AreWhole-more (x ∷ []) piece whole full some few = grind (arith, length-append)
 AreWhole-more (x ∷ (y ∷ ys)) piece whole full some few =
-    let size = whole.0 in (
-      size,
-      AreWhole-more (y ∷ ys) piece whole.1
-          (omega (arith, length-append x (joined (y ∷ ys)))) some few,
-    )
+    grind (arith, AreWhole-more (y ∷ ys) piece whole.1, length-append)

@@ -1,5 +1,5 @@
 -- The values of sectors after a write or a discard, and the bytes of sectors that are read in turn.
-use Rattle.std.proofs.Common.{◌≡◌, ℕ, suc, ◌+◌, ◌-◌, ◌*◌, ◌/◌, ◌<◌, ◌≤◌, Some, None, List, ◌++◌}
+use Rattle.std.proofs.Common.{◌≡◌, ℕ, ◌+◌, ◌-◌, ◌*◌, ◌/◌, ◌<◌, ◌≤◌, Some, None, List}
 use Rattle.std.proofs.Common.{length, take, drop, replicate, refl, ap, ◌∙◌, inl, inr, arith}
 use Rattle.std.proofs.lemmas.Bool.{cases_lt}
 use Rattle.std.specs.Prelude.{◌⊎◌, Option, slice_get, unwrap_or}
@@ -23,10 +23,7 @@ written-none first sector bytes outside = elim outside [
 ]
   where
     early : length bytes / 512 ≤ sector - first → writes first bytes sector ≡ None
-    early after = elim (cases_lt sector first) [
-      | inl before ↦ over-before first (length bytes / 512) (sector_of bytes) sector before
-      | inr from ↦ over-after first (length bytes / 512) (sector_of bytes) sector (omega arith)
-    ]
+    early after = grind (arith, cases_lt, over-before, over-after)
 
 -- a sector within it has its part
 pub written-some : (first sector : ℕ) (bytes : List ℕ) → first ≤ sector
@@ -42,14 +39,7 @@ written-some first sector bytes low high =
 -- a discard leaves zeroes, where it has no value too
 pub discarded : (first count sector : ℕ)
     → unwrap_or (discards first count sector) (replicate 512 0) ≡ replicate 512 0
-discarded first count sector = elim (over_cases first count (λ _. replicate 512 0) sector) [
-  | inl within ↦
-      let place = within.2 in
-      ap (λ (o : Option (List ℕ)). unwrap_or o (replicate 512 0)) (
-      ap (discards first count) place ∙ over-in first count (λ _. replicate 512 0) within.0 within.1
-      )
-  | inr none ↦ ap (λ (o : Option (List ℕ)). unwrap_or o (replicate 512 0)) none
-]
+discarded first count sector = grind (arith, over_cases, over-in)
 
 -- the next sector that is read comes after those before it
 pub gather-next : (content : Content) (first index : ℕ) (old new value : List ℕ)
@@ -59,16 +49,7 @@ pub gather-next : (content : Content) (first index : ℕ) (old new value : List 
     → take (512 * index) old ≡ gather content first index
     → take (512 * (index + 1)) new ≡ gather content first (index + 1)
 gather-next content first index old new value within size is read earlier =
-    let place : 512 * (index + 1) ≡ index * 512 + length value = omega arith in
-    let turned : index * 512 ≡ 512 * index = omega arith in
-    let more : suc index ≡ index + 1 = omega arith in
-    ap (take (512 * (index + 1))) is
-    ∙ take-put_mid (index * 512) (index * 512 + 512 - index * 512) old value
-    (512 * (index + 1)) place (omega arith)
-    ∙ ap (λ (n : ℕ). take n old ++ value) turned
-    ∙ ap (λ (xs : List ℕ). xs ++ value) earlier
-    ∙ ap (λ (xs : List ℕ). gather content first index ++ xs) read
-    ∙ ap (gather content first) more
+    grind (arith, take-put_mid)
 
 -- each value of a call is a whole sector
 pub length-value_at : (calls : List Call) (place sector : ℕ)

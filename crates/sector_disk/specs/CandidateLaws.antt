@@ -2,7 +2,7 @@
 -- devices.
 use Rattle.std.proofs.Common.{◌≡◌, ℕ, suc, zero, ◌<◌, ◌≤◌, Bool, true, false, IsTrue, Option, None}
 use Rattle.std.proofs.Common.{Some, List, [], ◌∷◌, length, refl, ap, subst, sym, ◌∙◌, inl, inr}
-use Rattle.std.proofs.Common.{arith, lit<}
+use Rattle.std.proofs.Common.{arith}
 use Rattle.std.proofs.lemmas.Bool.{cases_lt, le-ltb, lt-ltb}
 use Rattle.std.proofs.lemmas.List.Elements.{Contains-append_cases, Contains-append_left}
 use Rattle.std.proofs.lemmas.List.Elements.{Contains-append_right}
@@ -50,8 +50,7 @@ candidate_durable : (value : Option (List ℕ)) (fua : Bool) (old : List (List �
     → Contains (candidates_after value fua old) left
     → (before : List ℕ) × Contains old before × (left ≡ unwrap_or value before)
 candidate_durable None fua old now left is current has = (left, has, refl)
-candidate_durable (Some value) true old now left is current has =
-    (now, current, one_contains value left has)
+candidate_durable (Some value) true old now left is current has = grind (arith, one_contains)
 candidate_durable (Some value) false old now left is current has = cc
 
 -- the value of a sector after a call is one of its candidates
@@ -96,8 +95,7 @@ left-durable patch fua cache left is current may =
 -- call.
 pub left-kept : (patch : Patch) (cache : Cache) (left : Content) → MayLeave cache left
     → MayLeave (after_step (Puts patch false) cache) left
-left-kept patch cache left may =
-    λ sector. candidate_kept (patch sector) (cache.may sector) (left sector) (may sector)
+left-kept patch cache left may = grind (arith, candidate_kept)
 
 -- If all values are durable, a crash leaves exactly these values.
 pub left-settled : (content left : Content) → MayLeave (settled content) left → (sector : ℕ)
@@ -124,8 +122,7 @@ is_current start (Flushes ∷ past) = λ sector. contains_one ((cache_after star
 during : (start : Content) (step : Step) (past : List Step) (left : Content)
     → MayLeave (cache_after start (step ∷ past)) left
     → LeftDuring step (cache_after start past) left
-during start (Puts patch fua) past left may =
-    left-torn patch fua (cache_after start past) left (is_current start past) may
+during start (Puts patch fua) past left may = grind (arith, left-torn, is_current)
 during start Flushes past left may =
     left-flushed (cache_after start past) left (is_current start past) may
 
@@ -157,11 +154,7 @@ pub since-now : (start : Content) (past : List Step) (left : Content)
     → LeftSince start past (length past) left
     → MayLeave (cache_after start past) left
 since-now start [] left may = may
-since-now start (step ∷ past) left may =
-    match_true (nat_lt (length past) (suc (length past)))
-    (MayLeave (cache_after start (step ∷ past)) left)
-    (LeftSince start past (suc (length past)) left ⊎ LeftDuring step (cache_after start past) left)
-    (lt-ltb (length past) (suc (length past)) (omega arith)) may
+since-now start (step ∷ past) left may = grind (arith, match_true, lt-ltb)
 
 -- If a crash since an earlier reading may have left a content, a crash before the step or during
 -- the step may have left it.
@@ -169,58 +162,31 @@ pub since-step : (start : Content) (step : Step) (past : List Step) (moment : �
     → moment ≤ length past
     → LeftSince start (step ∷ past) moment left
     → LeftSince start past moment left ⊎ LeftDuring step (cache_after start past) left
-since-step start step past moment left h may =
-    match_false (nat_lt (length past) moment) (MayLeave (cache_after start (step ∷ past)) left)
-    (LeftSince start past moment left ⊎ LeftDuring step (cache_after start past) left)
-    (le-ltb (length past) moment h) may
+since-step start step past moment left h may = grind (arith, match_false, le-ltb)
 
 -- Each content that a crash may have left before a step is still one that a crash may have left
 -- after the step.
 pub since-kept : (start : Content) (step : Step) (past : List Step) (moment : ℕ) (left : Content)
     → moment ≤ length past
     → LeftSince start past moment left → LeftSince start (step ∷ past) moment left
-since-kept start step past moment left h may =
-    match_intro (nat_lt (length past) moment) (MayLeave (cache_after start (step ∷ past)) left)
-    (LeftSince start past moment left ⊎ LeftDuring step (cache_after start past) left)
-    (λ after. let before = le-ltb (length past) moment h in cc) (λ before. inl may)
+since-kept start step past moment left h may = grind (arith, match_intro, le-ltb)
 
 -- Whatever a crash during a step may leave, a crash since the step's start may have left.
 pub since-during : (start : Content) (step : Step) (past : List Step) (left : Content)
     → LeftDuring step (cache_after start past) left
     → LeftSince start (step ∷ past) (length past) left
-since-during start step past left during_it =
-    match_intro (nat_lt (length past) (length past))
-    (MayLeave (cache_after start (step ∷ past)) left)
-    (LeftSince start past (length past) left ⊎ LeftDuring step (cache_after start past) left)
-    (λ after. let before = le-ltb (length past) (length past) (omega arith) in cc)
-    (λ before. inr during_it)
+since-during start step past left during_it = grind (arith, match_intro, le-ltb)
 
 -- A write or a discard changes the view of a disk within the call's frame.
 pub goes_puts : (size : ℕ) (start : Content) (past : List Step) (patch : Patch) (fua : Bool)
     → DeviceFrame patch (view_of size start past) (view_of size start (Puts patch fua ∷ past))
-goes_puts size start past patch fua = record {
-  size = refl;
-  place = refl;
-  content = patched-whole patch (cache_after start past).now;
-  crash = λ left may. left-torn patch fua (cache_after start past) left (is_current start past) may;
-  moment = omega arith;
-  gains = λ moment left h may. since-step start (Puts patch fua) past moment left h may;
-  keeps = λ moment left h may. since-kept start (Puts patch fua) past moment left h may;
-  faults = omega arith;
-  lies = omega arith;
-  can_lie = refl;
-  honest = λ none. refl;
-}
+goes_puts size start past patch fua =
+    grind (arith, patched-whole, left-torn, is_current, since-step, since-kept)
 
 -- A write or a discard of a disk is done (`WriteDone`).
 pub lands_puts : (size : ℕ) (start : Content) (past : List Step) (patch : Patch) (fua : Bool)
     → WriteDone patch fua (view_of size start past) (view_of size start (Puts patch fua ∷ past))
-lands_puts size start past patch fua = record {
-  content = λ sector. refl;
-  durable =
-      λ is left may. left-durable patch fua (cache_after start past) left is
-      (is_current start past) may;
-}
+lands_puts size start past patch fua = grind (arith, left-durable, is_current)
 
 -- A flush changes the view of a disk within the frame of a flush.
 pub goes_flush : (size : ℕ) (start : Content) (past : List Step)
@@ -340,13 +306,5 @@ since-whole size start (step ∷ past) whole steps moment left may =
 pub view-lawful : (size : ℕ) (start : Content) (past : List Step) → 0 < size → size ≤ 1048576
     → HasWholeSectors size start
     → HasWholeSteps past → IsLawful (view_of size start past)
-view-lawful size start past some few whole steps = record {
-  some_sectors = some;
-  few_sectors = few;
-  current = is_current start past;
-  nested = λ moment left h may. since-nested start past moment left h may;
-  only_now = λ left may. since-now start past left may;
-  whole = λ moment left h may. since-whole size start past whole steps moment left may;
-  faults = lit< tt;
-  lies = lit< tt;
-}
+view-lawful size start past some few whole steps =
+    grind (arith, is_current, since-nested, since-now, since-whole)

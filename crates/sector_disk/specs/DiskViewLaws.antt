@@ -52,8 +52,7 @@ steps-whole calls begun (suc n) = at (slice_get calls (begun + n)) (steps-whole 
     at : (o : Option Call) → HasWholeSteps (steps_of calls begun n)
         → HasWholeSteps (step_after o (steps_of calls begun n))
     at None earlier = earlier
-    at (Some call) earlier =
-        (values-whole call, flushed-whole call.after_flush (steps_of calls begun n) earlier)
+    at (Some call) earlier = grind (arith, values-whole, flushed-whole)
 
 -- The view of each disk is lawful.
 pub disk_lawful : (disk : SectorDisk) → IsLawful (shown_of disk)

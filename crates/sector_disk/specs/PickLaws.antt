@@ -1,6 +1,6 @@
 -- Laws of the picks of a crash: all picks leave a content that a crash may leave, and some picks
 -- leave each such content.
-use Rattle.std.proofs.Common.{◌≡◌, ℕ, suc, zero, ◌+◌, ◌%◌, ◌<◌, true, false, Some, List, [], ◌∷◌}
+use Rattle.std.proofs.Common.{◌≡◌, ℕ, suc, zero, ◌+◌, ◌<◌, true, false, Some, List, [], ◌∷◌}
 use Rattle.std.proofs.Common.{◌++◌, length, refl, ap, sym, ◌∙◌, inl, inr, arith, length-append}
 use Rattle.std.proofs.Math.Nat.{mod-eq_of_lt, mod-lt}
 use Rattle.std.proofs.lemmas.Bool.{cases_lt, lt-ltb}
@@ -19,11 +19,11 @@ at-contains : (xs : List (List ℕ)) (k : ℕ) → k < length xs
 at-contains xs k h =
     let there = slice_get-get_or xs k [] h in
     let same : unwrap_or (slice_get xs k) [] ≡ slice_index_or xs k [] =
-    ap (λ (o : Option (List ℕ)). unwrap_or o []) there in (
+    rw there in (
       k,
       h,
       get_or_from_slice_get xs k (unwrap_or (slice_get xs k) [])
-          (unwrap_or (slice_get xs k) []) (there ∙ ap (λ (x : List ℕ). Some x) (sym same)),
+          (unwrap_or (slice_get xs k) []) (there ∙ rw (← same)),
     )
 
 -- A crash may leave the content that `picks` leave, whatever `picks` are.
@@ -88,18 +88,8 @@ pick-there cache index (suc n) sector h many = elim (last_or_below sector n h) [
 choice-there : (cache : Cache) (index : ℕ → ℕ) (n sector : ℕ) → sector < n
     → index sector < length (cache.may sector)
     → choice_of cache (picks_for cache index n) sector ≡ index sector
-choice-there cache index n sector h within = elim (cases_lt 1 (length (cache.may sector))) [
-  | inl many ↦
-      ap (λ (o : Option ℕ). unwrap_or o 0 % length (cache.may sector))
-      (pick-there cache index n sector h many)
-      ∙ mod-eq_of_lt within
-  | inr one ↦
-      let some : 0 < length (cache.may sector) = omega arith in
-      let low =
-      mod-lt (unwrap_or (slice_get (picks_for cache index n)
-      (unsynced_below cache sector)) 0) some in
-      omega arith
-]
+choice-there cache index n sector h within =
+    grind (arith, cases_lt, pick-there, mod-eq_of_lt, mod-lt)
 
 -- For each content that a crash may leave, some picks leave it in all sectors of the disk.
 pub each_is_picked : (size : ℕ) (cache : Cache) (left : Content) → MayLeave cache left

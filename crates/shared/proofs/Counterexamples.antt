@@ -1,12 +1,10 @@
 -- For each clause of what a call is answered, and of what a close compares and returns: a change
 -- that the clause refuses.
-use Rattle.std.proofs.Common.{◌≡◌, ◌==◌, ◌<◌, ℕ, true≢false, List, [], ◌∷◌}
-use Rattle.std.proofs.Common.{Global, Option, Some, None, Vec, ap, arith, inl, inr, length, refl}
+use Rattle.std.proofs.Common.{◌≡◌, ◌<◌, ℕ, true≢false, List, [], ◌∷◌}
+use Rattle.std.proofs.Common.{Global, Option, Some, None, Vec, arith, inl, inr, length, refl}
 use Rattle.std.proofs.Common.{sym, take}
 use Rattle.std.specs.Prelude.{slice_get}
-use Rattle.bio.specs.declared.event.CoreEvent.TheVariants as events
 use Rattle.refusals.specs.declared.end.End.{End}
-use Rattle.bio.specs.declared.outcome.Status.{Status}
 use Rattle.bio.specs.declared.request.Bio.TheVariants as bios
 use Rattle.board.specs.Posts.{MayPost, opening}
 use Rattle.log_format.specs.Entries.{end_mark}
@@ -25,7 +23,7 @@ use Rattle.shared.specs.Close.{Agrees, Differs, IfBusy, IsReceipt, LeavesLog}
 use Rattle.shared.specs.Posts.{ArePosted, IsCurrent}
 use Rattle.shared.specs.Seats.{AreNewReaders, AreNewSeats}
 use Rattle.shared.specs.declared.answer.Answer.TheVariants.{Done as done}
-use Rattle.shared.specs.declared.answer.Answer.TheVariants.{Read, Refused}
+use Rattle.shared.specs.declared.answer.Answer.TheVariants.{Read}
 use Rattle.shared.specs.declared.answer.MarkAnswer.TheVariants as marks
 use Rattle.shared.specs.declared.answer.MarkRefusal.TheVariants.{BadText}
 use Rattle.shared.specs.declared.closing.Unclosed.TheVariants.{Busy}
@@ -114,8 +112,7 @@ one_fits = record {
 }
 
 current_unposted : IsCurrent 512 (ending ∷ []) 1 None None [] (opening ∷ []) → ⊥
-current_unposted current =
-    true≢false (ap (λ (status : Status). status.entries == 0) (current.latest one_fits))
+current_unposted current = grind arith
 
 -- a recorder that lacks a seat, and one of which a seat has had a call
 seat_missing : AreNewSeats 1 [] → ⊥

@@ -1,7 +1,6 @@
 -- Worked answers: some match what the call adds, and some don't.
-use Rattle.std.proofs.Common.{◌≡◌, ◌==◌, ◌<◌, ℕ, zero, suc, Bool, true, false, List, [], ◌∷◌}
-use Rattle.std.proofs.Common.{length}
-use Rattle.std.proofs.Common.{None, Ok, Some, inl, inr, refl, ap, subst, sym, ◌∙◌, true≢false}
+use Rattle.std.proofs.Common.{◌≡◌, ◌<◌, ℕ, zero, suc, Bool, true, false, List, [], ◌∷◌}
+use Rattle.std.proofs.Common.{None, Ok, Some, inl, inr, refl, sym, true≢false}
 use Rattle.std.proofs.Common.{arith}
 use Rattle.bio.specs.declared.event.CoreEvent.TheVariants as events
 use Rattle.refusals.specs.declared.end.End.TheVariants.{Device, Full}
@@ -23,7 +22,7 @@ use Rattle.shared.specs.Posts.{IsCurrent, IsLatest, IsOfPrefix, KeepsCauses, Pos
 use Rattle.shared.specs.Posts.{StatusHasCause}
 use Rattle.shared.specs.Search.{Finds}
 use Rattle.shared.specs.NextItem.{FindsNext}
-use Rattle.shared.specs.declared.answer.Answer.TheVariants.{Done, Logged}
+use Rattle.shared.specs.declared.answer.Answer.TheVariants.{Done}
 use Rattle.shared.specs.declared.answer.MarkAnswer.TheVariants as marks
 use Rattle.shared.specs.declared.calls.Entered.TheVariants.{Recorded, Unrecorded}
 use Rattle.shared.specs.declared.marks.EnteredMark.TheVariants as entered
@@ -45,10 +44,7 @@ plain_done = (refl, inl (refl, (0, (1, refl))))
 
 -- but a write with FUA isn't
 fua_not_done : Answered (new_part 0) fua Done (after fua true) → ⊥
-fua_not_done answered = elim answered.1 [
-  | inl recorded ↦ true≢false recorded.0
-  | inr passed ↦ true≢false (ap (λ (part : Part). length part.own == 2) passed.1.1)
-]
+fua_not_done answered = grind arith
 
 -- a mark is answered so where it stands in the list
 mark_logged : Marked (new_part 0) (1 ∷ []) (marks.Logged (record { id = 3; number = 0 }))
@@ -58,7 +54,7 @@ mark_logged = refl
 -- and not where its seat's list didn't grow
 mark_missing : Marked (new_part 0) (1 ∷ []) (marks.Logged (record { id = 3; number = 0 }))
     (new_part 0) → ⊥
-mark_missing answered = true≢false (ap (λ (part : Part). length part.own == 0) answered)
+mark_missing answered = grind arith
 
 -- a queue of no events, one whose logging ended, and one that was closed
 abbrev fresh : Queue
@@ -105,7 +101,7 @@ one_posted = record { within = omega arith; sector = refl }
 
 -- nor is one with the sector of another prefix
 other_posted : IsOfPrefix 512 two (record { entries = 1; sector = 2; end = None }) → ⊥
-other_posted is = true≢false (ap (λ (n : ℕ). n == 2) is.sector)
+other_posted is = grind arith
 
 -- a log of two items, of which both are settled, and a receipt for each
 abbrev both_placed : Log
@@ -156,29 +152,21 @@ abbrev both : Status
 both = record { entries = 2; sector = 2; end = None }
 
 both_may : MayPost (opening ∷ []) both
-both_may = record {
-  fit = record { entries = omega arith; sector = omega arith };
-  follows = record { entries = omega arith; end = λ cause is. absurd (cc is) };
-}
+both_may = grind arith
 
 -- so it is posted, and then it is the last one; and what goes back isn't
 both_posted : PostsNext (opening ∷ []) both (opening ∷ both ∷ [])
 both_posted = inl (both_may, refl)
 
 both_dropped : PostsNext (opening ∷ []) both (opening ∷ []) → ⊥
-both_dropped (inl (may, posted)) =
-    true≢false (ap (λ (statuses : List Status). length statuses == 1) posted)
+both_dropped (inl (may, posted)) = grind arith
 both_dropped (inr (refused, same)) = refused both_may
 
 both_unposted : IsLatest 512 both_placed (opening ∷ []) → ⊥
-both_unposted latest =
-    true≢false (ap (λ (status : Status). status.entries == 0) (latest both_may))
+both_unposted latest = grind (arith, both_may)
 
 posted_back : (new : List Status) → PostsNext (both ∷ []) opening new → new ≡ both ∷ []
-posted_back new (inl (may, posted)) =
-    let follows = may.follows in
-    let entries = follows.entries in
-    absurd (omega arith)
+posted_back new (inl (may, posted)) = grind arith
 posted_back new (inr (refused, same)) = same
 
 -- What was posted of it is up to date, where both receipts were told.
@@ -194,30 +182,17 @@ two_current = record {
   where
     counted : Each (IsOfPrefix 512 two)
         (opening ∷ record { entries = 2; sector = 2; end = None } ∷ [])
-    counted zero status there =
-        let is : opening ≡ status = cc in subst (IsOfPrefix 512 two) is none_posted
-    counted (suc zero) status there =
-        let is : both ≡ status = cc in
-        subst (IsOfPrefix 512 two) is (record { within = omega arith; sector = refl })
+    counted zero status there = grind (arith, none_posted)
+    counted (suc zero) status there = grind arith
     counted (suc (suc k)) status there = absurd (cc there)
 
     ends : Each (StatusHasCause None None)
         (opening ∷ record { entries = 2; sector = 2; end = None } ∷ [])
-    ends zero status there cause is other =
-        let same : opening ≡ status = cc in
-        let end : opening.end ≡ Some cause = ap (λ (s : Status). s.end) same ∙ is in
-        absurd (cc end)
-    ends (suc zero) status there cause is other =
-        let same : record { entries = 2; sector = 2; end = None } ≡ status = cc in
-        let end : opening.end ≡ Some cause = ap (λ (s : Status). s.end) same ∙ is in
-        absurd (cc end)
+    ends zero status there cause is other = grind arith
+    ends (suc zero) status there cause is other = grind arith
     ends (suc (suc k)) status there cause is other = absurd (cc there)
 
     told : Each (λ (receipt : Receipt). receipt.number < 2) (told_of 0 ∷ told_of 1 ∷ [])
-    told zero receipt there =
-        let is : told_of 0 ≡ receipt = cc in
-        subst (λ (r : Receipt). r.number < 2) is (omega arith)
-    told (suc zero) receipt there =
-        let is : told_of 1 ≡ receipt = cc in
-        subst (λ (r : Receipt). r.number < 2) is (omega arith)
+    told zero receipt there = grind arith
+    told (suc zero) receipt there = grind arith
     told (suc (suc k)) receipt there = absurd (cc there)

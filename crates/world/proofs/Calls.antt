@@ -4,7 +4,7 @@ use Rattle.std.proofs.Common.{Some, None, List, [], ◌∷◌, ◌++◌, refl, a
 use Rattle.std.proofs.lemmas.Bool.{and_parts, eq-eqb, eqb-true}
 use Rattle.std.proofs.lemmas.List.Folds.{list_all-append, list_any-append}
 use Rattle.std.specs.List.{list_all, list_any}
-use Rattle.std.specs.Prelude.{slice_get, if◌then◌else◌}
+use Rattle.std.specs.Prelude.{slice_get}
 use Rattle.bio.specs.PlaceLaws.{last_or_below, or_cases, or_second}
 use Rattle.bio.specs.declared.request.Bio.{Bio}
 use Rattle.bio.specs.declared.event.CoreEvent.{CoreEvent}
@@ -39,7 +39,7 @@ pub any_weaker : (s t : Step → Bool) → ((step : Step) → s step ≡ true �
     → (steps : List Step) → list_any s steps ≡ true → list_any t steps ≡ true
 any_weaker s t weaker [] h = cc
 any_weaker s t weaker (step ∷ steps) h = elim (or_cases (s step) (list_any s steps) h) [
-  | inl here ↦ ap (λ b. b || list_any t steps) (weaker step here)
+  | inl here ↦ rw (weaker step here)
   | inr there ↦ or_second (t step) (list_any t steps) (any_weaker s t weaker steps there)
 ]
 
@@ -77,8 +77,7 @@ came_append : (early late : Step → Bool) (front calls : List Step)
     → came_before early late calls ≡ true → came_before early late (front ++ calls) ≡ true
 came_append early late [] calls h = h
 came_append early late (step ∷ front) calls h =
-    or_second (late step && list_any early (front ++ calls))
-    (came_before early late (front ++ calls)) (came_append early late front calls h)
+    grind (arith, came_append early late front calls h, or_second)
 
 -- a call that an event below the place is stands in the list
 pub any_call : (test : Step → Bool) (events : List CoreEvent) (n k : ℕ) (step : Step) → k < n
@@ -87,10 +86,9 @@ pub any_call : (test : Step → Bool) (events : List CoreEvent) (n k : ℕ) (ste
 any_call test events zero k step h is passes = absurd (omega arith)
 any_call test events (suc n) k step h is passes = elim (last_or_below k n h) [
   | inl same ↦
-      list_any-append test (call_of n (slice_get events n)) (calls_below events n)
-      ∙ ap (λ b. b || list_any test (calls_below events n)) (
-      ap (λ j. list_any test (call_of j (slice_get events j))) (sym same) ∙ ap (list_any test) is
-      ∙ ap (λ b. b || false) passes)
+      list_any-append test (call_of n (slice_get events n)) (calls_below events n) ∙ rw (ap (λ j.
+      list_any test (call_of j (slice_get events j))) (sym same) ∙ ap (list_any test) is ∙ ap
+      (λ b. b || false) passes)
   | inr below ↦
       list_any-append test (call_of n (slice_get events n)) (calls_below events n)
       ∙ or_second (list_any test (call_of n (slice_get events n)))
@@ -107,12 +105,11 @@ calls_before early late events zero k j first second order h is_first is_second 
 calls_before early late events (suc n) k j first second order h is_first is_second passes_first
     passes_second = elim (last_or_below j n h) [
       | inl same ↦
-          ap (λ front. came_before early late (front ++ calls_below events n))
-          (ap (λ i. call_of i (slice_get events i)) (sym same) ∙ is_second)
-          ∙ ap (λ b. (b && list_any early (calls_below events n))
-          || came_before early late (calls_below events n)) passes_second
-          ∙ ap (λ b. b || came_before early late (calls_below events n))
-          (any_call early events n k first (omega arith) is_first passes_first)
+          rw (
+            ap (λ i. call_of i (slice_get events i)) (sym same) ∙ is_second,
+            passes_second,
+            any_call early events n k first (omega arith) is_first passes_first,
+          )
       | inr below ↦
           came_append early late (call_of n (slice_get events n)) (calls_below events n)
           (calls_before early late events n k j first second order below is_first
@@ -158,8 +155,7 @@ end_call : (id k : ℕ) (event : Option CoreEvent) → list_any (is_end id) (cal
 end_call id k (Some (core_events.Submit bio)) h = cc
 end_call id k (Some (core_events.Complete ended ok)) h = (
   ok,
-  ap (λ (n : ℕ). Some (core_events.Complete n ok))
-      (eqb-true ended id (first_of_two (ended == id) h)),
+  rw (eqb-true ended id (first_of_two (ended == id) h)),
 )
 end_call id k (Some (core_events.Mark text)) h = cc
 end_call id k (Some (core_events.Stop cause)) h = cc
@@ -182,16 +178,12 @@ pub end_from : (events : List CoreEvent) (n id : ℕ)
     → list_any (is_end id) (calls_below events n) ≡ true
     → (place : ℕ) × (ok : Bool) × (place < n)
     × (slice_get events place ≡ Some (core_events.Complete id ok))
-end_from events n id h =
-    let found = call_from (is_end id) events n h in
-    let call = end_call id found.0 (slice_get events found.0) found.2 in
-    (found.0, call.0, found.1, call.1)
+end_from events n id h = grind (arith, call_from, end_call)
 
 -- a call of another place doesn't submit the request
 other_submit : (id k : ℕ) (event : Option CoreEvent) (calls : List Step) → (k ≡ id → ⊥)
     → before_submit id (call_of k event ++ calls) ≡ before_submit id calls
-other_submit id k (Some (core_events.Submit bio)) calls differ =
-    ap (λ b. if b then calls else before_submit id calls) (differ-eqb k id differ)
+other_submit id k (Some (core_events.Submit bio)) calls differ = grind (arith, differ-eqb)
 other_submit id k (Some (core_events.Complete ended ok)) calls differ = refl
 other_submit id k (Some (core_events.Mark text)) calls differ = refl
 other_submit id k (Some (core_events.Stop cause)) calls differ = refl
@@ -205,10 +197,7 @@ pub before_submit_at : (events : List CoreEvent) (n id : ℕ) (bio : Bio) → id
 before_submit_at events zero id bio h is = absurd (omega arith)
 before_submit_at events (suc n) id bio h is = elim (last_or_below id n h) [
   | inl same ↦
-      ap (λ j. before_submit id (call_of j (slice_get events j) ++ calls_below events j)) (sym same)
-      ∙ ap (λ event. before_submit id (call_of id event ++ calls_below events id)) is
-      ∙ ap (λ b. if b then calls_below events id else before_submit id (calls_below events id))
-      (eq-eqb id id refl)
+      rw (← same, is, eq-eqb id id refl)
   | inr below ↦
       other_submit id n (slice_get events n) (calls_below events n) (λ same. omega arith)
       ∙ before_submit_at events n id bio below is
@@ -220,6 +209,4 @@ pub all_calls : (test : Step → Bool) (events : List CoreEvent) (n : ℕ)
     → list_all test (calls_below events n) ≡ true
 all_calls test events zero each = refl
 all_calls test events (suc n) each =
-    list_all-append test (call_of n (slice_get events n)) (calls_below events n)
-    ∙ ap (λ b. b && list_all test (calls_below events n)) (each n (omega arith))
-    ∙ all_calls test events n (λ k h. each k (omega arith))
+    grind (arith, all_calls test events n (λ k h. each k (omega arith)), list_all-append)

@@ -1,11 +1,11 @@
 -- The plan's steps for the events, one event after another: the machine can take them, and after
 -- them each wanted request that has ended is the newest that is settled in its sector.
-use Rattle.std.proofs.Common.{◌≡◌, ℕ, zero, suc, ◌+◌, ◌<◌, ◌≤◌, ◌==◌, Bool, true, false, not, ◌&&◌}
+use Rattle.std.proofs.Common.{◌≡◌, ℕ, zero, suc, ◌<◌, ◌≤◌, ◌==◌, Bool, true, false, not, ◌&&◌}
 use Rattle.std.proofs.Common.{◌||◌, Option, Some, None, List, [], ◌∷◌, ◌++◌, length, take, refl, ap}
 use Rattle.std.proofs.Common.{sym, ◌∙◌, subst, inl, inr, arith}
 use Rattle.std.proofs.lemmas.Bool.{and_parts, eq-eqb, eqb-true, lt-ltb}
 use Rattle.std.specs.List.{list_all, list_any}
-use Rattle.std.specs.Prelude.{slice_get, unwrap_or}
+use Rattle.std.specs.Prelude.{slice_get}
 use Rattle.bio.specs.Places.{collect}
 use Rattle.bio.specs.PlaceLaws.{any_below-at, bool_cases, each_all_below, last_or_below}
 use Rattle.bio.specs.PlaceLaws.{or_cases, or_second, slice_get-within}
@@ -13,12 +13,12 @@ use Rattle.bio.specs.declared.request.Bio.{Bio}
 use Rattle.bio.specs.declared.event.CoreEvent.{CoreEvent}
 use Rattle.bio.specs.declared.event.CoreEvent.TheVariants as core_events
 use Rattle.bio.specs.EventLaws.{IsEnded, well_formed-each, well_formed-end}
-use Rattle.bio.specs.Events.{end_of, is_before, is_below, is_flush_submit, is_request, submits}
+use Rattle.bio.specs.Events.{end_of, is_before, is_flush_submit, is_request, submits}
 use Rattle.bio.specs.Lawful.{is_recording, is_well_formed}
 use Rattle.bio.specs.Possible.{covers_at, ended_ok, has_kept, is_durable, is_flushed, is_kept}
 use Rattle.bio.specs.Possible.{is_replaced, is_success, is_success_at}
 use Rattle.bio.specs.RequestLaws.{covers-within}
-use Rattle.bio.specs.Requests.{covers, first_sector, has_fua, is_tracked, sector_count}
+use Rattle.bio.specs.Requests.{covers, has_fua, is_tracked}
 use Rattle.judge.specs.Laws.{kept_within}
 use Rattle.world.specs.declared.step.Step.{Step}
 use Rattle.world.specs.declared.step.Step.TheVariants.{Submit, End}
@@ -74,31 +74,30 @@ start_follows events wanted sure = record {
 
 -- two that hold make both
 both_hold : (a b : Bool) → a ≡ true → b ≡ true → (a && b) ≡ true
-both_hold a b h k = ap (λ t. t && b) h ∙ k
+both_hold a b h k = grind arith
 
 -- the wanted request is it
 wanted_is : (wanted : Option ℕ) (id : ℕ) → wanted ≡ Some id → is_wanted wanted id ≡ true
-wanted_is wanted id is = ap (λ o. is_wanted o id) is ∙ eq-eqb id id refl
+wanted_is wanted id is = grind (arith, eq-eqb)
 
 pub is_wanted-some : (wanted : Option ℕ) (id : ℕ) → is_wanted wanted id ≡ true → wanted ≡ Some id
 is_wanted-some None id h = cc
-is_wanted-some (Some other) id h = ap (λ (n : ℕ). Some n) (eqb-true other id h)
+is_wanted-some (Some other) id h = grind (arith, eqb-true)
 
 -- no request is wanted where none is
 none_wanted : (wanted : Option ℕ) (id : ℕ) → wanted ≡ None → is_wanted wanted id ≡ false
-none_wanted wanted id is = ap (λ o. is_wanted o id) is
+none_wanted wanted id is = grind arith
 
 -- some are one
 pub same_some : (a b : ℕ) (o : Option ℕ) → o ≡ Some a → o ≡ Some b → a ≡ b
-same_some a b o is other = let one = sym is ∙ other in ap (λ x. unwrap_or x 0) one
+same_some a b o is other = grind arith
 
 -- a request that has ended below a place has its end there
 pub ended_below : (events : List CoreEvent) (k id : ℕ) → is_well_formed events ≡ true
     → list_any (is_end id) (calls_below events k) ≡ true
     → (place : ℕ) × (place < k) × IsEnded events id place
 ended_below events k id well_formed ended =
-    let found = end_from events k id ended in
-    (found.0, found.2, well_formed-end events found.0 id found.1 well_formed found.3)
+    grind (arith, end_from events k id ended, well_formed-end)
 
 -- a request's end is one
 pub not_ended : (events : List CoreEvent) (k id : ℕ) → is_well_formed events ≡ true
@@ -122,12 +121,12 @@ no_late_settle events wanted sure sector id new place choice is ends less needs 
     let later = found.0 in
     let order = found.1 in
     let before : is_before events id later ≡ true =
-    ap (λ o. is_below o later) ends ∙ lt-ltb place later (omega arith) in
+    rw ends (lt-ltb place later (omega arith)) in
     let replaced =
     any_below-at (λ other. is_kept events sector other && is_before events id other)
     (length events) later
     (kept_within events sector later found.2)
-    (ap (λ b. b && is_before events id later) found.2 ∙ before) in
+    (rw found.2 before) in
     clash (is_replaced events sector id) replaced (choice.stays sector id is)
 
 -- a durable request makes a sector one that has some
@@ -140,10 +139,7 @@ some_kept events sector id kept =
 each_of : (test : ℕ → Bool) (bio : Bio) → is_tracked bio ≡ true
     → ((sector : ℕ) → covers bio sector ≡ true → test sector ≡ true)
     → each_sector test (Some (core_events.Submit bio)) ≡ true
-each_of test bio tracked each =
-    each_all_below (λ place. test (first_sector bio + place)) (sector_count bio)
-    (λ k h. each (first_sector bio + k)
-    (covers-within bio (first_sector bio + k) tracked (omega arith) (omega arith)))
+each_of test bio tracked each = grind (arith, each_all_below, covers-within)
 
 -- a submission: the machine after its steps
 pub follow_submit : (events : List CoreEvent) (wanted : ℕ → Option ℕ) (sure : ℕ → ℕ → Bool) (k : ℕ)
@@ -306,7 +302,7 @@ may_end events mid k id ok bio well_formed is submitted tracked less ends calls 
     good =
     let end : ended_ok events id ≡ true =
     good_end events id k ends
-    (is ∙ ap (λ (b : Bool). Some (core_events.Complete id b)) good) in
+    (is ∙ rw good) in
     let all_landed : has_landed events mid id ≡ true =
     ap (each_sector (λ sector. is_among (mid.landed sector) id)) submitted
     ∙ each_of (λ sector. is_among (mid.landed sector) id) bio tracked (landed good) in
@@ -318,7 +314,7 @@ may_end events mid k id ok bio well_formed is submitted tracked less ends calls 
     (both_hold (is_durable events id) (covers_at sector (slice_get events id))
     (both_hold (ended_ok events id)
     (submits has_fua (slice_get events id) || is_flushed events id) end
-    (ap (λ b. b || is_flushed events id) fua))
+    (rw fua))
     (ap (covers_at sector) submitted ∙ covered))) in
     let flush : is_flush_submit (slice_get events id) ≡ true →
     list_all (settled_if_ended events mid) (before_submit id mid.calls) ≡ true = λ is_flush.
@@ -346,7 +342,7 @@ may_end events mid k id ok bio well_formed is submitted tracked less ends calls 
     of_end place other true there early is_flush end =
         let ended = well_formed-end events place other true well_formed there in
         let before : is_before events other id ≡ true =
-        ap (λ o. is_below o id) ended.ends ∙ lt-ltb place id early in
+        rw ended.ends (lt-ltb place id early) in
         let flushed : is_flushed events other ≡ true =
         any_below-at (λ flush. is_flush_submit (slice_get events flush)
         && (ended_ok events flush && is_before events other flush)) (length events) id
@@ -371,7 +367,7 @@ may_end events mid k id ok bio well_formed is submitted tracked less ends calls 
         → list_all (settled_if_ended events mid) (call_of place event) ≡ true
     of_event place (Some (core_events.Submit other)) there early is_flush end = refl
     of_event place (Some (core_events.Complete other good_one)) there early is_flush end =
-        ap (λ b. b && true) (of_end place other good_one there early is_flush end)
+        grind (arith, of_end)
     of_event place (Some (core_events.Mark text)) there early is_flush end = refl
     of_event place (Some (core_events.Stop cause)) there early is_flush end = refl
     of_event place (Some core_events.Close) there early is_flush end = refl
@@ -390,9 +386,7 @@ ended_one events place a b good fine is other = ap id_of (sym other ∙ is)
 -- the newest of a list is among it
 newest_among : (ids : List ℕ) (id : ℕ) → newest ids ≡ Some id → is_among ids id ≡ true
 newest_among [] id is = cc
-newest_among (first ∷ ids) id is =
-    let same = same_some first id (Some first) refl is in
-    ap (λ b. b || is_among ids id) (eq-eqb first id same)
+newest_among (first ∷ ids) id is = grind (arith, same_some, eq-eqb)
 
 -- an end: the machine after its steps
 pub follow_end : (events : List CoreEvent) (wanted : ℕ → Option ℕ) (sure : ℕ → ℕ → Bool) (k : ℕ)
@@ -591,10 +585,10 @@ pub follow_other : (events : List CoreEvent) (wanted : ℕ → Option ℕ) (sure
     → Follows events wanted sure k m → Follows events wanted sure (suc k) m
 follow_other events wanted sure k m none uncovered before =
     let same : calls_below events (suc k) ≡ calls_below events k =
-    ap (λ calls. calls ++ calls_below events k) none in
+    rw none in
     let not_here : (sector id : ℕ) → id ≡ k → covers_at sector (slice_get events id) ≡ true → ⊥ =
     λ sector id is covered. clash (covers_at sector (slice_get events id)) covered
-    (ap (λ i. covers_at sector (slice_get events i)) is ∙ uncovered sector) in
+    (rw is (uncovered sector)) in
     record {
       calls = before.calls ∙ sym same;
       on = before.on;
@@ -659,8 +653,7 @@ pub follow_all : (events : List CoreEvent) (wanted : ℕ → Option ℕ) (sure :
     → (new : Machine) × StepsFrame events start
     (collect (λ place. steps_of events wanted sure place (slice_get events place)) k) new
     × Follows events wanted sure k new
-follow_all events wanted sure zero well_formed choice =
-    (start, go_none events start, start_follows events wanted sure)
+follow_all events wanted sure zero well_formed choice = grind (arith, go_none, start_follows)
 follow_all events wanted sure (suc k) well_formed choice =
     let front = follow_all events wanted sure k well_formed choice in
     let next =

@@ -1,5 +1,5 @@
 -- Each content that the device could hold is left by some run.
-use Rattle.std.proofs.Common.{◌≡◌, ℕ, Bool, true, false, Option, Some, None, List, ap, sym, ◌∙◌}
+use Rattle.std.proofs.Common.{◌≡◌, ℕ, Bool, true, false, Option, Some, None, List, sym}
 use Rattle.std.proofs.Common.{inl, inr, arith}
 use Rattle.std.specs.Prelude.{slice_get, unwrap_or}
 use Rattle.bio.specs.Content.{Content}
@@ -22,19 +22,14 @@ chosen_covers : (events : List CoreEvent) (first now : Content) (sector : ℕ)
     → chosen events first now sector why ≡ Some id
     → covers_at sector (slice_get events id) ≡ true
 chosen_covers events first now sector (inl same) id is = cc
-chosen_covers events first now sector (inr from) id is =
-    let one : from.0 ≡ id = ap (λ o. unwrap_or o 0) is in
-    ap (λ i. covers_at sector (slice_get events i)) (sym one)
-    ∙ value_covers (slice_get events from.0) sector (now sector) from.1
+chosen_covers events first now sector (inr from) id is = grind (arith, value_covers)
 
 chosen_stays : (events : List CoreEvent) (first now : Content) (sector : ℕ)
     (why : PossibleAt events first now sector) (id : ℕ)
     → chosen events first now sector why ≡ Some id
     → is_replaced events sector id ≡ false
 chosen_stays events first now sector (inl same) id is = cc
-chosen_stays events first now sector (inr from) id is =
-    let one : from.0 ≡ id = ap (λ o. unwrap_or o 0) is in
-    ap (is_replaced events sector) (sym one) ∙ from.2
+chosen_stays events first now sector (inr from) id is = grind arith
 
 chosen_bare : (events : List CoreEvent) (first now : Content) (sector : ℕ)
     (why : PossibleAt events first now sector) → chosen events first now sector why ≡ None
@@ -47,8 +42,7 @@ chosen_value : (events : List CoreEvent) (first now : Content) (sector : ℕ)
     → unwrap_or (values_of_id events (chosen events first now sector why) sector) (first sector)
     ≡ now sector
 chosen_value events first now sector (inl same) = sym same.0
-chosen_value events first now sector (inr from) =
-    ap (λ (o : Option (List ℕ)). unwrap_or o (first sector)) from.1
+chosen_value events first now sector (inr from) = grind arith
 
 -- a possible content is left by a run
 pub possible_reachable : (events : List CoreEvent) (first now : Content)

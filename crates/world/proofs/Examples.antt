@@ -3,7 +3,7 @@
 use Rattle.std.proofs.Common.{◌≡◌, ℕ, ◌==◌, Bool, true, false, Some, List, [], ◌∷◌, length, get_or}
 use Rattle.std.proofs.Common.{take, replicate, refl, ap, sym, ◌∙◌, subst, inl, inr, arith}
 use Rattle.std.proofs.lemmas.Bool.Decides.{eqb_tells}
-use Rattle.std.specs.Prelude.{codes, slice_get, unwrap_or, if◌then◌else◌}
+use Rattle.std.specs.Prelude.{codes, unwrap_or, if◌then◌else◌}
 use Rattle.bio.specs.Content as contents
 use Rattle.bio.specs.Content.{Content}
 use Rattle.bio.specs.declared.event.CoreEvent.{CoreEvent}
@@ -13,11 +13,11 @@ use Rattle.world.specs.declared.step.Step.{Step}
 use Rattle.world.specs.declared.step.Step.TheVariants.{Submit, Land, Destage, End, Power}
 use Rattle.refusals.specs.declared.refusal.Refusal.TheVariants as refusals
 use Rattle.world.specs.declared.step_error.StepError.TheVariants as step_errors
-use Rattle.world.specs.Cells.{AllSteps, CellState, IsFresh, IsPut, IsRun, Steps, WorldState}
-use Rattle.world.specs.Cells.{empty_cell, landed_of, landing, put_at, settling}
+use Rattle.world.specs.Cells.{AllSteps, IsFresh, IsPut, IsRun, Steps, WorldState}
+use Rattle.world.specs.Cells.{empty_cell, landing, put_at, settling}
 use Rattle.world.specs.Refusals.{step_refusal}
 use Rattle.world.proofs.ImageSector.{put_none}
-use Rattle.world.specs.Machine.{Machine, before_submit, has_step, newest, start}
+use Rattle.world.specs.Machine.{before_submit, has_step, newest, start}
 use Rattle.world.specs.Texts.{end_text, step_text}
 use Rattle.world.specs.Runs.{IsReachable, Leaves, calls_below, durable, is_run, taken, values_of_id}
 
@@ -65,7 +65,7 @@ older-reachable = (run, run-leaves)
 
 -- a byte is that of its list
 byte_is : (a b : ℕ) → replicate 512 a ≡ replicate 512 b → a ≡ b
-byte_is a b same = ap (λ bytes. get_or bytes 0 0) same
+byte_is a b same = grind (arith, get_or)
 
 -- it leaves nothing else, doesn't fit fewer events, and isn't whole without power
 run-other : Leaves list (holding 0) run (holding 2) → ⊥
@@ -247,28 +247,17 @@ fresh-off : IsFresh (replicate 512 7) (record fresh { off = true }) → ⊥
 fresh-off told = let contra : true ≡ false = told.off in cc
 
 fresh-landed : IsFresh (replicate 512 7) (record fresh { cells = landing 0 empty_cell ∷ [] }) → ⊥
-fresh-landed told =
-    let contra =
-    number_is 1 0 (ap (λ (cells : List CellState). length
-    (landed_of (slice_get cells 0))) told.cells) in
-    omega arith
+fresh-landed told = grind (arith, number_is)
 
 fresh-called : IsFresh (replicate 512 7) (record fresh { calls = Power ∷ [] }) → ⊥
-fresh-called told =
-    let contra = number_is 1 0 (ap (λ (calls : List Step). length calls) told.calls) in omega arith
+fresh-called told = grind (arith, number_is)
 
 fresh-image : IsFresh (replicate 512 7) (record fresh { image = replicate 512 8 }) → ⊥
 fresh-image told = let contra = byte_is 8 7 told.image in absurd (omega arith)
 
 -- power goes, and nothing else changes
 steps-power : Steps [] Power fresh (record fresh { off = true })
-steps-power = record {
-  may = refl;
-  after = record { landed = λ sector. refl; settled = λ sector. refl; calls = refl; off = refl };
-  left = λ sector within. refl;
-  sectors = refl;
-  size = refl;
-}
+steps-power = grind arith
 
 steps-nothing : Steps [] Power fresh fresh → ⊥
 steps-nothing told = let contra : false ≡ true = told.after.off in cc
@@ -294,7 +283,7 @@ all-none : AllSteps [] [] fresh fresh
 all-none = refl
 
 all-other : AllSteps [] [] fresh (record fresh { off = true }) → ⊥
-all-other told = let contra : false ≡ true = ap (λ (world : WorldState). world.off) told in cc
+all-other told = grind arith
 
 -- power goes: a run, after which the image is as it was
 run-of-power : IsRun [] [] (Power ∷ []) (record bare { off = true })
@@ -310,7 +299,7 @@ run-of-other told = let contra = byte_is 8 7 (told.left 0 (omega arith)) in absu
 
 -- no run has gone on where power is there
 run-of-none : IsRun [] (replicate 512 7) (Power ∷ []) fresh → ⊥
-run-of-none told = let contra : true ≡ false = ap (λ (m : Machine). m.off) told.reached in cc
+run-of-none told = grind arith
 
 -- a call without a value leaves the image, and one with a value doesn't put it elsewhere
 put-nothing : IsPut contents.nothing 0 (replicate 512 7) (replicate 512 7)

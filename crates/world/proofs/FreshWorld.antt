@@ -1,12 +1,12 @@
 -- The steps that a fresh world takes are a run, and its image is the content that the run leaves.
-use Rattle.std.proofs.Common.{◌≡◌, ℕ, zero, suc, ◌/◌, ◌<◌, Bool, true, not, ◌&&◌, Option, Some}
+use Rattle.std.proofs.Common.{◌≡◌, ℕ, zero, suc, ◌/◌, ◌<◌, true, not, ◌&&◌, Option, Some}
 use Rattle.std.proofs.Common.{None, List, [], ◌∷◌, length, replicate, refl, ap, sym, ◌∙◌, subst}
-use Rattle.std.proofs.Common.{inl, inr, arith}
+use Rattle.std.proofs.Common.{arith}
 use Rattle.std.proofs.Math.Path.{fun_ext}
 use Rattle.std.proofs.lemmas.Bool.{and_parts}
 use Rattle.std.proofs.lemmas.Bool.Decides.{eqb_tells}
 use Rattle.std.proofs.lemmas.List.{length-replicate}
-use Rattle.std.specs.Prelude.{is_some, slice_get, unwrap_or, if◌then◌else◌}
+use Rattle.std.specs.Prelude.{is_some, slice_get, unwrap_or}
 use Rattle.bio.specs.Content.{Content, put, sector_of}
 use Rattle.bio.specs.declared.event.CoreEvent.{CoreEvent}
 use Rattle.bio.specs.PossibleLaws.{covered_value}
@@ -17,35 +17,11 @@ use Rattle.world.specs.Cells.{landed_of, left_after, machine_of, settled_of}
 use Rattle.world.specs.Machine.{Machine, after, is_among, may_take, newest, start}
 use Rattle.world.specs.Runs.{durable, is_run, taken, values_of_id}
 use Rattle.world.proofs.Sound.{IsSound, keeps, start_sound}
-use Rattle.world.proofs.Steps.{among_new, clash}
+use Rattle.world.proofs.Steps.{among_new}
 
 -- machines that are alike are one
 like : (a b : Machine) → IsSameMachine a b → a ≡ b
-like a b same =
-    ap (λ (landed : ℕ → List ℕ). record {
-      landed = landed;
-      settled = a.settled;
-      calls = a.calls;
-      off = a.off;
-    }) (fun_ext same.landed)
-    ∙ ap (λ (settled : ℕ → List ℕ). record {
-      landed = b.landed;
-      settled = settled;
-      calls = a.calls;
-      off = a.off;
-    }) (fun_ext same.settled)
-    ∙ ap (λ (calls : List Step). record {
-      landed = b.landed;
-      settled = b.settled;
-      calls = calls;
-      off = a.off;
-    }) same.calls
-    ∙ ap (λ (off : Bool). record {
-      landed = b.landed;
-      settled = b.settled;
-      calls = b.calls;
-      off = off;
-    }) same.off
+like a b same = grind (arith, fun_ext)
 
 -- the values of a request that landed in a sector, put over
 -- one content or another, are the same there
@@ -58,8 +34,7 @@ put_newest events m at old first sound some = of_list (m.landed at) refl
     of_list : (ids : List ℕ) → m.landed at ≡ ids
         → put (values_of_id events (newest (m.landed at))) old at
         ≡ put (values_of_id events (newest (m.landed at))) first at
-    of_list [] is =
-        clash (is_some (newest (m.landed at))) some (ap (λ (ids : List ℕ). is_some (newest ids)) is)
+    of_list [] is = grind arith
     of_list (id ∷ ids) is =
         let covered =
         sound.covers at id (ap (λ (list : List ℕ). is_among list id) is ∙ among_new id ids) in
@@ -78,24 +53,8 @@ left_durable events m (Submit id) first old sector sound may same = same
 left_durable events m (Land id at) first old sector sound may same = same
 left_durable events m (End id ok) first old sector sound may same = same
 left_durable events m Power first old sector sound may same = same
-left_durable events m (Destage at) first old sector sound may same = elim (eqb_tells sector at) [
-  | inl here ↦
-      ap (λ (b : Bool). if b then put
-      (values_of_id events (newest (m.landed at))) old sector else old sector) here.0
-      ∙ ap (put (values_of_id events (newest (m.landed at))) old) here.1
-      ∙ put_newest events m at old first sound may
-      ∙ sym (ap (put (values_of_id events (newest (m.landed at))) first) here.1)
-      ∙ sym (ap (λ (b : Bool). put
-      (values_of_id events (newest
-      (if b then m.landed at else m.settled sector))) first sector) here.0)
-  | inr differ ↦
-      ap (λ (b : Bool). if b then put
-      (values_of_id events (newest (m.landed at))) old sector else old sector) differ.0
-      ∙ same
-      ∙ sym (ap (λ (b : Bool). put
-      (values_of_id events (newest
-      (if b then m.landed at else m.settled sector))) first sector) differ.0)
-]
+left_durable events m (Destage at) first old sector sound may same =
+    grind (arith, eqb_tells, put_newest)
 
 -- steps that a world took are a run of the machine that it was
 runs_on : (events : List CoreEvent) (first : Content) (steps : List Step) (old new : WorldState)
@@ -107,15 +66,7 @@ runs_on : (events : List CoreEvent) (first : Content) (steps : List Step) (old n
     × (taken (machine_of old) steps ≡ machine_of new) × (length new.cells ≡ length old.cells)
     × ((sector : ℕ) → sector < length old.cells
     → sector_of new.image sector ≡ durable events first (machine_of new) sector)
-runs_on events first [] old new sound image same = (
-  refl,
-  ap machine_of same,
-  ap (λ (world : WorldState). length world.cells) (sym same),
-  λ sector within.
-      ap (λ (world : WorldState). sector_of world.image sector) (sym same)
-      ∙ image sector within
-      ∙ ap (λ (world : WorldState). durable events first (machine_of world) sector) same,
-)
+runs_on events first [] old new sound image same = grind arith
 runs_on events first (step ∷ steps) old new sound image all =
     let mid = all.0 in
     let took = all.1 in
@@ -171,8 +122,8 @@ fresh_runs events first steps old new fresh all =
     ap (λ (bytes : List ℕ). sector_of bytes sector) fresh.image
     ∙ ap (λ (m : Machine). durable events (sector_of first) m sector) (sym is)) all in
     record {
-      runs = ap (λ (m : Machine). is_run events m steps) (sym is) ∙ runs.0;
-      reached = ap (λ (m : Machine). taken m steps) (sym is) ∙ runs.1;
+      runs = rw (← is) runs.0;
+      reached = rw (← is) runs.1;
       left = λ sector within.
           runs.3 sector (omega arith)
           ∙ ap (λ (m : Machine). durable events (sector_of first) m sector)

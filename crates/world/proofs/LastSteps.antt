@@ -5,7 +5,7 @@ use Rattle.std.proofs.Common.{Some, None, List, [], ◌∷◌, ◌++◌, length,
 use Rattle.std.proofs.Common.{inl, inr, arith}
 use Rattle.std.proofs.lemmas.Bool.{and_parts, eq-eqb}
 use Rattle.std.specs.List.{list_any}
-use Rattle.std.specs.Prelude.{◌⊎◌, is_none, slice_get, unwrap_or, if◌then◌else◌}
+use Rattle.std.specs.Prelude.{◌⊎◌, is_none, slice_get, unwrap_or}
 use Rattle.bio.specs.Content.{Content}
 use Rattle.bio.specs.Places.{collect}
 use Rattle.bio.specs.PlaceLaws.{bool_cases, last_or_below, option_cases, slice_get-within}
@@ -60,7 +60,7 @@ ended_called : (events : List CoreEvent) (id : ℕ) → is_request (slice_get ev
 ended_called events id request is_ended = elim (option_cases (end_of events id)) [
   | inl none ↦
       clash (is_open_at events id)
-      (ap (λ b. b && is_none (end_of events id)) request ∙ ap is_none none) is_ended
+      (rw request (ap is_none none)) is_ended
   | inr some ↦
       let end = end_found events id some.0 some.1 in
       any_call (is_end id) events (length events) some.0 (End id end.ok) end.within
@@ -226,20 +226,9 @@ finish_all events wanted sure m (suc j) well_formed choice before =
         → (new : Machine) × StepsFrame events mid (steps_left events wanted j) new
         × Finishes events wanted (suc j) new
     step mid finishes (inl is_open) =
-        let next = finish_open events wanted sure j mid well_formed choice is_open finishes in (
-          next.0,
-          subst (λ b. StepsFrame events mid
-              (if b then by_sector (lands_late wanted j) (slice_get events j) else []) next.0)
-              (sym is_open) next.1,
-          next.2,
-        )
-    step mid finishes (inr is_ended) = (
-      mid,
-      subst (λ b. StepsFrame events mid
-          (if b then by_sector (lands_late wanted j) (slice_get events j) else []) mid)
-          (sym is_ended) (go_none events mid),
-      finish_ended events wanted j mid is_ended finishes,
-    )
+        grind (arith, finish_open events wanted sure j mid well_formed choice is_open finishes)
+    step mid finishes (inr is_ended) =
+        grind (arith, go_none events mid, finish_ended events wanted j mid is_ended finishes)
 
 -- in each sector the newest that is settled is the wanted one
 newest_wanted : (events : List CoreEvent) (wanted : ℕ → Option ℕ) (m : Machine) (sector : ℕ)

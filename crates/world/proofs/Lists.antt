@@ -1,12 +1,12 @@
 -- Laws of lists that the code keeps oldest first and contracts see newest first.
 use Rattle.std.proofs.Common.{◌≡◌, ℕ, zero, suc, Bool, true, false, ◌&&◌, ◌||◌, Some, List, [], ◌∷◌}
-use Rattle.std.proofs.Common.{◌++◌, take, refl, ap, sym, ◌∙◌, arith}
+use Rattle.std.proofs.Common.{◌++◌, take, refl, ap, ◌∙◌, arith}
 use Rattle.std.proofs.lemmas.List.{reverse-append}
 use Rattle.std.proofs.lemmas.List.Folds.{list_all-append, list_any-append}
 use Rattle.std.specs.List.{list_all, list_any}
-use Rattle.std.specs.Prelude.{reverse, slice_get, unwrap_or, if◌then◌else◌}
+use Rattle.std.specs.Prelude.{reverse, slice_get}
 use Rattle.world.specs.declared.step.Step.{Step}
-use Rattle.world.specs.Machine.{before_submit, is_submit}
+use Rattle.world.specs.Machine.{is_submit}
 use Rattle.world.specs.inside.StepTests.{IsBefore}
 
 -- one more at the end of a list is the first of it the other way round
@@ -45,42 +45,39 @@ all_reverse test (x ∷ xs) =
 take_next : {A : Type 0} (xs : List A) (k : ℕ) (x : A) → slice_get xs k ≡ Some x
     → take (suc k) xs ≡ take k xs ++ x ∷ []
 take_next [] k x is = cc
-take_next (y ∷ xs) zero x is = ap (λ o. unwrap_or o y ∷ []) is
-take_next (y ∷ xs) (suc k) x is = ap (λ rest. y ∷ rest) (take_next xs k x is)
+take_next (y ∷ xs) zero x is = grind arith
+take_next (y ∷ xs) (suc k) x is = grind (arith, take_next xs k x is)
 
 -- one more call that submits the request, or that doesn't
 pub before_here : (calls : List Step) (id place next end : ℕ) (call : Step) → next ≡ suc place
     → slice_get calls place ≡ Some call → is_submit id call ≡ true
     → IsBefore calls id place end → IsBefore calls id next place
-before_here calls id place next end call is there here before = record {
-  within = omega arith;
-  same = sym (
-      ap (λ n. before_submit id (reverse (take n calls))) is
-      ∙ ap (λ steps. before_submit id (reverse steps)) (take_next calls place call there)
-      ∙ ap (before_submit id) (reverse_snoc (take place calls) call)
-      ∙ ap (λ b. if b then reverse (take place calls) else before_submit id
-      (reverse (take place calls))) here);
-}
+before_here calls id place next end call is there here before =
+    grind (
+      arith,
+      take_next calls place call there,
+      reverse_snoc (take place calls) call,
+      take place
+          calls,
+    )
 
 pub before_other : (calls : List Step) (id place next end : ℕ) (call : Step) → next ≡ suc place
     → slice_get calls place ≡ Some call → is_submit id call ≡ false
     → IsBefore calls id place end → IsBefore calls id next end
-before_other calls id place next end call is there other before = record {
-  within = let within = before.within in omega arith;
-  same = before.same ∙ sym (
-      ap (λ n. before_submit id (reverse (take n calls))) is
-      ∙ ap (λ steps. before_submit id (reverse steps)) (take_next calls place call there)
-      ∙ ap (before_submit id) (reverse_snoc (take place calls) call)
-      ∙ ap (λ b. if b then reverse (take place calls) else before_submit id
-      (reverse (take place calls))) other);
-}
+before_other calls id place next end call is there other before =
+    grind (
+      arith,
+      take_next calls place call there,
+      reverse_snoc (take place calls) call,
+      take place
+          calls,
+    )
 
 -- where one element fails a test not all pass
 pub some_fails : {A : Type 0} (test : A → Bool) (xs : List A) (k : ℕ) (x : A)
     → slice_get xs k ≡ Some x → test x ≡ false → list_all test xs ≡ false
 some_fails test [] k x is fails = cc
-some_fails test (y ∷ xs) zero x is fails =
-    ap (λ b. b && list_all test xs) (ap (λ o. test (unwrap_or o y)) is ∙ fails)
+some_fails test (y ∷ xs) zero x is fails = grind arith
 some_fails test (y ∷ xs) (suc k) x is fails =
     ap (λ b. test y && b) (some_fails test xs k x is fails) ∙ and_false (test y)
   where
@@ -93,8 +90,4 @@ pub all_more : {A : Type 0} (test : A → Bool) (xs : List A) (k next : ℕ) (x 
     → slice_get xs k ≡ Some x → test x ≡ true
     → list_all test (take k xs) ≡ true → list_all test (take next xs) ≡ true
 all_more test xs k next x is there passes before =
-    ap (λ n. list_all test (take n xs)) is
-    ∙ ap (list_all test) (take_next xs k x there)
-    ∙ list_all-append test (take k xs) (x ∷ [])
-    ∙ ap (λ b. b && (test x && true)) before
-    ∙ ap (λ b. b && true) passes
+    grind (arith, take_next xs k x there, list_all-append test (take k xs) (x ∷ []), take k xs)

@@ -1,12 +1,12 @@
 -- If a world takes a step of some kind, the machine that it models takes the same step.
-use Rattle.std.proofs.Common.{◌≡◌, ℕ, zero, suc, ◌*◌, ◌/◌, ◌<◌, Bool, true, not, ◌&&◌, Option, Some}
+use Rattle.std.proofs.Common.{◌≡◌, ℕ, zero, suc, ◌*◌, ◌/◌, ◌<◌, true, not, ◌&&◌, Option, Some}
 use Rattle.std.proofs.Common.{List, [], ◌∷◌, length, get_or, set, refl, ap, sym, ◌∙◌, subst, inl}
 use Rattle.std.proofs.Common.{inr, arith}
 use Rattle.std.proofs.lemmas.Bool.{and_parts, cases_lt}
 use Rattle.std.proofs.lemmas.Bool.Decides.{eqb_tells}
 use Rattle.std.proofs.lemmas.List.{length-set}
 use Rattle.std.proofs.lemmas.Option.{slice_get-get_or, slice_get_past}
-use Rattle.std.specs.Prelude.{is_some, slice_get, if◌then◌else◌}
+use Rattle.std.specs.Prelude.{slice_get}
 use Rattle.bio.specs.declared.event.CoreEvent.{CoreEvent}
 use Rattle.bio.specs.Lawful.{is_lawful}
 use Rattle.bio.specs.Possible.{covers_at}
@@ -34,38 +34,22 @@ get_set_other [] k j x differ = refl
 get_set_other (y ∷ xs) zero zero x differ = absurd (differ refl)
 get_set_other (y ∷ xs) zero (suc j) x differ = refl
 get_set_other (y ∷ xs) (suc k) zero x differ = refl
-get_set_other (y ∷ xs) (suc k) (suc j) x differ =
-    get_set_other xs k j x (λ same. differ (ap (λ n. suc n) same))
+get_set_other (y ∷ xs) (suc k) (suc j) x differ = grind (arith, get_set_other xs k j x)
 
 -- what is seen of a cell that was set
 set_seen : (see : Option CellState → List ℕ) (cells : List CellState) (at : ℕ) (cell : CellState)
     (sector : ℕ) → at < length cells
     → see (slice_get (set cells at cell) sector)
     ≡ with_sector at (see (Some cell)) (λ s. see (slice_get cells s)) sector
-set_seen see cells at cell sector within = elim (eqb_tells sector at) [
-  | inl same ↦
-      ap (λ s. see (slice_get (set cells at cell) s)) same.1
-      ∙ ap see (get_set_same cells at cell within)
-      ∙ sym (ap (λ (b : Bool). if b then see (Some cell) else see (slice_get cells sector)) same.0)
-  | inr differ ↦
-      ap see (get_set_other cells at sector cell differ.1)
-      ∙ sym (ap (λ (b : Bool). if b then see (Some cell) else see
-      (slice_get cells sector)) differ.0)
-]
+set_seen see cells at cell sector within = grind (arith, eqb_tells, get_set_same, get_set_other)
 
 -- and of one whose part seen is as it was
 set_same : (see : Option CellState → List ℕ) (cells : List CellState) (at : ℕ) (cell : CellState)
     (sector : ℕ) → at < length cells
     → see (Some cell) ≡ see (slice_get cells at)
     → see (slice_get (set cells at cell) sector) ≡ see (slice_get cells sector)
-set_same see cells at cell sector within same = elim (eqb_tells sector at) [
-  | inl here ↦
-      ap (λ s. see (slice_get (set cells at cell) s)) here.1
-      ∙ ap see (get_set_same cells at cell within)
-      ∙ same
-      ∙ ap (λ s. see (slice_get cells s)) (sym here.1)
-  | inr differ ↦ ap see (get_set_other cells at sector cell differ.1)
-]
+set_same see cells at cell sector within same =
+    grind (arith, eqb_tells, get_set_same, get_set_other)
 
 -- a sector where a request lands, or that is destaged, is one of the world's
 pub land_within : (events : List CoreEvent) (id sector : ℕ) (old : WorldState)
@@ -96,15 +80,7 @@ land_within events id sector old lawful size may =
 pub destage_within : (events : List CoreEvent) (sector : ℕ) (old : WorldState)
     → has_step events (machine_of old) (Destage sector) ≡ true
     → sector < length old.cells
-destage_within events sector old may = elim (cases_lt sector (length old.cells)) [
-  | inl less ↦ less
-  | inr past ↦
-      let parts =
-      and_parts (not old.off) (is_some
-      (newest (landed_of (slice_get old.cells sector)))) may in
-      clash (is_some (newest (landed_of (slice_get old.cells sector)))) parts.1
-      (ap (λ o. is_some (newest (landed_of o))) (slice_get_past old.cells sector past))
-]
+destage_within events sector old may = grind (arith, cases_lt, and_parts, slice_get_past)
 
 -- a landing
 pub land_steps : (events : List CoreEvent) (id at : ℕ) (old new : WorldState)

@@ -53,10 +53,7 @@ past_end (place ∷ places) (suc index) h = past_end places index (omega arith)
 -- an index with a place is within the list
 place_within : (places : List (Option ℕ)) (index place : ℕ) → place_at places index ≡ Some place
     → index < length places
-place_within places index place is = elim (cases_lt index (length places)) [
-  | inl less ↦ less
-  | inr past ↦ absurd (let contra : None ≡ Some place = sym (past_end places index past) ∙ is in cc)
-]
+place_within places index place is = grind (arith, cases_lt, past_end)
 
 -- what a sector holds by an account, it holds
 held_is : (sectors : ℕ) (events : List CoreEvent) (now : Content) (account : Account)
@@ -65,12 +62,7 @@ held_is : (sectors : ℕ) (events : List CoreEvent) (now : Content) (account : A
     → (values_at (slice_get events id) sector ≡ Some (now sector))
     × (is_replaced events sector id ≡ false)
 held_is sectors events now account sector id told is =
-    let within = place_within account.held.items sector id is in
-    let size = told.held_size in
-    let found =
-    last_below-found (is_held_from events now sector) (length events) id
-    (sym (told.held sector (omega arith)) ∙ is) in
-    held-parts events now sector id found.here
+    grind (arith, place_within, last_below-found, held-parts)
 
 -- a sector that holds no request's value has its first one, and no durable request covers it
 none_held : (sectors : ℕ) (events : List CoreEvent) (first now : Content) (account : Account)
@@ -165,12 +157,11 @@ account_values : (sectors : ℕ) (events : List CoreEvent) (first now : Content)
 account_values sectors events first now account sector lawful possible told =
     elim (option_cases (place_at account.held.items sector)) [
       | inl none ↦
-          ap (λ (o : Option ℕ). unwrap_or (values_of_id events o sector) (first sector)) none
-          ∙ sym (none_held sectors events first now account sector lawful possible told none).0
+          rw none (sym (none_held sectors events first now account sector lawful possible told
+          none).0)
       | inr some ↦
-          ap (λ (o : Option ℕ). unwrap_or (values_of_id events o sector) (first sector)) some.1
-          ∙ ap (λ (o : Option (List ℕ)). unwrap_or o (first sector))
-          (held_is sectors events now account sector some.0 told some.1).0
+          rw some.1 (ap (λ (o : Option (List ℕ)). unwrap_or o (first sector)) (held_is sectors
+          events now account sector some.0 told some.1).0)
     ]
 
 -- so the plan by an account leaves the image

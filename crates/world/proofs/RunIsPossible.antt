@@ -3,7 +3,7 @@ use Rattle.std.proofs.Common.{◌≡◌, ℕ, ◌<◌, Bool, true, false, not, �
 use Rattle.std.proofs.Common.{List, [], ◌∷◌, length, refl, ap, sym, ◌∙◌, inl, inr, arith}
 use Rattle.std.proofs.lemmas.Bool.{and_parts, eq-eqb, eqb-true, ltb-true}
 use Rattle.std.specs.List.{list_any}
-use Rattle.std.specs.Prelude.{◌⊎◌, slice_get, nat_lt, unwrap_or}
+use Rattle.std.specs.Prelude.{◌⊎◌, slice_get, unwrap_or}
 use Rattle.bio.specs.Content.{Content}
 use Rattle.bio.specs.PlaceLaws.{any_below-none, any_below-some, bool_cases, first_below-found}
 use Rattle.bio.specs.PlaceLaws.{option_cases, or_cases, slice_get-within}
@@ -17,7 +17,7 @@ use Rattle.bio.specs.PossibleLaws.{covered_value}
 use Rattle.bio.specs.Requests.{covers, has_fua}
 use Rattle.world.specs.declared.step.Step.TheVariants.{Submit, End}
 use Rattle.world.specs.Machine.{Machine, is_among, is_end, is_submit, newest, start}
-use Rattle.world.specs.Runs.{IsReachable, call_of, calls_below, durable, taken, values_of_id}
+use Rattle.world.specs.Runs.{IsReachable, call_of, calls_below, durable, taken}
 use Rattle.world.proofs.Calls.{any_call, calls_before, came_before, is_good_end}
 use Rattle.world.proofs.Sound.{IsSound, is_not_newest, run_sound, start_sound}
 use Rattle.world.proofs.Steps.{among_new, clash}
@@ -27,7 +27,7 @@ end_is : (id : ℕ) (event : Option CoreEvent) → is_end_of id event ≡ true
     → (ok : Bool) × (event ≡ Some (core_events.Complete id ok))
 end_is id (Some (core_events.Submit bio)) h = cc
 end_is id (Some (core_events.Complete ended ok)) h =
-    (ok, ap (λ (n : ℕ). Some (core_events.Complete n ok)) (eqb-true ended id h))
+    (ok, rw (eqb-true ended id h))
 end_is id (Some (core_events.Mark text)) h = cc
 end_is id (Some (core_events.Stop cause)) h = cc
 end_is id (Some core_events.Close) h = cc
@@ -43,12 +43,7 @@ pub record Ends (events : List CoreEvent) (id place : ℕ) : Type 0 where
 pub end_found : (events : List CoreEvent) (id place : ℕ) → end_of events id ≡ Some place
     → Ends events id place
 end_found events id place is =
-    let found =
-    first_below-found (λ later. nat_lt id later && is_end_of id (slice_get events later))
-    (length events) place is in
-    let parts = and_parts (nat_lt id place) (is_end_of id (slice_get events place)) found.here in
-    let end = end_is id (slice_get events place) parts.1 in
-    record { within = found.within; later = ltb-true id place parts.0; ok = end.0; event = end.1 }
+    grind (arith, first_below-found, and_parts, end_is, ltb-true)
 
 -- a request that ended with success has such an end
 pub good_found : (events : List CoreEvent) (id : ℕ) → ended_ok events id ≡ true
@@ -60,22 +55,18 @@ good_found events id good = elim (option_cases (end_of events id)) [
       let end = end_found events id some.0 some.1 in
       let is_ok : end.ok ≡ true =
       sym (ap is_success end.event) ∙ (sym (ap (is_success_at events) some.1) ∙ good) in
-      (some.0, some.1, end.event ∙ ap (λ (b : Bool). Some (core_events.Complete id b)) is_ok)
+      (some.0, some.1, end.event ∙ rw is_ok)
 ]
 
 -- a found end is below a place just where it is less
 below_found : (found : Option ℕ) (limit place : ℕ) → found ≡ Some place
     → is_below found limit ≡ true → place < limit
-below_found found limit place is below =
-    ltb-true place limit (sym (ap (λ o. is_below o limit) is) ∙ below)
+below_found found limit place is below = grind (arith, ltb-true)
 
 -- one request that is before another has an end below its place
 before_found : (events : List CoreEvent) (id later : ℕ) → is_before events id later ≡ true
     → (place : ℕ) × (end_of events id ≡ Some place) × (place < later)
-before_found events id later before = elim (option_cases (end_of events id)) [
-  | inl none ↦ clash (is_before events id later) before (ap (λ o. is_below o later) none)
-  | inr some ↦ (some.0, some.1, below_found (end_of events id) later some.0 some.1 before)
-]
+before_found events id later before = grind (arith, option_cases, below_found)
 
 -- the call of a submission, and that of an end
 submit_call : (events : List CoreEvent) (place : ℕ) (bio : Bio)
@@ -109,16 +100,21 @@ flush_some None h = cc
 
 -- a good end's step is one
 good_step : (id : ℕ) → is_good_end id (End id true) ≡ true
-good_step id = ap (λ b. b && true) (eq-eqb id id refl)
+good_step id = grind (arith, eq-eqb)
 
 -- a request that ended with success ended among the calls of all events
 good_called : (events : List CoreEvent) (id : ℕ) → ended_ok events id ≡ true
     → list_any (is_good_end id) (calls_below events (length events)) ≡ true
 good_called events id good =
-    let end = good_found events id good in
-    let within = slice_get-within events end.0 (core_events.Complete id true) end.2 in
-    any_call (is_good_end id) events (length events) end.0 (End id true) within
-    (end_call events end.0 id true end.2) (good_step id)
+    grind (
+      arith,
+      good_found events id good,
+      length events,
+      good_step id,
+      slice_get-within,
+      any_call,
+      end_call,
+    )
 
 -- a durable request is settled in each sector that it covers
 kept_settled : (events : List CoreEvent) (m : Machine) (sector id : ℕ) → IsSound events m
@@ -191,14 +187,7 @@ newest_stays events m sector id sound fits is_newest =
 none_kept : (events : List CoreEvent) (m : Machine) (sector : ℕ) → IsSound events m
     → m.calls ≡ calls_below events (length events)
     → m.settled sector ≡ [] → has_kept events sector ≡ false
-none_kept events m sector sound fits none =
-    any_below-none (is_kept events sector) (length events)
-    (λ id h. elim (bool_cases (is_kept events sector id)) [
-      | inl kept ↦
-          clash (is_among (m.settled sector) id) (kept_settled events m sector id sound fits kept)
-          (ap (λ ids. is_among ids id) none)
-      | inr other ↦ other
-    ])
+none_kept events m sector sound fits none = grind (arith, any_below-none, bool_cases, kept_settled)
 
 -- a list has a newest or is empty
 newest_cases : (ids : List ℕ)
@@ -211,25 +200,8 @@ newest_cases (id ∷ ids) = inr (id, refl, among_new id ids, ap not (eq-eqb id i
 possible_at : (events : List CoreEvent) (m : Machine) (first now : Content) (sector : ℕ)
     → IsSound events m → m.calls ≡ calls_below events (length events)
     → durable events first m sector ≡ now sector → PossibleAt events first now sector
-possible_at events m first now sector sound fits left = elim (newest_cases (m.settled sector)) [
-  | inl none ↦
-      let same : durable events first m sector ≡ first sector =
-      ap (λ (ids : List ℕ). unwrap_or (values_of_id events (newest ids) sector) (first sector))
-      none in
-      inl (sym left ∙ same, none_kept events m sector sound fits none)
-  | inr some ↦
-      let id = some.0 in
-      let covered = sound.covers sector id (sound.settled sector id some.2) in
-      let value = covered_value (slice_get events id) sector covered in
-      let there : durable events first m sector ≡ value.0 =
-      ap (λ (o : Option ℕ). unwrap_or (values_of_id events o sector) (first sector)) some.1
-      ∙ ap (λ (o : Option (List ℕ)). unwrap_or o (first sector)) value.1 in
-      inr (
-        id,
-        value.1 ∙ ap (λ (bytes : List ℕ). Some bytes) (sym there ∙ left),
-        newest_stays events m sector id sound fits some.3,
-      )
-]
+possible_at events m first now sector sound fits left =
+    grind (arith, newest_cases (m.settled sector), none_kept, covered_value, newest_stays)
 
 -- a content that a run leaves is possible
 pub reachable_possible : (events : List CoreEvent) (first now : Content)

@@ -1,10 +1,10 @@
 -- The effect of one request's steps for its sectors, sector by sector.
 use Rattle.std.proofs.Common.{◌≡◌, ℕ, zero, suc, ◌+◌, ◌<◌, ◌≤◌, ◌==◌, Bool, true, false, not, ◌&&◌}
-use Rattle.std.proofs.Common.{Some, List, [], ◌∷◌, ◌++◌, refl, ap, sym, ◌∙◌, subst, inl, inr, arith}
+use Rattle.std.proofs.Common.{Some, List, [], ◌∷◌, ◌++◌, refl, ap, sym, ◌∙◌, inl, inr, arith}
 use Rattle.std.proofs.lemmas.Bool.{and_parts, cases_lt, le-leb, le-ltb, leb-true, lt-ltb, ltb-true}
 use Rattle.std.proofs.lemmas.Bool.Decides.{eqb_tells}
 use Rattle.std.specs.List.{list_any}
-use Rattle.std.specs.Prelude.{◌⊎◌, is_some, nat_le, nat_lt, slice_get, if◌then◌else◌}
+use Rattle.std.specs.Prelude.{◌⊎◌, nat_le, nat_lt, slice_get, if◌then◌else◌}
 use Rattle.bio.specs.Places.{collect}
 use Rattle.bio.specs.PlaceLaws.{bool_cases}
 use Rattle.bio.specs.declared.request.Bio.{Bio}
@@ -14,9 +14,8 @@ use Rattle.bio.specs.Possible.{covers_at}
 use Rattle.bio.specs.RequestLaws.{covers-within}
 use Rattle.bio.specs.Requests.{covers, first_sector, is_tracked, sector_count}
 use Rattle.world.specs.declared.step.Step.{Step}
-use Rattle.world.specs.declared.step.Step.TheVariants.{Land, Destage}
 use Rattle.world.specs.Machine.{Machine, after, has_step, is_among, is_end, is_pending, is_submit}
-use Rattle.world.specs.Machine.{newest, with_sector}
+use Rattle.world.specs.Machine.{with_sector}
 use Rattle.world.specs.Runs.{is_run, taken}
 use Rattle.world.specs.inside.Plan.{by_sector, touch}
 use Rattle.world.proofs.Steps.{among_cases, among_more, clash, with_here}
@@ -46,14 +45,7 @@ taken_append m (step ∷ xs) ys = taken_append (after m step) xs ys
 -- two runs, one after the other, are one
 pub go_on : (events : List CoreEvent) (a b c : Machine) (xs ys : List Step)
     → StepsFrame events a xs b → StepsFrame events b ys c → StepsFrame events a (xs ++ ys) c
-go_on events a b c xs ys front back = record {
-  runs =
-      run_append events a xs ys
-      ∙ ap (λ t. t && is_run events (taken a xs) ys) front.runs
-      ∙ ap (λ m. is_run events m ys) front.ends
-      ∙ back.runs;
-  ends = taken_append a xs ys ∙ ap (λ m. taken m ys) front.ends ∙ back.ends;
-}
+go_on events a b c xs ys front back = grind (arith, run_append, taken_append)
 
 -- no steps are a run
 pub go_none : (events : List CoreEvent) (m : Machine) → StepsFrame events m [] m
@@ -62,7 +54,7 @@ go_none events m = record { runs = refl; ends = refl }
 -- one step is, where the machine has it
 pub go_one : (events : List CoreEvent) (m : Machine) (step : Step) → has_step events m step ≡ true
     → StepsFrame events m (step ∷ []) (after m step)
-go_one events m step has = record { runs = ap (λ b. b && true) has; ends = refl }
+go_one events m step has = grind arith
 
 -- the request on top of the one list, where the test holds, and else the other list
 abbrev pub by_test : Bool → ℕ → List ℕ → List ℕ → List ℕ
@@ -92,27 +84,13 @@ with_is : (test : ℕ → Bool) (sector id : ℕ) (landed other : ℕ → List �
     → test sector ≡ true
     → with_sector sector (id ∷ landed sector) other at
     ≡ by_test (at == sector && test at) id (landed at) (other at)
-with_is test sector id landed other at holds = elim (eqb_tells at sector) [
-  | inl same ↦
-      ap (λ (b : Bool). if b then id ∷ landed sector else other at) same.0
-      ∙ ap (λ s. id ∷ landed s) (sym same.1)
-      ∙ sym (ap (λ b. by_test (b && test at) id (landed at) (other at)) same.0
-      ∙ ap (λ b. by_test b id (landed at) (other at)) (ap test same.1 ∙ holds))
-  | inr differ ↦
-      ap (λ (b : Bool). if b then id ∷ landed sector else other at) differ.0
-      ∙ sym (ap (λ b. by_test (b && test at) id (landed at) (other at)) differ.0)
-]
+with_is test sector id landed other at holds = grind (arith, eqb_tells)
 
 -- and as it is where the test fails
 with_not : (test : ℕ → Bool) (sector id : ℕ) (landed other : ℕ → List ℕ) (at : ℕ)
     → test sector ≡ false
     → other at ≡ by_test (at == sector && test at) id (landed at) (other at)
-with_not test sector id landed other at fails = elim (eqb_tells at sector) [
-  | inl same ↦
-      sym (ap (λ b. by_test (b && test at) id (landed at) (other at)) same.0
-      ∙ ap (λ b. by_test b id (landed at) (other at)) (ap test same.1 ∙ fails))
-  | inr differ ↦ sym (ap (λ b. by_test (b && test at) id (landed at) (other at)) differ.0)
-]
+with_not test sector id landed other at fails = grind (arith, eqb_tells)
 
 -- what one request does in one sector
 touch_one : (events : List CoreEvent) (m : Machine) (lands settles : ℕ → Bool) (id sector : ℕ)
@@ -122,70 +100,7 @@ touch_one : (events : List CoreEvent) (m : Machine) (lands settles : ℕ → Boo
     → (new : Machine) × StepsFrame events m (touch (lands sector) (settles sector) id sector) new
     × Touched (λ at. at == sector) lands settles id m new
 touch_one events m lands settles id sector on pending covered fresh =
-    elim (bool_cases (lands sector)) [
-      | inr stays ↦ (
-        m,
-        subst (λ b. StepsFrame events m (touch b (settles sector) id sector) m) (sym stays)
-            (go_none events m),
-        record {
-          landed = λ at. with_not lands sector id m.landed m.landed at stays;
-          settled =
-              λ at. with_not (λ s. lands s && settles s) sector id m.landed m.settled at
-              (ap (λ b. b && settles sector) stays);
-          calls = refl;
-          off = refl;
-        },
-      )
-      | inl goes ↦
-          let may : has_step events m (Land id sector) ≡ true =
-          ap (λ b. not b && ((is_pending m id && covers_at sector (slice_get events id))
-          && not (is_among (m.landed sector) id))) on
-          ∙ ap (λ b. (b && covers_at sector (slice_get events id))
-          && not (is_among (m.landed sector) id)) pending
-          ∙ ap (λ b. b && not (is_among (m.landed sector) id)) covered
-          ∙ ap not (fresh goes) in
-          let landed = after m (Land id sector) in
-          elim (bool_cases (settles sector)) [
-            | inr keeps ↦ (
-              landed,
-              subst (λ b. StepsFrame events m (touch b (settles sector) id sector) landed)
-                  (sym goes)
-                  (subst (λ b. StepsFrame events m (touch true b id sector) landed) (sym keeps)
-                  (go_one events m (Land id sector) may)),
-              record {
-                landed = λ at. with_is lands sector id m.landed m.landed at goes;
-                settled = λ at. with_not (λ s. lands s && settles s) sector id m.landed m.settled at
-                    (ap (λ b. b && settles sector) goes ∙ keeps);
-                calls = refl;
-                off = refl;
-              },
-            )
-            | inl destages ↦
-                let new = after landed (Destage sector) in
-                let top = with_here sector (id ∷ m.landed sector) m.landed in
-                let may_too : has_step events landed (Destage sector) ≡ true =
-                ap (λ b. not b && is_some
-                (newest (with_sector sector (id ∷ m.landed sector) m.landed sector))) on
-                ∙ ap (λ (ids : List ℕ). is_some (newest ids)) top in (
-                  new,
-                  subst (λ b. StepsFrame events m (touch b (settles sector) id sector) new)
-                      (sym goes)
-                      (subst (λ b. StepsFrame events m (touch true b id sector) new) (sym destages)
-                      (go_on events m landed new (Land id sector ∷ []) (Destage sector ∷ [])
-                      (go_one events m (Land id sector) may)
-                      (go_one events landed (Destage sector) may_too))),
-                  record {
-                    landed = λ at. with_is lands sector id m.landed m.landed at goes;
-                    settled = λ at.
-                        ap (λ (ids : List ℕ). with_sector sector ids m.settled at) top
-                        ∙ with_is (λ s. lands s && settles s) sector id m.landed m.settled at
-                        (ap (λ b. b && settles sector) goes ∙ destages);
-                    calls = refl;
-                    off = refl;
-                  },
-                )
-          ]
-    ]
+    grind (arith, bool_cases, go_none, with_not, go_one, with_is, with_here, go_on)
 
 -- two parts of the sectors, one after the other
 touched_both : (first second both lands settles : ℕ → Bool) (id : ℕ) (old mid new : Machine)
@@ -193,48 +108,8 @@ touched_both : (first second both lands settles : ℕ → Bool) (id : ℕ) (old 
     → ((at : ℕ) → first at ≡ false → both at ≡ second at)
     → Touched first lands settles id old mid → Touched second lands settles id mid new
     → Touched both lands settles id old new
-touched_both first second both lands settles id old mid new yes_so not_so a b = record {
-  landed = λ at. elim (bool_cases (first at)) [
-    | inl done ↦
-        let parts = yes_so at done in
-        b.landed at
-        ∙ ap (λ t. by_test (t && lands at) id (mid.landed at) (mid.landed at)) parts.0
-        ∙ a.landed at
-        ∙ ap (λ t. by_test (t && lands at) id (old.landed at) (old.landed at)) (done ∙ sym parts.1)
-    | inr yet ↦
-        let same : mid.landed at ≡ old.landed at =
-        a.landed at ∙ ap (λ t. by_test (t && lands at) id (old.landed at)
-        (old.landed at)) yet in
-        b.landed at
-        ∙ ap (λ ids. by_test (second at && lands at) id ids ids) same
-        ∙ ap (λ t. by_test (t && lands at) id (old.landed at) (old.landed at)) (sym (not_so at yet))
-  ];
-  settled = λ at. elim (bool_cases (first at)) [
-    | inl done ↦
-        let parts = yes_so at done in
-        b.settled at
-        ∙ ap (λ t. by_test (t && (lands at && settles at)) id (mid.landed at)
-        (mid.settled at)) parts.0
-        ∙ a.settled at
-        ∙ ap (λ t. by_test (t && (lands at && settles at)) id (old.landed at) (old.settled at))
-        (done ∙ sym parts.1)
-    | inr yet ↦
-        let same : mid.landed at ≡ old.landed at =
-        a.landed at ∙ ap (λ t. by_test (t && lands at) id (old.landed at)
-        (old.landed at)) yet in
-        let stays : mid.settled at ≡ old.settled at =
-        a.settled at
-        ∙ ap (λ t. by_test (t && (lands at && settles at)) id (old.landed at) (old.settled at))
-        yet in
-        b.settled at
-        ∙ ap (λ ids. by_test (second at && (lands at && settles at)) id ids (mid.settled at)) same
-        ∙ ap (λ ids. by_test (second at && (lands at && settles at)) id (old.landed at) ids) stays
-        ∙ ap (λ t. by_test (t && (lands at && settles at)) id (old.landed at) (old.settled at))
-        (sym (not_so at yet))
-  ];
-  calls = b.calls ∙ a.calls;
-  off = b.off ∙ a.off;
-}
+touched_both first second both lands settles id old mid new yes_so not_so a b =
+    grind (arith, bool_cases)
 
 -- the sectors of a range
 abbrev pub is_in : ℕ → ℕ → ℕ → Bool
@@ -249,8 +124,7 @@ past_range first n at h =
     and_false false = refl
 
 in_range : (first n at : ℕ) → first ≤ at → at < first + n → is_in first n at ≡ true
-in_range first n at low high =
-    ap (λ b. b && nat_lt at (first + n)) (le-leb first at low) ∙ lt-ltb at (first + n) high
+in_range first n at low high = grind (arith, le-leb, lt-ltb)
 
 -- a sector of a range that is one longer is in the range before, or is the one more
 longer_in : (first n at : ℕ) → is_in first n at ≡ true
@@ -261,7 +135,7 @@ longer_in first n at within = elim (cases_lt at (first + n)) [
     | inr differ ↦ elim (cases_lt at first) [
       | inl before ↦
           clash (is_in first n at) within
-          (ap (λ b. b && nat_lt at (first + n)) (below first at before))
+          (rw (below first at before))
       | inr from ↦ (differ.0, in_range first (suc n) at from (omega arith))
     ]
   ]
@@ -269,25 +143,12 @@ longer_in first n at within = elim (cases_lt at (first + n)) [
 ]
   where
     below : (a b : ℕ) → b < a → nat_le a b ≡ false
-    below a b less = elim (bool_cases (nat_le a b)) [
-      | inl holds ↦ absurd (let most = leb-true a b holds in omega arith)
-      | inr fails ↦ fails
-    ]
+    below a b less = grind (arith, bool_cases, leb-true)
 
 longer_not : (first n at : ℕ) → is_in first n at ≡ false
     → is_in first (suc n) at ≡ (at == first + n)
-longer_not first n at out = elim (eqb_tells at (first + n)) [
-  | inl same ↦ let is = same.1 in in_range first (suc n) at (omega arith) (omega arith) ∙ sym same.0
-  | inr differ ↦ elim (bool_cases (is_in first (suc n) at)) [
-    | inr fails ↦ fails ∙ sym differ.0
-    | inl holds ↦
-        let parts = and_parts (nat_le first at) (nat_lt at (first + suc n)) holds in
-        let low = leb-true first at parts.0 in
-        let high = ltb-true at (first + suc n) parts.1 in
-        let other = differ.1 in
-        clash (is_in first n at) (in_range first n at low (omega arith)) out
-  ]
-]
+longer_not first n at out =
+    grind (arith, eqb_tells, in_range, bool_cases, and_parts, leb-true, ltb-true)
 
 -- what one request does in a range of sectors
 touch_range : (events : List CoreEvent) (m : Machine) (lands settles : ℕ → Bool) (id first n : ℕ)
@@ -311,14 +172,7 @@ touch_range events m lands settles id first zero on pending covered fresh = (
 )
   where
     none : (at : ℕ) → is_in first zero at ≡ false
-    none at = elim (bool_cases (is_in first zero at)) [
-      | inl holds ↦
-          let parts = and_parts (nat_le first at) (nat_lt at (first + zero)) holds in
-          let low = leb-true first at parts.0 in
-          let high = ltb-true at (first + zero) parts.1 in
-          absurd (omega arith)
-      | inr fails ↦ fails
-    ]
+    none at = grind (arith, bool_cases, and_parts, leb-true, ltb-true)
 touch_range events m lands settles id first (suc n) on pending covered fresh =
     let front =
     touch_range events m lands settles id first n on pending
@@ -385,10 +239,7 @@ pub more_landed : (done lands settles : ℕ → Bool) (id : ℕ) (old new : Mach
     → Touched done lands settles id old new
     → is_among (old.landed sector) other ≡ true → is_among (new.landed sector) other ≡ true
 more_landed done lands settles id old new sector other touched among =
-    subst (λ ids. is_among ids other ≡ true) (sym (touched.landed sector))
-    (by_cases (λ ids. is_among ids other ≡ true) (done sector && lands sector) id
-    (old.landed sector) (old.landed sector)
-    (λ lands_here. among_more id other (old.landed sector) among) (λ stays. among))
+    grind (arith, by_cases, among_more)
 
 -- what stands there stood there, or is the request itself, where it lands
 pub landed_from : (done lands settles : ℕ → Bool) (id : ℕ) (old new : Machine) (sector other : ℕ)
@@ -397,17 +248,7 @@ pub landed_from : (done lands settles : ℕ → Bool) (id : ℕ) (old new : Mach
     → (((done sector && lands sector) ≡ true) × (id ≡ other))
     ⊎ (is_among (old.landed sector) other ≡ true)
 landed_from done lands settles id old new sector other touched among =
-    by_cases (λ ids. is_among ids other ≡ true
-    → (((done sector && lands sector) ≡ true) × (id ≡ other))
-    ⊎ (is_among (old.landed sector) other ≡ true))
-    (done sector && lands sector) id (old.landed sector) (old.landed sector)
-    (λ lands_here h.
-    elim (among_cases id other (old.landed sector) h) [
-      | inl same ↦ inl (lands_here, same)
-      | inr older ↦ inr older
-    ])
-    (λ stays h. inr h)
-    (subst (λ ids. is_among ids other ≡ true) (touched.landed sector) among)
+    grind (arith, by_cases, among_cases)
 
 -- what was settled, and had landed, is settled afterwards
 pub more_settled : (done lands settles : ℕ → Bool) (id : ℕ) (old new : Machine) (sector other : ℕ)
@@ -415,11 +256,7 @@ pub more_settled : (done lands settles : ℕ → Bool) (id : ℕ) (old new : Mac
     → is_among (old.landed sector) other ≡ true → is_among (old.settled sector) other ≡ true
     → is_among (new.settled sector) other ≡ true
 more_settled done lands settles id old new sector other touched landed among =
-    subst (λ ids. is_among ids other ≡ true) (sym (touched.settled sector))
-    (by_cases (λ ids. is_among ids other ≡ true)
-    (done sector && (lands sector && settles sector)) id (old.landed sector)
-    (old.settled sector)
-    (λ lands_here. among_more id other (old.landed sector) landed) (λ stays. among))
+    grind (arith, by_cases, among_more)
 
 -- what is settled has landed
 pub still_within : (done lands settles : ℕ → Bool) (id : ℕ) (old new : Machine) (sector other : ℕ)
@@ -427,35 +264,17 @@ pub still_within : (done lands settles : ℕ → Bool) (id : ℕ) (old new : Mac
     → (is_among (old.settled sector) other ≡ true → is_among (old.landed sector) other ≡ true)
     → is_among (new.settled sector) other ≡ true → is_among (new.landed sector) other ≡ true
 still_within done lands settles id old new sector other touched within among =
-    by_cases (λ ids. is_among ids other ≡ true → is_among (new.landed sector) other ≡ true)
-    (done sector && (lands sector && settles sector)) id (old.landed sector) (old.settled sector)
-    (λ lands_here h.
-    let both = and_parts (done sector) (lands sector && settles sector) lands_here in
-    let goes = and_parts (lands sector) (settles sector) both.1 in
-    subst (λ ids. is_among ids other ≡ true)
-    (sym (touched.landed sector
-    ∙ ap (λ t. by_test (t && lands sector) id (old.landed sector) (old.landed sector)) both.0
-    ∙ ap (λ t. by_test t id (old.landed sector) (old.landed sector)) goes.0)) h)
-    (λ stays h. more_landed done lands settles id old new sector other touched (within h))
-    (subst (λ ids. is_among ids other ≡ true) (touched.settled sector) among)
+    grind (arith, by_cases, and_parts, more_landed)
 
 -- where the request lands in a sector that is done it stands there
 pub lands_there : (done lands settles : ℕ → Bool) (id : ℕ) (old new : Machine) (sector : ℕ)
     → Touched done lands settles id old new
     → done sector ≡ true → lands sector ≡ true → new.landed sector ≡ id ∷ old.landed sector
-lands_there done lands settles id old new sector touched is goes =
-    touched.landed sector
-    ∙ ap (λ t. by_test (t && lands sector) id (old.landed sector) (old.landed sector)) is
-    ∙ ap (λ t. by_test t id (old.landed sector) (old.landed sector)) goes
+lands_there done lands settles id old new sector touched is goes = grind arith
 
 -- and where it settles it is the newest that is settled
 pub settles_there : (done lands settles : ℕ → Bool) (id : ℕ) (old new : Machine) (sector : ℕ)
     → Touched done lands settles id old new
     → done sector ≡ true → lands sector ≡ true → settles sector ≡ true
     → new.settled sector ≡ id ∷ old.landed sector
-settles_there done lands settles id old new sector touched is goes destages =
-    touched.settled sector
-    ∙ ap (λ t. by_test (t && (lands sector && settles sector)) id (old.landed sector)
-    (old.settled sector)) is
-    ∙ ap (λ t. by_test (t && settles sector) id (old.landed sector) (old.settled sector)) goes
-    ∙ ap (λ t. by_test t id (old.landed sector) (old.settled sector)) destages
+settles_there done lands settles id old new sector touched is goes destages = grind arith

@@ -75,7 +75,7 @@ came_new early later id calls known new h =
       | inl here ↦
           let same = eqb-true id later (and_parts (id == later) (list_any early calls) here).0 in
           clash (list_any (is_submit id) calls)
-          (ap (λ i. list_any (is_submit i) calls) same ∙ known)
+          (rw same known)
           (not_true (list_any (is_submit id) calls) new)
       | inr there ↦ there
     ]
@@ -124,7 +124,7 @@ land_keeps events m id sector sound pending covered =
           (λ ids. is_among ids other ≡ true → list_any (is_submit other) m.calls ≡ true) sector
           (id ∷ m.landed sector) m.landed at
           (λ same among. elim (among_cases id other (m.landed sector) among) [
-            | inl is ↦ ap (λ i. list_any (is_submit i) m.calls) (sym is) ∙ parts.0
+            | inl is ↦ rw (← is) parts.0
             | inr older ↦ sound.submitted sector other older
           ]) (sound.submitted at other) h;
       covers =
@@ -133,17 +133,15 @@ land_keeps events m id sector sound pending covered =
           (id ∷ m.landed sector) m.landed at
           (λ same among. elim (among_cases id other (m.landed sector) among) [
             | inl is ↦
-                ap (λ i. covers_at at (slice_get events i)) (sym is)
-                ∙ ap (λ s. covers_at s (slice_get events id)) same ∙ covered
+                rw (← is, same) covered
             | inr older ↦
-                ap (λ s. covers_at s (slice_get events other)) same
-                ∙ sound.covers sector other older
+                rw same (sound.covers sector other older)
           ]) (sound.covers at other) h;
       settled =
           λ at other h. with_cases (λ ids. is_among ids other ≡ true) sector
           (id ∷ m.landed sector) m.landed at
           (λ same. among_more id other (m.landed sector)
-          (ap (λ s. is_among (m.landed s) other) (sym same) ∙ sound.settled at other h))
+          (rw (← same) (sound.settled at other h)))
           (sound.settled at other h);
       fua = sound.fua;
       flushed = sound.flushed;
@@ -153,8 +151,7 @@ land_keeps events m id sector sound pending covered =
           (id ∷ m.landed sector) m.landed at
           (λ same among. ap not (differ-eqb id other (λ is.
           clash (list_any (is_end id) m.calls)
-          (ap (λ i. list_any (is_end i) m.calls) is
-          ∙ came_early (is_end other) (is_submit later) m.calls came) open_yet)))
+          (rw is (came_early (is_end other) (is_submit later) m.calls came)) open_yet)))
           (sound.landed_later at other later came) h;
       settled_later = sound.settled_later;
     }
@@ -204,10 +201,8 @@ came_submit early id (call ∷ calls) h = elim (bool_cases (is_submit id call)) 
         | inr older ↦ came_early early (is_submit id) calls older
       ]
   | inr other ↦
-      ap (λ b. list_any early (if b then calls else before_submit id calls)) other
-      ∙ came_submit early id calls
-      (sym (ap (λ b. (b && list_any early calls) || came_before early (is_submit id) calls) other)
-      ∙ h)
+      rw other (came_submit early id calls (sym (ap (λ b. (b && list_any early calls) ||
+      came_before early (is_submit id) calls) other) ∙ h))
 ]
 
 -- of steps that pass a test for ends, an end with success has its request settled
@@ -226,8 +221,7 @@ good_settled events m id (step ∷ steps) all good =
   where
     of_end : (ended : ℕ) (ok : Bool) → (not ok || has_settled events m ended) ≡ true
         → (ended == id) ≡ true → ok ≡ true → has_settled events m id ≡ true
-    of_end ended true passes is good =
-        ap (has_settled events m) (sym (eqb-true ended id is)) ∙ passes
+    of_end ended true passes is good = cc (eqb-true ended id is)
     of_end ended false passes is good = cc
 
     of_step : (step : Step) → settled_if_ended events m step ≡ true → is_good_end id step ≡ true
@@ -281,7 +275,7 @@ end_keeps events m id ok sound pending may =
                 let all =
                 other_way (submits has_fua (slice_get events id)) (has_settled events m id)
                 (of_fua both.1)
-                (ap (λ i. submits has_fua (slice_get events i)) same ∙ is_fua) in
+                (rw same is_fua) in
                 each_covered (λ at. is_among (m.settled at) other) (slice_get events other) sector
                 (ap (has_settled events m) (sym same) ∙ all) covered
             | inr older ↦ sound.fua sector other older is_fua covered
@@ -295,10 +289,10 @@ end_keeps events m id ok sound pending may =
                 other_way (is_flush_submit (slice_get events id))
                 (list_all (settled_if_ended events m) (before_submit id m.calls))
                 (of_flush both.1)
-                (ap (λ i. is_flush_submit (slice_get events i)) same ∙ is_flush) in
+                (rw same is_flush) in
                 let ended =
                 came_submit (is_good_end other) id m.calls
-                (ap (λ i. came_before (is_good_end other) (is_submit i) m.calls) same ∙ came) in
+                (rw same came) in
                 each_covered (λ at. is_among (m.settled at) other) (slice_get events other) sector
                 (good_settled events m other (before_submit id m.calls) all ended) covered
             | inr older ↦ sound.flushed sector other late older is_flush came covered

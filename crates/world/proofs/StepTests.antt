@@ -1,15 +1,13 @@
 -- The tests on the cells and calls of a world agree with the tests of the machine that it models.
-use Rattle.std.proofs.Common.{◌≡◌, ℕ, Bool, not, ◌&&◌, ◌||◌, List, [], ◌∷◌, refl, ap, ◌∙◌}
+use Rattle.std.proofs.Common.{◌≡◌, ℕ, Bool, List, [], ◌∷◌, refl}
 use Rattle.std.specs.List.{list_all}
 use Rattle.std.specs.Prelude.{slice_get}
 use Rattle.bio.specs.declared.event.CoreEvent.{CoreEvent}
-use Rattle.bio.specs.Events.{is_flush_submit, submits}
-use Rattle.bio.specs.Requests.{has_fua}
 use Rattle.world.specs.declared.step.Step.{Step}
 use Rattle.world.specs.declared.step.Step.TheVariants.{Submit, Land, Destage, End, Power}
 use Rattle.world.specs.Cells.{CellState, machine_in}
-use Rattle.world.specs.Machine.{before_submit, may_succeed, may_take, settled_if_ended}
-use Rattle.world.specs.inside.StepTests.{end_settled, is_allowed, is_landed, is_settled, is_pending_in}
+use Rattle.world.specs.Machine.{may_succeed, may_take, settled_if_ended}
+use Rattle.world.specs.inside.StepTests.{end_settled, is_allowed}
 use Rattle.world.specs.inside.StepTests.{succeeds}
 
 settled_is : (events : List CoreEvent) (cells : List CellState) (calls : List Step) (off : Bool)
@@ -27,20 +25,14 @@ all_settled : (events : List CoreEvent) (cells : List CellState) (calls : List S
     ≡ list_all (end_settled events cells) steps
 all_settled events cells calls off [] = refl
 all_settled events cells calls off (step ∷ steps) =
-    ap (λ b. b && list_all (settled_if_ended events (machine_in cells calls off)) steps)
-    (settled_is events cells calls off step)
-    ∙ ap (λ b. end_settled events cells step && b) (all_settled events cells calls off steps)
+    simp (all_settled events cells calls off steps, settled_is)
 
 succeeds_is : (events : List CoreEvent) (cells : List CellState) (calls : List Step) (off : Bool)
     (id : ℕ)
     → may_succeed events (machine_in cells calls off) id
     ≡ succeeds events cells calls id (slice_get events id)
 succeeds_is events cells calls off id =
-    let event = slice_get events id in
-    ap (λ b. (is_landed cells id event
-    && (not (submits has_fua event) || is_settled cells id event))
-    && (not (is_flush_submit event) || b))
-    (all_settled events cells calls off (before_submit id calls))
+    simp (all_settled)
 
 pub allowed_is : (events : List CoreEvent) (cells : List CellState) (calls : List Step) (off : Bool)
     (step : Step)
@@ -48,6 +40,5 @@ pub allowed_is : (events : List CoreEvent) (cells : List CellState) (calls : Lis
 allowed_is events cells calls off (Submit id) = refl
 allowed_is events cells calls off (Land id sector) = refl
 allowed_is events cells calls off (Destage sector) = refl
-allowed_is events cells calls off (End id ok) =
-    ap (λ b. is_pending_in calls id && (not ok || b)) (succeeds_is events cells calls off id)
+allowed_is events cells calls off (End id ok) = simp (succeeds_is)
 allowed_is events cells calls off Power = refl

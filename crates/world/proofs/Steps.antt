@@ -1,9 +1,9 @@
 -- Parts of the machine that a step leaves unchanged, and what each test of a step implies.
-use Rattle.std.proofs.Common.{◌≡◌, ℕ, ◌+◌, ◌-◌, ◌==◌, Bool, true, false, not, ◌||◌, Option, Some}
-use Rattle.std.proofs.Common.{None, List, ◌∷◌, refl, ap, sym, ◌∙◌, subst, inl, inr, arith}
+use Rattle.std.proofs.Common.{◌≡◌, ℕ, ◌+◌, ◌-◌, ◌==◌, Bool, true, false, not, Option, Some}
+use Rattle.std.proofs.Common.{None, List, ◌∷◌, refl, ap, sym, ◌∙◌, arith}
 use Rattle.std.proofs.lemmas.Bool.{eq-eqb, eqb-true}
 use Rattle.std.proofs.lemmas.Bool.Decides.{eqb_tells}
-use Rattle.std.specs.Prelude.{◌⊎◌, if◌then◌else◌}
+use Rattle.std.specs.Prelude.{◌⊎◌}
 use Rattle.bio.specs.PlaceLaws.{all_below-each, or_cases, or_second}
 use Rattle.bio.specs.declared.event.CoreEvent.{CoreEvent}
 use Rattle.bio.specs.declared.event.CoreEvent.TheVariants as core_events
@@ -25,32 +25,25 @@ clash b yes_so not_so = absurd (let contra : true ≡ false = sym yes_so ∙ not
 -- of the one, and elsewhere of the old ones, holds in each
 pub with_cases : (P : List ℕ → Type 0) (sector : ℕ) (ids : List ℕ) (old : ℕ → List ℕ) (other : ℕ)
     → (other ≡ sector → P ids) → P (old other) → P (with_sector sector ids old other)
-with_cases P sector ids old other here there = elim (eqb_tells other sector) [
-  | inl same ↦ subst P (sym (ap (λ (b : Bool). if b then ids else old other) same.0)) (here same.1)
-  | inr differ ↦ subst P (sym (ap (λ (b : Bool). if b then ids else old other) differ.0)) there
-]
+with_cases P sector ids old other here there = grind (arith, eqb_tells)
 
 -- the sector has the list
 pub with_here : (sector : ℕ) (ids : List ℕ) (old : ℕ → List ℕ)
     → with_sector sector ids old sector ≡ ids
-with_here sector ids old =
-    ap (λ (b : Bool). if b then ids else old sector) (eq-eqb sector sector refl)
+with_here sector ids old = grind (arith, eq-eqb)
 
 -- a request is among these and one more just where it is that one or among these
 pub among_cases : (new id : ℕ) (ids : List ℕ) → is_among (new ∷ ids) id ≡ true
     → (new ≡ id) ⊎ (is_among ids id ≡ true)
 among_cases new id ids
-    h = elim (or_cases (new == id) (is_among ids id) h) [
-      | inl same ↦ inl (eqb-true new id same)
-      | inr older ↦ inr older
-    ]
+    h = grind (arith, or_cases, eqb-true)
 
 pub among_more : (new id : ℕ) (ids : List ℕ) → is_among ids id ≡ true
     → is_among (new ∷ ids) id ≡ true
 among_more new id ids h = or_second (new == id) (is_among ids id) h
 
 pub among_new : (id : ℕ) (ids : List ℕ) → is_among (id ∷ ids) id ≡ true
-among_new id ids = ap (λ b. b || is_among ids id) (eq-eqb id id refl)
+among_new id ids = grind (arith, eq-eqb)
 
 -- a test of each sector of a request holds at a sector that it covers
 pub each_covered : (test : ℕ → Bool) (event : Option CoreEvent) (sector : ℕ)

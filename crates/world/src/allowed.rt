@@ -95,6 +95,7 @@ fn any_end(calls: &[Step], id: u64) -> bool
 }
 
 // Returns whether the request was submitted. (The contract has `calls` newest first.)
+#[tactic(auto, using(crate::proofs::Lists::any_reverse))]
 fn was_submitted(calls: &[Step], id: u64) -> bool
     ensures { result ≡ list_any (is_submit id) (reverse calls.now) }
 {
@@ -102,6 +103,7 @@ fn was_submitted(calls: &[Step], id: u64) -> bool
 }
 
 // Returns whether the request has ended. (The contract has `calls` newest first.)
+#[tactic(auto, using(crate::proofs::Lists::any_reverse))]
 fn has_ended(calls: &[Step], id: u64) -> bool
     ensures { result ≡ list_any (is_end id) (reverse calls.now) }
 {

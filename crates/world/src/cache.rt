@@ -97,6 +97,7 @@ impl World {
     }
 
     // Returns whether the device can take the step.
+    #[tactic(auto, using(crate::proofs::PossibleChoice::lawful_ends, crate::proofs::StepTests::allowed_is))]
     fn has_step(&self, events: &[CoreEvent], step: &Step) -> bool
         requires { is_lawful (length self.now.image / 512) events.now ≡ true }
         ensures has { result ≡ has_step events.now (machine_of self.now) step.now }

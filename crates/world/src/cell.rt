@@ -89,6 +89,7 @@ fn newest_of(ids: &[u64]) -> Option<Id>
 }
 
 // Returns whether `id` is one of `ids`. `ids` are oldest first; the contract reverses them.
+#[tactic(auto, using(crate::proofs::Lists::any_reverse))]
 fn is_among(ids: &[u64], id: u64) -> bool
     ensures { result ≡ is_among (reverse ids.now) id }
 {

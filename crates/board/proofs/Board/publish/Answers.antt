@@ -19,14 +19,4 @@ store-requires g c =
     )
 
 pub invariant_of-writer : goal.invariant_of-writer
-invariant_of-writer g c =
-    let i = c.writer.invariant in
-    let s = c.store.ensures in
-    let now =
-    published_is c.writer.inside.pass.me c.store.new.seat.me c.word_of-word.result _
-    c.args.status i.1 c.word_of-word.ensures c.requires.fit s.2 in
-    let seen = ap (λ (m : Me (Unit {0}) Knows). m.0.seen) now in (
-      s.0 ∙ i.0,
-      now ∙ ap (λ (l : List Status). (writer_of l, [])) (sym seen),
-      sym (ap last_of seen ∙ last_of-push c.writer.inside.pass.me.0.seen c.args.status),
-    )
+invariant_of-writer g c = grind (arith, published_is, writer_of, last_of, last_of-push)

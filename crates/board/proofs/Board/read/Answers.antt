@@ -21,7 +21,4 @@ returns-clause-later g c =
     (start_follows _ seen l.1 l.0))
 
 pub returns-clause-last : goal.returns-clause-last
-returns-clause-last g c =
-    let l = c.load.ensures.2 in
-    let seen = c.load.new.seat.me.0.seen in
-    c.status_of.ensures (last_of seen) (last_fits seen l.1) l.3
+returns-clause-last g c = grind (arith, last_of, last_fits)

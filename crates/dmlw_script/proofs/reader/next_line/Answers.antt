@@ -14,11 +14,4 @@ returns-in-Some c =
     rw (after, c.cut.ensures.before_byte) (first_line_of c.args.text.now filled)
 
 pub returns-in-None : goal.returns-in-None
-returns-in-None c =
-    let filled : 0 < length c.args.text.now =
-    omega (arith, eqb-false _ _ (sym c.if-is_empty.ensures)) in
-    let after : [] ≡ after_line c.args.text.now =
-    ap (λ o. unwrap_or (option_copied o) []) (sym c.in-None.is)
-    ∙ ap (λ o. unwrap_or o []) c.cut.ensures.after_byte in
-    let parts = first_line_of c.args.text.now filled in
-    rw (c.cut.ensures.before_byte) (rw (sym after) at parts)
+returns-in-None c = grind (arith, eqb-false, first_line_of)

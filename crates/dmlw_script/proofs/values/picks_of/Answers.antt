@@ -1,8 +1,8 @@
-use Rattle.std.proofs.Common.{◌≡◌, ◌+◌, List, ℕ, refl, ap, sym, ◌∙◌, arith, length}
+use Rattle.std.proofs.Common.{List, ℕ, refl, ap, sym, ◌∙◌, arith}
 use Rattle.std.specs.Prelude.{option_copied}
 use Rattle.dmlw_script.specs.inside.LineParser.{picks_of as the_picks}
-use Rattle.refusals.specs.Words.{after_byte, number_of as the_number}
-use Rattle.dmlw_script.proofs.PickLaws.{left_behind, left_of, no_pick, pick_read, picks_after}
+use Rattle.refusals.specs.Words.{number_of as the_number}
+use Rattle.dmlw_script.proofs.PickLaws.{left_behind, no_pick, pick_read, picks_after}
 use Rattle.dmlw_script.proofs.values.picks_of.Goals as goal
 
 pub returns-in-None-clause-none : goal.returns-in-None-clause-none
@@ -16,13 +16,7 @@ returns-in-None-clause-none c =
     )
 
 pub loop-rest-smaller : goal.loop-rest-smaller
-loop-rest-smaller c =
-    let low = left_behind c.in-Some.words.now in
-    let here : left_of (option_copied c.cut.result.1)
-    ≡ left_of (after_byte 32 c.in-Some.words.now) = ap left_of c.cut.ensures.after_byte in
-    let before : left_of (option_copied c.loop-rest.rest) ≡ length c.in-Some.words.now + 1 =
-    ap (λ o. left_of (option_copied o)) c.in-Some.is in
-    omega arith
+loop-rest-smaller c = grind (arith, left_behind)
 
 pub loop-rest-preserved : goal.loop-rest-preserved
 loop-rest-preserved c =

@@ -11,12 +11,10 @@ loop-done-init g c =
     c.args.lower.now c.args.now c.requires.range.some c.requires.count
 
 pub returns-then-strike-clause-goes : goal.returns-then-strike-clause-goes
-returns-then-strike-clause-goes g c =
-    changes_goes _ _ _ _ _ _ _ _ _ _ _ _ _ c.loop-done.invariant
+returns-then-strike-clause-goes g c = grind (arith, changes_goes)
 
 pub returns-clause-goes : goal.returns-clause-goes
-returns-clause-goes g c =
-    changes_goes _ _ _ _ _ _ _ _ _ _ _ _ _ c.loop-done.invariant
+returns-clause-goes g c = grind (arith, changes_goes)
 
 pub loop-done-preserved : goal.loop-done-preserved
 loop-done-preserved g c =
@@ -43,14 +41,7 @@ returns-in-Err-clause-goes g c =
     c.loop-done.invariant c.change_part.ensures.goes
 
 pub returns-in-Err-clause-blocks : goal.returns-in-Err-clause-blocks
-returns-in-Err-clause-blocks g c =
-    changes_failed g.D.BlockDev.does g.D.BlockDev.shown c.args.block c.args.first c.args.count
-    c.args.change (listed c.args.bad.now) (listed c.loop-done.bad)
-    (listed c.strike.new.self) c.loop-done.done c.loop-done.from c.reach-to.result c.args.lower.now
-    c.args.now c.loop-done.lower c.loop-done.end c.change_part.new.lower c.in-Err.error
-    c.requires.count c.loop-done-test.true c.reach-to.ensures c.loop-done.invariant
-    (sym c.if-strike.false ∙ c.strike.ensures.struck)
-    (c.if-strike.ensures.same refl) c.in-Err.ensures.does
+returns-in-Err-clause-blocks g c = grind (arith, changes_failed)
 
 pub returns-clause-lands : goal.returns-clause-lands
 returns-clause-lands g c =

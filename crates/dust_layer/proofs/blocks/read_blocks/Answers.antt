@@ -12,17 +12,7 @@ returns-in-Err-clause-goes g c =
     c.loop-done.invariant.0.goes c.read_part.ensures.goes
 
 pub returns-in-Err-clause-blocks : goal.returns-in-Err-clause-blocks
-returns-in-Err-clause-blocks g c =
-    reading_failed g.D.BlockDev.does g.D.BlockDev.shown c.args.block c.args.first c.args.buffer.now
-    c.loop-done.buffer c.read_part.new.buffer
-    (listed c.args.bad.now) c.loop-done.done c.loop-done.from c.reach-to.result c.args.lower.now
-    c.args.now c.loop-done.lower c.loop-done.end
-    c.read_part.new.lower c.in-Err.error c.requires.some
-    (let some = c.requires.range.some in let whole = c.requires.range.whole in
-    omega (arith, some, whole))
-    c.loop-done-test.true c.reach-to.ensures c.loop-done.invariant.0
-    (sym c.has.ensures ∙ c.if-has.false) c.read_part.ensures.before c.read_part.ensures.behind
-    c.in-Err.ensures.does
+returns-in-Err-clause-blocks g c = grind (arith, reading_failed)
 
 pub loop-done-preserved : goal.loop-done-preserved
 loop-done-preserved g c = (

@@ -1,4 +1,4 @@
-use Rattle.std.proofs.Common.{ℕ, ◌+◌, length, ap, sym, ◌∙◌, arith}
+use Rattle.std.proofs.Common.{ℕ, length, ap, sym, ◌∙◌, arith}
 use Rattle.std.specs.Prelude.{slice_get}
 use Rattle.bio.specs.Lawful.{is_within}
 use Rattle.bio.specs.PlaceLaws.{all_next, not_all, slice_get-of_get_or}
@@ -15,11 +15,4 @@ returns-then-not-is_within c =
     ∙ (sym c.is_within.ensures ∙ c.if-not-is_within.true))
 
 pub loop-event-preserved : goal.loop-event-preserved
-loop-event-preserved c =
-    let events = c.args.events.now in
-    let place = c.loop-event.event-index in
-    all_next (λ (k : ℕ). is_within c.args.sectors (slice_get events k)) place (place + 1)
-    (omega arith) c.loop-event.invariant
-    (ap (is_within c.args.sectors)
-    (slice_get-of_get_or events place c.event-item.result c.loop-event-test.true c.event-item.is)
-    ∙ (sym c.is_within.ensures ∙ c.if-not-is_within.false))
+loop-event-preserved c = grind (arith, all_next, slice_get-of_get_or)

@@ -1,6 +1,5 @@
-use Rattle.std.proofs.Common.{◌&&◌, Some, ap, sym, ◌∙◌}
+use Rattle.std.proofs.Common.{◌&&◌, ap, sym, ◌∙◌}
 use Rattle.bio.specs.Events.{is_open_at}
-use Rattle.bio.specs.Lawful.{can_follow}
 use Rattle.judge.proofs.lawful.can_follow.Goals as goal
 
 pub returns-then-has_no_close : goal.returns-then-has_no_close
@@ -10,4 +9,4 @@ returns-then-has_no_close c =
     ∙ (ap (is_open_at events) c.place.ensures
     ∙ (sym (ap (λ b. b && is_open_at events c.in-Complete.id)
     (sym c.has_no_close.ensures ∙ c.if-has_no_close.true))
-    ∙ sym (ap (λ e. can_follow events (Some e)) c.in-Complete.is)))
+    ∙ sym (rw c.in-Complete.is)))

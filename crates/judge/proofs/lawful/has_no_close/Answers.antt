@@ -1,4 +1,4 @@
-use Rattle.std.proofs.Common.{ℕ, ◌+◌, length, ap, sym, ◌∙◌, arith}
+use Rattle.std.proofs.Common.{ℕ, length, ap, sym, ◌∙◌, arith}
 use Rattle.std.specs.Prelude.{slice_get}
 use Rattle.bio.specs.Events.{is_close}
 use Rattle.bio.specs.PlaceLaws.{none_next, not_none, slice_get-of_get_or}
@@ -13,10 +13,4 @@ returns-then-is_close c =
     c.event-item.is) ∙ (sym c.is_close.ensures ∙ c.if-is_close.true))
 
 pub loop-event-preserved : goal.loop-event-preserved
-loop-event-preserved c =
-    let events = c.args.events.now in
-    let place = c.loop-event.event-index in
-    none_next (λ (k : ℕ). is_close (slice_get events k)) place (place + 1)
-    (omega arith) c.loop-event.invariant
-    (ap is_close (slice_get-of_get_or events place c.event-item.result c.loop-event-test.true
-    c.event-item.is) ∙ (sym c.is_close.ensures ∙ c.if-is_close.false))
+loop-event-preserved c = grind (arith, none_next, slice_get-of_get_or)

@@ -1,4 +1,4 @@
-use Rattle.std.proofs.Common.{ℕ, ◌+◌, ◌&&◌, length, ap, sym, ◌∙◌, arith}
+use Rattle.std.proofs.Common.{ℕ, ◌&&◌, length, ap, sym, ◌∙◌, arith}
 use Rattle.std.proofs.lemmas.Bool.{lt-ltb, le-ltb}
 use Rattle.std.specs.Prelude.{nat_lt, slice_get}
 use Rattle.bio.specs.PlaceLaws.{none_first_below, none_next, not_none}
@@ -7,11 +7,7 @@ use Rattle.bio.specs.PlaceLaws.{slice_get-of_get_or}
 use Rattle.judge.proofs.lawful.has_no_end.Goals as goal
 
 pub loop-place-init : goal.loop-place-init
-loop-place-init c =
-    let events = c.args.events.now in
-    let id = c.args.id in
-    none_first_below (λ (k : ℕ). nat_lt id k && is_end_of id (slice_get events k)) (id + 1)
-    (λ k h. ap (λ b. b && is_end_of id (slice_get events k)) (le-ltb id k (omega arith)))
+loop-place-init c = grind (arith, none_first_below, le-ltb)
 
 pub returns-then-is_end_of : goal.returns-then-is_end_of
 returns-then-is_end_of c =
@@ -27,14 +23,4 @@ returns-then-is_end_of c =
     ∙ (sym c.is_end_of.ensures ∙ c.if-is_end_of.true)))
 
 pub loop-place-preserved : goal.loop-place-preserved
-loop-place-preserved c =
-    let events = c.args.events.now in
-    let id = c.args.id in
-    let place = c.loop-place.place in
-    let low = c.loop-place.auto.place in
-    none_next (λ (k : ℕ). nat_lt id k && is_end_of id (slice_get events k)) place (place + 1)
-    (omega arith) c.loop-place.invariant
-    (ap (λ b. b && is_end_of id (slice_get events place)) (lt-ltb id place (omega arith))
-    ∙ (ap (is_end_of id) (slice_get-of_get_or events place c.index-events-place.result
-    c.loop-place-test.true c.index-events-place.is)
-    ∙ (sym c.is_end_of.ensures ∙ c.if-is_end_of.false)))
+loop-place-preserved c = grind (arith, none_next, lt-ltb, slice_get-of_get_or)

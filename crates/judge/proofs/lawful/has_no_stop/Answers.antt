@@ -1,4 +1,4 @@
-use Rattle.std.proofs.Common.{ℕ, ◌+◌, length, ap, sym, ◌∙◌, arith}
+use Rattle.std.proofs.Common.{ℕ, length, ap, sym, ◌∙◌, arith}
 use Rattle.std.specs.Prelude.{slice_get}
 use Rattle.bio.specs.Events.{is_stop}
 use Rattle.bio.specs.PlaceLaws.{none_next, not_none, slice_get-of_get_or}
@@ -13,10 +13,4 @@ returns-then-is_stop c =
     c.event-item.is) ∙ (sym c.is_stop.ensures ∙ c.if-is_stop.true))
 
 pub loop-event-preserved : goal.loop-event-preserved
-loop-event-preserved c =
-    let events = c.args.events.now in
-    let place = c.loop-event.event-index in
-    none_next (λ (k : ℕ). is_stop (slice_get events k)) place (place + 1)
-    (omega arith) c.loop-event.invariant
-    (ap is_stop (slice_get-of_get_or events place c.event-item.result c.loop-event-test.true
-    c.event-item.is) ∙ (sym c.is_stop.ensures ∙ c.if-is_stop.false))
+loop-event-preserved c = grind (arith, none_next, slice_get-of_get_or)

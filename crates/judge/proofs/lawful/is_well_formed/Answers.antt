@@ -1,4 +1,4 @@
-use Rattle.std.proofs.Common.{ℕ, ◌+◌, length, take, ap, sym, ◌∙◌, arith}
+use Rattle.std.proofs.Common.{ℕ, length, take, ap, sym, ◌∙◌, arith}
 use Rattle.std.specs.Prelude.{slice_get}
 use Rattle.bio.specs.Lawful.{can_follow}
 use Rattle.bio.specs.PlaceLaws.{all_next, not_all, slice_get-of_get_or}
@@ -16,12 +16,4 @@ returns-then-not-can_follow c =
     ∙ (sym c.can_follow.ensures ∙ c.if-not-can_follow.true))
 
 pub loop-place-preserved : goal.loop-place-preserved
-loop-place-preserved c =
-    let events = c.args.events.now in
-    let place = c.loop-place.place in
-    all_next (λ (k : ℕ). can_follow (take k events) (slice_get events k)) place (place + 1)
-    (omega arith) c.loop-place.invariant
-    (ap (can_follow (take place events))
-    (slice_get-of_get_or events place c.index-events-place.result c.loop-place-test.true
-    c.index-events-place.is)
-    ∙ (sym c.can_follow.ensures ∙ c.if-not-can_follow.false))
+loop-place-preserved c = grind (arith, all_next, slice_get-of_get_or)

@@ -1,6 +1,5 @@
-use Rattle.std.proofs.Common.{◌≡◌, ℕ, get_or, Some, slice_get, slice_set, sym, ap, ◌∙◌, subst}
+use Rattle.std.proofs.Common.{get_or, ◌∙◌}
 use Rattle.std.proofs.lemmas.Option.{slice_get-get_or}
-use Rattle.lock_state.specs.declared.served.Seen.{Seen}
 use Rattle.lock_state.specs.declared.served.Seen.TheVariants.{Never}
 use Rattle.lock_state.proofs.CallCounts.{not_noted, nobody_ok, failed_ok, is_noted}
 use Rattle.lock_state.proofs.served.note.Goals as goal
@@ -18,6 +17,6 @@ returns-clause-noted c id seen e =
     let notes = c.args.notes.now in
     let at = c.place-id.result in
     is_noted notes c.args.place c.args.call.now at (get_or notes at Never)
-    (c.in-Some.is ∙ ap (λ (n : ℕ). Some n) (sym c.place-id.ensures)) c.if-not-call.false
+    (c.in-Some.is ∙ rw (← c.place-id.ensures)) c.if-not-call.false
     (slice_get-get_or notes at Never c.if-id-notes.false) id seen
-    (subst (λ (m : Seen). slice_get (slice_set notes at m) id ≡ Some seen) c.more.ensures e)
+    (rw (← c.more.ensures) e)

@@ -1,7 +1,5 @@
-use Rattle.std.proofs.Common.{◌≡◌, ◌+◌, ◌<◌, suc, List, length, take, sym, ◌∙◌, subst, arith}
+use Rattle.std.proofs.Common.{◌≡◌, ◌+◌, ◌<◌, suc, length, take, sym, ◌∙◌, arith}
 use Rattle.bio.specs.PlaceLaws.{slice_get-of_get_or}
-use Rattle.lock_state.specs.declared.note.Done.{Done}
-use Rattle.lock_state.specs.Comparison.{AllNotesMatch}
 use Rattle.lock_state.proofs.Lists.{take_next}
 use Rattle.lock_state.proofs.SeatList.{take_length, take_past}
 use Rattle.lock_state.proofs.CallCounts.{all_tell-push}
@@ -15,15 +13,12 @@ loop-place-preserved c =
     let within : place < length calls = omega arith in
     let there = slice_get-of_get_or calls place call within c.index-calls-place.is in
     let next : place + 1 ≡ suc place = omega arith in (
-      subst (λ (cs : List Done). AllNotesMatch cs c.note.new.notes)
-          (sym (take_next calls place (place + 1) call next there))
-          (all_tell-push (take place calls) call c.loop-place.notes c.note.new.notes place
-          (sym (take_length calls place
-          (omega arith))) c.loop-place.invariant.0 c.note.ensures.noted),
+      rw (take_next calls place (place + 1) call next there) (all_tell-push (take place calls)
+          call c.loop-place.notes c.note.new.notes place (sym (take_length calls place (omega
+          arith))) c.loop-place.invariant.0 c.note.ensures.noted),
       c.note.ensures.size ∙ c.loop-place.invariant.1,
     )
 
 pub returns-clause-told : goal.returns-clause-told
 returns-clause-told c =
-    subst (λ (cs : List Done). AllNotesMatch cs c.loop-place.notes)
-    (take_past c.args.calls.now c.loop-place.place (omega arith)) c.loop-place.invariant.0
+    rw (← take_past c.args.calls.now c.loop-place.place (omega arith)) c.loop-place.invariant.0

@@ -1,23 +1,11 @@
-use Rattle.std.proofs.Common.{◌≡◌, ℕ, length, refl, subst, ◌∙◌, arith}
+use Rattle.std.proofs.Common.{◌∙◌, arith}
 use Rattle.std.proofs.lemmas.List.{length-set}
-use Rattle.sector_disk.specs.inside.Choice.{AreChosen}
 use Rattle.sector_disk.proofs.NextPick.{chosen-next, unsynced-next}
 use Rattle.sector_disk.proofs.choice.choose.Goals as goal
 use Rattle.sector_disk.proofs.choice.choose.Goals.{then-count-gt1, else-count-gt1}
 
 pub loop-sector-init : goal.loop-sector-init
-loop-sector-init c = record {
-  length_kept = c.requires;
-  few = omega arith;
-  chosen =
-      λ cache placed. (
-        refl,
-        record {
-          value = λ sector h. absurd (omega arith);
-          within = λ sector h. absurd (omega arith);
-        },
-      );
-}
+loop-sector-init c = grind arith
 
 pub overflow_add-unsynced : goal.overflow_add-unsynced
 overflow_add-unsynced c = let few = c.loop-sector.invariant.few in omega arith
@@ -58,12 +46,4 @@ loop-sector-preserved c =
     }
 
 pub returns-clause-chosen : goal.returns-clause-chosen
-returns-clause-chosen c cache placed =
-    let all : c.loop-sector.sector ≡ length c.args.newest.now =
-    let low = c.loop-sector-test.false in
-    let high = c.loop-sector.auto.sector-end in
-    omega arith in
-    let Until =
-    λ (n : ℕ). AreChosen c.args.calls.now cache c.args.picks.now n
-    c.loop-sector.chosen.items in
-    subst Until all (c.loop-sector.invariant.chosen cache placed).1
+returns-clause-chosen c cache placed = grind arith

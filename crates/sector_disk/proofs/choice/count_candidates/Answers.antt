@@ -4,15 +4,7 @@ use Rattle.sector_disk.proofs.Chains.{chain-closed, chain-open}
 use Rattle.sector_disk.proofs.choice.count_candidates.Goals as goal
 
 pub returns-then-not-is_open-clause-count : goal.returns-then-not-is_open-clause-count
-returns-then-not-is_open-clause-count c count within chain =
-    let before = c.loop-index.invariant count chain in
-    let index = c.loop-index.index in
-    let one =
-    chain-closed c.args.calls.now c.args.synced c.args.sector
-    (count - index) c.loop-index.place before.1
-    (sym c.is_open.ensures ∙ c.if-not-is_open.true) in
-    let h = before.0 in
-    omega arith
+returns-then-not-is_open-clause-count c count within chain = grind (arith, chain-closed)
 
 pub loop-index-preserved : goal.loop-index-preserved
 loop-index-preserved c count chain =

@@ -8,8 +8,7 @@ use Rattle.sector_disk.proofs.pieces.read_piece.Goals as goal
 -- where the sector is
 there_in : (pieces : List (List ℕ)) (from : ℕ) → from % 512 ≡ 0 → AreWhole pieces
     → from + 512 ≤ length (joined pieces) → LiesIn pieces from (from / 65536) (from % 65536)
-there_in pieces from place whole within =
-    lies_in pieces from (from / 65536) (from % 65536) (omega arith) (omega arith) whole within
+there_in pieces from place whole within = grind (arith, lies_in)
 
 pub read_sector-requires-clause-within : goal.read_sector-requires-clause-within
 read_sector-requires-clause-within c =

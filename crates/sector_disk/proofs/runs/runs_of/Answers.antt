@@ -1,5 +1,5 @@
-use Rattle.std.proofs.Common.{◌≡◌, ℕ, ◌-◌, ◌≤◌, List, [], ◌∷◌, ◌++◌, ◌∙◌, ap, append_assoc, arith}
-use Rattle.std.proofs.Common.{drop, length, length-drop, replicate, sym, take}
+use Rattle.std.proofs.Common.{◌≡◌, ℕ, ◌-◌, ◌≤◌, List, [], ◌∷◌, ◌++◌, append_assoc, arith}
+use Rattle.std.proofs.Common.{drop, length, length-drop, replicate, take}
 use Rattle.std.proofs.lemmas.Grind.{common_steps}
 use Rattle.std.proofs.lemmas.List.{take_all}
 use Rattle.sector_disk.specs.declared.runs.Run.{Run}
@@ -10,9 +10,7 @@ use Rattle.sector_disk.proofs.runs.runs_of.Goals as goal
 unrolled-more : (runs : List Run) (run : Run)
     → unrolled (runs ++ run ∷ []) ≡ unrolled runs ++ replicate run.count run.value
 unrolled-more [] run = grind (arith, common_steps)
-unrolled-more (x ∷ xs) run =
-    ap (λ (rest : List ℕ). replicate x.count x.value ++ rest) (unrolled-more xs run)
-    ∙ sym (append_assoc (replicate x.count x.value) (unrolled xs) (replicate run.count run.value))
+unrolled-more (x ∷ xs) run = grind (arith, unrolled-more xs run, append_assoc)
 
 -- the first run of the rest goes to the runs
 more : (all rest : List ℕ) (runs new : List Run) (run : Run) (n : ℕ)
@@ -21,11 +19,7 @@ more : (all rest : List ℕ) (runs new : List Run) (run : Run) (n : ℕ)
     → unrolled runs ++ rest ≡ all
     → unrolled new ++ take n (drop run.count rest) ≡ all
 more all rest runs new run n enough pushed split earlier =
-    let whole = take_all n (drop run.count rest) (omega (arith, length-drop run.count rest)) in
-    let last = unrolled-more runs run in
-    let joined =
-    append_assoc (unrolled runs) (replicate run.count run.value) (drop run.count rest) in
-    cc
+    grind (arith, take_all, length-drop, unrolled-more, append_assoc)
 
 pub loop-rest-preserved : goal.loop-rest-preserved
 loop-rest-preserved c =

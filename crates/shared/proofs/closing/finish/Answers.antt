@@ -1,7 +1,6 @@
-use Rattle.std.proofs.Common.{List, ap, subst, sym}
+use Rattle.std.proofs.Common.{ap}
 use Rattle.lock_state.specs.History.{Queue}
-use Rattle.lock_state.specs.PlacedItems.{Log, Stay}
-use Rattle.lock_state.specs.declared.note.Item.{Item}
+use Rattle.lock_state.specs.PlacedItems.{Log}
 use Rattle.shared.proofs.ClosedLog.{agrees_finally, leaves_finally, stop_finally}
 use Rattle.shared.proofs.closing.finish.Goals as goal
 
@@ -32,8 +31,7 @@ returns-clause-crash g c lies left crash =
 
 pub returns-clause-stay : goal.returns-clause-stay
 returns-clause-stay g c =
-    subst (λ (items : List Item). Stay c.args.log.placed items)
-    (sym c.take_apart.ensures.placed.0) c.drain.ensures.goes.stay
+    rw c.take_apart.ensures.placed.0 c.drain.ensures.goes.stay
 
 pub returns-clause-stop_cause : goal.returns-clause-stop_cause
 returns-clause-stop_cause g c =

@@ -19,11 +19,4 @@ returns-then-not-has_settled_at c =
     ∙ (sym c.has_settled_at.ensures ∙ c.if-not-has_settled_at.true))
 
 pub loop-place-preserved : goal.loop-place-preserved
-loop-place-preserved c =
-    let test : ℕ → Bool =
-    λ sector. is_among (settled_of (slice_get c.args.cells.now sector)) c.args.id in
-    let place = c.loop-place.place in
-    all_next (λ k. test (first_sector c.args.bio.now + k)) place (place + 1)
-    (omega arith) c.loop-place.invariant
-    (ap (λ (first : ℕ). test (first + place)) (sym c.first_sector-first.ensures)
-    ∙ (sym c.has_settled_at.ensures ∙ c.if-not-has_settled_at.false))
+loop-place-preserved c = grind (arith, all_next)

@@ -1,4 +1,4 @@
-use Rattle.std.proofs.Common.{Some, List, ℕ, length, refl, ap, sym, ◌∙◌}
+use Rattle.std.proofs.Common.{length, refl, ap, ◌∙◌}
 use Rattle.world.proofs.ImageSector.{is_put}
 use Rattle.world.proofs.putting.put_bytes.Goals as goal
 
@@ -7,4 +7,4 @@ returns c patch value =
     let same = c.copy_from_slice.ensures.after in
     is_put patch c.args.sector c.args.image.now c.copy_from_slice.new.self _ c.requires.within
     (ap length same ∙ c.requires.part) refl
-    (value ∙ ap (λ (bytes : List ℕ). Some bytes) (sym same))
+    (value ∙ rw (← same))

@@ -1,4 +1,4 @@
-use Rattle.std.proofs.Common.{◌/◌, List, length, take, ap, sym, ◌∙◌, subst, arith}
+use Rattle.std.proofs.Common.{◌/◌, List, length, take, ap, ◌∙◌, subst, arith}
 use Rattle.bio.specs.Content.{sector_of}
 use Rattle.bio.specs.declared.event.CoreEvent.{CoreEvent}
 use Rattle.bio.specs.EventLaws.{lawful-take}
@@ -6,18 +6,12 @@ use Rattle.judge.specs.declared.verdict.Verdict.{Verdict}
 use Rattle.judge.specs.Accounts.{IsAccount, place_at}
 use Rattle.judge.specs.Firsts.{first_on}
 use Rattle.judge.specs.Verdicts.{IsVerdict}
-use Rattle.world.specs.inside.Plan.{EndsFit, plan, sure_by}
+use Rattle.world.specs.inside.Plan.{plan, sure_by}
 use Rattle.world.proofs.PossibleChoice.{account_leaves, lawful_ends}
 use Rattle.world.proofs.reaching.find.Goals as goal
 
 pub run_of-requires-clause-within : goal.run_of-requires-clause-within
-run_of-requires-clause-within c =
-    let events = c.args.events.now in
-    let sectors = length c.args.image.now / 512 in
-    let size = c.type_inv.image in
-    subst EndsFit (sym c.beginning-events.ensures)
-    (lawful_ends sectors (take c.args.moment events)
-    (lawful-take sectors events c.args.moment c.requires.lawful) (omega arith))
+run_of-requires-clause-within c = grind (arith, lawful_ends, lawful-take)
 
 pub returns-in-Yes : goal.returns-in-Yes
 returns-in-Yes c =
@@ -39,14 +33,4 @@ returns-in-Yes c =
     (sure_by account.last.items)) c.beginning-events.ensures)
 
 pub returns : goal.returns
-returns c =
-    let events = c.args.events.now in
-    let image = sector_of c.args.image.now in
-    let first = first_on c.args.first (length c.args.image.now) in
-    let sectors = length c.args.image.now / 512 in
-    let Told = λ (es : List CoreEvent). IsAccount es image sectors c.in_ok-account.account in
-    let Judged =
-    λ (verdict : Verdict). IsVerdict sectors (take c.args.moment events) first image verdict in
-    let told = subst Told c.beginning-events.ensures c.in_ok-account.ensures in
-    let lawful = lawful-take sectors events c.args.moment c.requires.lawful in
-    subst Judged c.in-No.is (c.verdict.ensures (take c.args.moment events) lawful told)
+returns c = grind (arith, lawful-take)

@@ -6,7 +6,7 @@ pub split_seat-lent-requires : goal.split_seat-lent-requires
 split_seat-lent-requires g c =
     let i = c.self.invariant in
     let m = c.mine.invariant in
-    (m.0 ∙ sym i.0, omega arith, splits _ _ (ap (λ m. m.0.holds) m.1))
+    (m.0 ∙ sym i.0, omega arith, splits _ _ (rw m.1))
 
 pub join_seat-requires : goal.join_seat-requires
 join_seat-requires g c =
@@ -16,7 +16,7 @@ join_seat-requires g c =
     let part = lent_is c.mine.inside.pass.me c.split_seat-lent.result.me _ _ m.1 s.4 in (
       i.1 ∙ sym i.0,
       s.3 ∙ m.0 ∙ sym i.0,
-      ap (λ m. m.1) s.4,
+      rw s.4,
       omega arith,
       joins _ _ _ _ _ _ _ (ap (λ m. m.0) i.3) (ap (λ m. m.0) part),
     )
@@ -45,4 +45,4 @@ split_seat-requires g c =
     i.3 part j.2 in
     let t = c.load.ensures in
     let now = same_is c.join_seat.new.seat.me c.load.new.seat.me _ _ _ both t.2 in
-    (t.0 ∙ j.0 ∙ i.1 ∙ sym i.0, omega arith, splits _ _ (ap (λ m. m.0.holds) now.1))
+    (t.0 ∙ j.0 ∙ i.1 ∙ sym i.0, omega arith, splits _ _ (rw now.1))

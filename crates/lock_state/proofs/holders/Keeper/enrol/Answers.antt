@@ -1,4 +1,4 @@
-use Rattle.std.proofs.Common.{sym, ap, ◌∙◌, arith}
+use Rattle.std.proofs.Common.{sym, ◌∙◌, arith}
 use Rattle.lock_state.proofs.HolderMoves.{enrols, splits, enrolled_is}
 use Rattle.lock_state.proofs.holders.Keeper.enrol.Goals as goal
 
@@ -12,4 +12,4 @@ split_seat-requires g c =
     let i = c.self.invariant in
     let s = c.store.ensures in
     let both = enrolled_is c.self.inside.pass.me c.store.new.seat.me _ i.3 s.2 in
-    (s.0 ∙ i.1 ∙ sym i.0, omega arith, splits _ _ (ap (λ m. m.0.holds) both))
+    (s.0 ∙ i.1 ∙ sym i.0, omega arith, splits _ _ (rw both))

@@ -8,9 +8,8 @@ use Rattle.lock_state.proofs.queue.QueueState.recorded_stop.Goals as goal
 
 pub returns-in-None : goal.returns-in-None
 returns-in-None g c =
-    sym (ap (λ (q : Queue). stop_of q.core.events) (sym c.self.view_is)
-    ∙ stop_of-unended c.self.inside.core.state.events
-    (sym c.self.invariant.0.ended_at ∙ c.in-None.is))
+    sym (rw (← c.self.view_is) (stop_of-unended c.self.inside.core.state.events (sym
+    c.self.invariant.0.ended_at ∙ c.in-None.is)))
 
 pub returns-in-Some : goal.returns-in-Some
 returns-in-Some g c =

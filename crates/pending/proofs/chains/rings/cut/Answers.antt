@@ -11,10 +11,7 @@ returns-then-first-last-clause-holds c = λ lasts loose chains chain h there.
     holds-emptied h chain c.args.last there (sym c.next-first.ensures ∙ c.if-first-last.true)
 
 pub next-second-requires : goal.next-second-requires
-next-second-requires c =
-    let small = first-is-row c.requires.holds c.requires.chain c.args.last c.requires.there in
-    let e = c.next-first.ensures in
-    omega arith
+next-second-requires c = grind (arith, first-is-row)
 
 pub write-requires : goal.write-requires
 write-requires c = last-is-row c.requires.holds c.requires.chain c.args.last c.requires.there
@@ -23,7 +20,7 @@ pub returns-clause-holds : goal.returns-clause-holds
 returns-clause-holds c = λ lasts loose chains chain h there.
     let next = c.args.links.now.next.items in
     let last = c.args.last in
-    let second = c.next-second.ensures ∙ ap (λ row. after next row) c.next-first.ensures in
+    let second = c.next-second.ensures ∙ rw c.next-first.ensures in
     holds-same (set next last (after next (after next last))) c.write.new.self.next.items
     (set lasts chain (Some last))
     (c.write.ensures.next ∙ ap (λ row. set next last row) second) refl

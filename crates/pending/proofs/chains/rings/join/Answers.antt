@@ -3,14 +3,7 @@ use Rattle.pending.proofs.HoldsLaws.{holds-joined, holds-same, last-is-row}
 use Rattle.pending.proofs.chains.rings.join.Goals as goal
 
 pub write-requires : goal.write-requires
-write-requires c =
-    let noted = sym c.last.ensures ∙ c.in-Some.is in
-    let small = last-is-row c.requires.kept.holds c.args.from c.in-Some.last noted in
-    let kept = c.put_before.ensures.changes in
-    let rows = kept.rows in
-    let chains = kept.chains in
-    let onto = c.requires.onto in
-    (omega arith, omega arith)
+write-requires c = grind (arith, last-is-row)
 
 pub returns-clause-holds : goal.returns-clause-holds
 returns-clause-holds c = λ loose chains h.

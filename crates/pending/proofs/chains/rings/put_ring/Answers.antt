@@ -1,33 +1,23 @@
-use Rattle.std.proofs.Common.{length, set, Some, ap, sym, ◌∙◌, arith, length-set}
+use Rattle.std.proofs.Common.{set, Some, ap, sym, ◌∙◌, arith, length-set}
 use Rattle.pending.specs.inside.Rings.{after}
 use Rattle.pending.proofs.HoldsLaws.{holds-embraced, holds-named, holds-same, last-again}
 use Rattle.pending.proofs.HoldsLaws.{last-is-row, ring-is-row}
 use Rattle.pending.proofs.chains.rings.put_ring.Goals as goal
 
 pub next-first-requires : goal.next-first-requires
-next-first-requires c =
-    last-is-row c.requires.holds c.args.chain c.in-Some.kept (sym c.last.ensures ∙ c.in-Some.is)
+next-first-requires c = grind (arith, last-is-row)
 
 pub next-second-requires : goal.next-second-requires
-next-second-requires c =
-    ring-is-row c.args.moved c.requires.rows c.requires.loose c.requires.holds c.requires.ring
+next-second-requires c = grind (arith, ring-is-row)
 
 pub write-requires : goal.write-requires
-write-requires c =
-    last-is-row c.requires.holds c.args.chain c.in-Some.kept (sym c.last.ensures ∙ c.in-Some.is)
+write-requires c = grind (arith, last-is-row)
 
 pub write-requires-in-Some : goal.write-requires-in-Some
-write-requires-in-Some c =
-    let small =
-    ring-is-row c.args.moved c.requires.rows c.requires.loose c.requires.holds c.requires.ring in
-    let e = ap length c.write.ensures.next in
-    omega (arith, length-set c.args.links.now.next.items c.in-Some.kept c.next-second.result)
+write-requires-in-Some c = grind (arith, ring-is-row, length-set)
 
 pub write-requires-in-None : goal.write-requires-in-None
-write-requires-in-None c = (
-  c.requires.there,
-  ring-is-row c.args.moved c.requires.rows c.requires.loose c.requires.holds c.requires.ring,
-)
+write-requires-in-None c = grind (arith, ring-is-row)
 
 pub returns-in-Some-clause-holds : goal.returns-in-Some-clause-holds
 returns-in-Some-clause-holds c = λ rows loose chains h ring.

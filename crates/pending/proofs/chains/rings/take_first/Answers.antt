@@ -1,6 +1,5 @@
-use Rattle.std.proofs.Common.{ℕ, List, ◌∷◌, length, set, Some, None, refl, ap, sym, ◌∙◌, subst}
+use Rattle.std.proofs.Common.{ℕ, List, ◌∷◌, set, Some, None, refl, ap, sym, ◌∙◌, subst}
 use Rattle.std.proofs.Common.{arith, length-set}
-use Rattle.pending.specs.declared.chains.links.Links.{Links}
 use Rattle.pending.proofs.RingLaws.{none-of, some-of}
 use Rattle.pending.specs.Edits.{shortened}
 use Rattle.pending.specs.inside.Rings.{Holds}
@@ -8,27 +7,10 @@ use Rattle.pending.proofs.HoldsLaws.{last-again, last-is-row, holds-same}
 use Rattle.pending.proofs.chains.rings.take_first.Goals as goal
 
 pub next-first-requires : goal.next-first-requires
-next-first-requires c =
-    last-is-row c.requires.kept.holds c.args.chain c.in_ok-last.last
-    (sym c.last.ensures ∙ c.in_ok-last.was)
+next-first-requires c = grind (arith, last-is-row)
 
 pub returns-then-is_none-clause-changes : goal.returns-then-is_none-clause-changes
-returns-then-is_none-clause-changes c =
-    let none = none-of c.cut.result c.if-is_none.ensures in
-    let same = c.cut.ensures.emptied none in
-    let kept = c.cut.ensures.changes in
-    let counted = ap (λ (links : Links). links.changed) same in
-    let written = c.write.ensures.changed in
-    record {
-      few = omega arith;
-      rises = omega (arith, c.write.ensures.rises);
-      row_room = c.write.ensures.row_room ∙ kept.row_room;
-      chain_room = c.write.ensures.chain_room ∙ kept.chain_room;
-      rows = ap length c.write.ensures.next ∙ kept.rows;
-      chains =
-          ap length c.write.ensures.lasts ∙ length-set c.cut.new.links.lasts.items c.args.chain None
-          ∙ kept.chains;
-    }
+returns-then-is_none-clause-changes c = grind (arith, none-of, length-set)
 
 pub returns-then-is_none-clause-holds : goal.returns-then-is_none-clause-holds
 returns-then-is_none-clause-holds c = λ loose chains h.

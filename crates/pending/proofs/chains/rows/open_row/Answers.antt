@@ -1,5 +1,4 @@
-use Rattle.std.proofs.Common.{◌≡◌, [], ◌∷◌, ◌++◌, length, refl, ap, sym, ◌∙◌, arith}
-use Rattle.pending.specs.declared.chains.links.Links.{Links}
+use Rattle.std.proofs.Common.{[], refl, arith}
 use Rattle.pending.proofs.HoldsLaws.{none-at}
 use Rattle.pending.proofs.OpenLaws.{nothing-cut, open-free, open-grown, shown-grown}
 use Rattle.pending.proofs.CallLaws.{first-row}
@@ -16,15 +15,7 @@ returns-in-Some-clause-opened g c = λ chains t.
     c.take_first.ensures.changes.chains
 
 pub returns-in-None-clause-opened : goal.returns-in-None-clause-opened
-returns-in-None-clause-opened g c = λ chains t.
-    let none = c.in-None.ensures.none refl in
-    let cut = sym (nothing-cut chains 0 (none-at t.holds 0 none.0)) in
-    let next = c.add_row.ensures.next ∙ ap (λ (links : Links). links.next.items ++ 0 ∷ []) none.1 in
-    let lasts =
-    ap (λ v. v.items) c.add_row.ensures.lasts
-    ∙ ap (λ (links : Links). links.lasts.items) none.1 in
-    let row : c.len-row.result ≡ length c.args.rows.now.items = omega (arith, c.args.rows.now.ok) in
-    rw (c.push_reserved.ensures.items, next, lasts, row, ← cut) (open-grown t)
+returns-in-None-clause-opened g c = grind (arith, nothing-cut, none-at, open-grown)
 
 pub returns-in-None-clause-shown : goal.returns-in-None-clause-shown
 returns-in-None-clause-shown g c = λ chains t.

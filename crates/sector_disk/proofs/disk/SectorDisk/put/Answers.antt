@@ -1,6 +1,4 @@
-use Rattle.std.proofs.Common.{ap, arith, drop, List, refl, take, ◌∷◌, ◌∙◌}
-use Rattle.sector_disk.specs.Candidates.{Puts, Step}
-use Rattle.sector_disk.specs.inside.Storage.{change_values}
+use Rattle.std.proofs.Common.{ap, arith, drop, refl, take, ◌∙◌}
 use Rattle.sector_disk.proofs.FieldsKept.{kept_added, past_added, start_added}
 use Rattle.sector_disk.proofs.disk.SectorDisk.put.Goals as goal
 
@@ -32,7 +30,5 @@ returns-clause-ok c =
           old.kept.base_within ∙ same.start;
       past =
           past_added old.calls.items c.add_call.new.calls.items _ old.begun done.calls
-          old.kept.begun_within
-          ∙ ap (λ (steps : List Step). Puts
-          (change_values c.args.first c.args.change) c.args.fua ∷ steps) same.past;
+          old.kept.begun_within ∙ rw same.past;
     }

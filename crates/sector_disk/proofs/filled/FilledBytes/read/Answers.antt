@@ -27,7 +27,7 @@ front : (bytes : List ℕ) (count fill n : ℕ) → n ≤ length bytes + count
 front [] count fill n within = simp unary_clauses (take-replicate n count fill (omega arith))
 front (x ∷ xs) count fill zero within = simp unary_clauses
 front (x ∷ xs) count fill (suc n) within =
-    simp unary_clauses (ap (λ (rest : List ℕ). x ∷ rest) (front xs count fill n (omega arith)))
+    grind (arith, front xs count fill n (omega arith), unary_clauses)
 
 -- a part of the bytes: those that are held, and then the byte that fills
 part : (bytes : List ℕ) (count fill from n start held : ℕ) → start ≡ min from (length bytes)

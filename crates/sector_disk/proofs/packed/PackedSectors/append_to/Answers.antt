@@ -1,4 +1,4 @@
-use Rattle.std.proofs.Common.{ℕ, List, ◌≡◌, ◌+◌, ◌*◌, ◌++◌, ◌∙◌, ap, append_assoc, arith, drop, take}
+use Rattle.std.proofs.Common.{ℕ, List, ◌≡◌, ◌+◌, ◌*◌, ◌++◌, ◌∙◌, append_assoc, arith, drop, take}
 use Rattle.std.proofs.Math.Seq.{take-add}
 use Rattle.std.proofs.lemmas.List.{take_all}
 use Rattle.sector_disk.proofs.packed.PackedSectors.append_to.Goals as goal
@@ -16,13 +16,8 @@ more old now all sector earlier =
 
 pub loop-sector-preserved : goal.loop-sector-preserved
 loop-sector-preserved c =
-    c.in_ok-extend_from_slice.ensures.items
-    ∙ ap (λ bytes. c.loop-sector.to.items ++ bytes) c.read_sector.ensures
-    ∙ more c.args.to.now.items c.loop-sector.to.items c.args.self.now c.loop-sector.sector
-    c.loop-sector.invariant
+    c.in_ok-extend_from_slice.ensures.items ∙ rw c.read_sector.ensures (more c.args.to.now.items
+    c.loop-sector.to.items c.args.self.now c.loop-sector.sector c.loop-sector.invariant)
 
 pub returns : goal.returns
-returns c =
-    c.loop-sector.invariant
-    ∙ ap (λ bytes. c.args.to.now.items ++ bytes)
-    (take_all (512 * c.loop-sector.sector) c.args.self.now (omega arith))
+returns c = grind (arith, take_all)

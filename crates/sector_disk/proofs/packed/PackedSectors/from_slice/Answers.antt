@@ -1,4 +1,4 @@
-use Rattle.std.proofs.Common.{ℕ, List, ◌≡◌, ◌+◌, ◌-◌, ◌*◌, ◌/◌, ◌∙◌, ap, arith, drop, length, length-append}
+use Rattle.std.proofs.Common.{ℕ, List, ◌≡◌, ◌+◌, ◌-◌, ◌*◌, ◌∙◌, ap, arith, drop, length, length-append}
 use Rattle.std.proofs.Common.{take}
 use Rattle.std.proofs.lemmas.List.{length-take}
 use Rattle.bio.specs.Content.{sector_of}
@@ -25,7 +25,4 @@ loop-sector-preserved c =
     (c.count_held.ensures.filled ∙ same) (omega arith))
 
 pub returns : goal.returns
-returns c =
-    let end : c.loop-sector.sector ≡ length c.args.bytes.now / 512 = omega arith in
-    packed_all c.args.bytes.now c.loop-sector.held.items c.loop-sector.bounds.items
-    c.loop-sector.sector (omega arith) c.loop-sector.invariant
+returns c = grind (arith, packed_all)

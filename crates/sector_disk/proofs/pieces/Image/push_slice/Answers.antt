@@ -19,6 +19,4 @@ invariant_of-self-2 c =
     })
 
 pub returns-clause-ok : goal.returns-clause-ok
-returns-clause-ok c =
-    rw (c.in_ok-push.ensures.items, ← c.self.view_is, ← c.in_ok-from_slice.ensures)
-    (joined-more c.self.inside.pieces.items c.in_ok-from_slice.field-0)
+returns-clause-ok c = grind (arith, joined-more)

@@ -30,14 +30,12 @@ returns-then-agrees-clause-log g c lies =
 pub returns-then-agrees-clause-posted : goal.returns-then-agrees-clause-posted
 returns-then-agrees-clause-posted g c =
     posted_stays _ _ _ _ c.finish-closed.ensures.stay
-    (subst (λ (log : Log). ArePosted g.R.Run.sector_bytes log.placed c.in-Ok.held.posts)
-    (sym c.confirm_causes.ensures.same.0) c.in-Ok.ensures.posted)
+    (rw c.confirm_causes.ensures.same.0 c.in-Ok.ensures.posted)
 
 pub returns-clause-foreign_posted : goal.returns-clause-foreign_posted
 returns-clause-foreign_posted g c =
     subst (λ (items : List Item). ArePosted g.R.Run.sector_bytes items c.in-Ok.held.posts)
-    (sym (c.take_apart.ensures.placed.0 ∙ ap (λ (log : Log). log.placed)
-    c.confirm_causes.ensures.same.0)) c.in-Ok.ensures.posted
+    (sym (c.take_apart.ensures.placed.0 ∙ rw c.confirm_causes.ensures.same.0)) c.in-Ok.ensures.posted
 
 pub returns-clause-foreign : goal.returns-clause-foreign
 returns-clause-foreign g c =
@@ -134,14 +132,14 @@ pub returns-then-agrees-clause-stop_cause : goal.returns-then-agrees-clause-stop
 returns-then-agrees-clause-stop_cause g c =
     let same = c.confirm_causes.ensures.same in
     c.finish-closed.ensures.stop_cause
-    (stop_same _ _ _ _ (ap (λ (q : Queue). q.stop) same.1) (ap (λ (log : Log). log.end) same.0)
+    (stop_same _ _ _ _ (rw same.1) (rw same.0)
     c.confirm_causes.ensures.stopped)
 
 pub returns-clause-foreign_stop_cause : goal.returns-clause-foreign_stop_cause
 returns-clause-foreign_stop_cause g c =
     let same = c.confirm_causes.ensures.same in
     stop_same _ _ _ _ (ap (λ (q : Queue). q.stop) (c.take_apart.ensures.queue ∙ same.1))
-    (c.take_apart.ensures.store_end ∙ ap (λ (log : Log). log.end) same.0)
+    (c.take_apart.ensures.store_end ∙ rw same.0)
     c.confirm_causes.ensures.stopped
 
 pub returns-clause-foreign_latest : goal.returns-clause-foreign_latest

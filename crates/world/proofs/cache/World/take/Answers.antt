@@ -1,8 +1,7 @@
-use Rattle.std.proofs.Common.{ℕ, ap, sym, ◌∙◌, subst}
+use Rattle.std.proofs.Common.{ap, sym, ◌∙◌, subst}
 use Rattle.std.proofs.lemmas.Result.{on_ok_weaker}
-use Rattle.std.specs.Prelude.{get_or, slice_set}
 use Rattle.world.specs.declared.step.Step.{Step}
-use Rattle.world.specs.Cells.{Steps, empty_cell, landing, machine_of}
+use Rattle.world.specs.Cells.{Steps, machine_of}
 use Rattle.world.specs.Machine.{has_step}
 use Rattle.world.proofs.MachineSteps.{destage_steps, destage_within, land_steps, land_within}
 use Rattle.world.proofs.cache.World.take.Goals as goal
@@ -32,10 +31,7 @@ returns-in-Land-clause-taken c =
     (λ landed. subst Taken (sym c.in-Land.is)
     (land_steps events c.in-Land.id at old c.land.new.self taken
     (land_within events c.in-Land.id at old c.requires.lawful c.requires.sectors taken)
-    (landed ∙ ap (λ (id : ℕ). record old {
-      cells = slice_set old.cells at
-          (landing id (get_or old.cells at empty_cell));
-    }) c.place.ensures)))
+    (landed ∙ rw c.place.ensures)))
     c.land.ensures.landed
 
 pub returns-in-Destage-clause-taken : goal.returns-in-Destage-clause-taken

@@ -1,4 +1,4 @@
-use Rattle.std.proofs.Common.{◌≡◌, ◌<◌, ◌∷◌, length, Some, None, ap, sym, ◌∙◌, refl, arith, rules}
+use Rattle.std.proofs.Common.{◌≡◌, ◌<◌, ◌∷◌, length, Some, None, ap, ◌∙◌, refl, arith, rules}
 use Rattle.std.specs.Borrow.{Bor}
 use Rattle.std.proofs.lemmas.List.{get_or_read_under}
 use Rattle.pending.specs.inside.Tables.{value_at}
@@ -66,13 +66,7 @@ found g c =
 parts : (g : given.Over) (c : goal.After-self-1 g)
     → c.args.self.now ≡ (found g c).0.now ∷ values_left c.self.inside.links.now.next.items
     c.self.inside.rows.now c.self.inside.last c.unless_last-self-inside.result
-parts g c =
-    let look = c.self.inside in
-    sym c.self.view_is
-    ∙ ap (λ at. values_left look.links.now.next.items look.rows.now look.last at) c.in_ok-self.was
-    ∙ (step g c).1.2
-    ∙ ap (λ v. v ∷ values_left look.links.now.next.items look.rows.now look.last
-    c.unless_last-self-inside.result) (sym (found g c).2)
+parts g c = grind arith
 
 pub returns-clause-steps : goal.returns-clause-steps
 returns-clause-steps g c = rw (found g c).1 (parts g c)

@@ -38,9 +38,7 @@ loose : (g : given.Over) (c : goal.After-put_last g)
     → IsOpen c.open_row-row.new.links.next.items c.open_row-row.new.links.lasts.items
     c.open_row-row.new.rows.items c.open_row-row.result
     (shortened (seen_chains c.self.inside.links c.self.inside.walk) 0)
-loose g c =
-    c.open_row-row.ensures.opened (seen_chains c.self.inside.links c.self.inside.walk)
-    (table-rest c.self.invariant (rests g c))
+loose g c = grind (arith, table-rest)
 
 -- the table after the call
 table : (g : given.Over) (c : goal.After-put_last g)

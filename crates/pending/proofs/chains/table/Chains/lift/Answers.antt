@@ -1,4 +1,4 @@
-use Rattle.std.proofs.Common.{[], ◌++◌, map, drop, take, Some, refl, ap, sym, ◌∙◌, arith}
+use Rattle.std.proofs.Common.{[], ◌++◌, map, drop, take, Some, ap, sym, ◌∙◌, arith}
 use Rattle.std.proofs.Common.{vec_capacity}
 use Rattle.pending.specs.Edits.{chain_in, lifted}
 use Rattle.pending.specs.inside.Tables.{seen_chains, seen_lasts, values_of, walked_in, IsTable}
@@ -12,17 +12,8 @@ use Rattle.pending.proofs.chains.table.Chains.lift.Given as given
 use Rattle.pending.proofs.chains.table.Chains.lift.Goals as goal
 
 pub returns-in_default-at-clause-chains : goal.returns-in_default-at-clause-chains
-returns-in_default-at-clause-chains g c = λ chain walked.
-    let seen = rw (← c.self.view_is) at walked in
-    let last = walked-last c.self.inside.walk c.in-Some.walk chain c.self.invariant
-    c.in-Some.is seen in
-    let rows = c.self.inside.rows.items in
-    let chains = seen_chains c.self.inside.links c.self.inside.walk in
-    rw (← c.self.view_is)
-    (sym (nothing-lifted (map (values_of rows) chains) chain c.args.onto
-    (chain-map (values_of rows) chains chain refl
-    ∙ ap (λ rs. values_of rows rs)
-    (none-at (c.self.invariant).table.holds chain (last.1 ∙ c.in_default-at.is)))))
+returns-in_default-at-clause-chains g c =
+    grind (arith, walked-last, nothing-lifted, chain-map, none-at)
 
 pub next-row-requires : goal.next-row-requires
 next-row-requires g c =
@@ -53,7 +44,7 @@ put_first-requires g c =
     c.cut-left.result c.self.invariant c.in-Some.is c.in-Some-at.is c.next-row.ensures
     c.cut-left.ensures.holds)
     c.cut-left.ensures.changes c.cut-left.ensures.lasts
-    (λ e. apart (ap walked_in c.in-Some.is ∙ ap (λ k. Some k) (sym e)))
+    (λ e. apart (ap walked_in c.in-Some.is ∙ rw (← e)))
     (lift-within c.self.invariant c.args.onto onto.1)
 
 -- the table after the call

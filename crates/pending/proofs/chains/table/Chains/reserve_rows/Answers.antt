@@ -1,4 +1,4 @@
-use Rattle.std.proofs.Common.{refl, ap, arith, vec_capacity}
+use Rattle.std.proofs.Common.{refl, arith, vec_capacity}
 use Rattle.pending.proofs.CallLaws.{room-of, sound-same}
 use Rattle.pending.proofs.chains.table.Chains.reserve_rows.Goals as goal
 
@@ -7,40 +7,32 @@ invariant_of-self g c =
     sound-same c.self.inside.links c.reserve_rows.new.self c.self.inside.rows.items
     c.self.inside.rows.items c.self.inside.walk
     c.reserve_rows.ensures.next
-    (ap (λ v. v.items) c.reserve_rows.ensures.lasts) refl c.self.invariant
+    (rw c.reserve_rows.ensures.lasts) refl c.self.invariant
 
 pub invariant_of-self-2 : goal.invariant_of-self-2
 invariant_of-self-2 g c =
     sound-same c.self.inside.links c.reserve_rows.new.self c.self.inside.rows.items
     c.reserve.new.self.items c.self.inside.walk
     c.reserve_rows.ensures.next
-    (ap (λ v. v.items) c.reserve_rows.ensures.lasts) c.reserve.ensures.items c.self.invariant
+    (rw c.reserve_rows.ensures.lasts) c.reserve.ensures.items c.self.invariant
 
 pub returns-in_err-reserve_rows-clause-succeeds : goal.returns-in_err-reserve_rows-clause-succeeds
-returns-in_err-reserve_rows-clause-succeeds g c =
-    let room = room-of (vec_capacity c.self.inside.rows) c.self.invariant in
-    grind (arith, room, c.self.view_is, c.in_err-reserve_rows.ensures.full)
+returns-in_err-reserve_rows-clause-succeeds g c = grind (arith, room-of, vec_capacity)
 
 pub returns-in_err-reserve_rows-clause-full : goal.returns-in_err-reserve_rows-clause-full
-returns-in_err-reserve_rows-clause-full g c =
-    let room = room-of (vec_capacity c.self.inside.rows) c.self.invariant in
-    grind (arith, room, c.self.view_is, c.in_err-reserve_rows.ensures.full)
+returns-in_err-reserve_rows-clause-full g c = grind (arith, room-of, vec_capacity)
 
 pub returns-clause-succeeds : goal.returns-clause-succeeds
-returns-clause-succeeds g c =
-    let room = room-of (vec_capacity c.self.inside.rows) c.self.invariant in
-    grind (arith, room, c.self.view_is, c.reserve.ensures.succeeds)
+returns-clause-succeeds g c = grind (arith, room-of, vec_capacity)
 
 pub returns-clause-full : goal.returns-clause-full
-returns-clause-full g c =
-    let room = room-of (vec_capacity c.self.inside.rows) c.self.invariant in
-    grind (arith, room, c.self.view_is, c.reserve.ensures.full)
+returns-clause-full g c = grind (arith, room-of, vec_capacity)
 
 pub returns-clause-room : goal.returns-clause-room
 returns-clause-room g c =
     let sound =
     sound-same c.self.inside.links c.reserve_rows.new.self c.self.inside.rows.items
     c.reserve.new.self.items c.self.inside.walk c.reserve_rows.ensures.next
-    (ap (λ v. v.items) c.reserve_rows.ensures.lasts) c.reserve.ensures.items c.self.invariant in
+    (rw c.reserve_rows.ensures.lasts) c.reserve.ensures.items c.self.invariant in
     let room = room-of (vec_capacity c.reserve.new.self) sound in
     grind (arith, room, c.in_ok-reserve_rows.ensures.ok, c.reserve.ensures.ok)

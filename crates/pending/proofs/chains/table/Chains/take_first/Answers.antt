@@ -1,7 +1,6 @@
 use Rattle.std.proofs.Common.{◌≡◌, ℕ, ◌<◌, List, [], ◌∷◌, length, map, drop, None, refl, ap, sym}
 use Rattle.std.proofs.Common.{◌∙◌, arith}
 use Rattle.std.proofs.lemmas.List.{length-set}
-use Rattle.pending.specs.declared.chains.links.Links.{Links}
 use Rattle.pending.specs.Edits.{chain_in, preceded, shortened}
 use Rattle.pending.specs.inside.Tables.{seen_chains, seen_lasts, values_of, walked_in, IsOpen}
 use Rattle.pending.specs.inside.Tables.{IsTable}
@@ -15,17 +14,7 @@ use Rattle.pending.proofs.chains.table.Chains.take_first.Given as given
 use Rattle.pending.proofs.chains.table.Chains.take_first.Goals as goal
 
 pub returns-in_err-row-clause-chains : goal.returns-in_err-row-clause-chains
-returns-in_err-row-clause-chains g c =
-    let rests = rw (← c.self.view_is) at c.requires.rests in
-    let t = table-rest c.self.invariant rests in
-    let none = c.in_err-row.ensures.none refl in
-    let rows = c.self.inside.rows.items in
-    let chains = seen_chains c.self.inside.links c.self.inside.walk in
-    rw (← c.self.view_is)
-    (ap (λ (links : Links). map (values_of rows) (seen_chains links c.self.inside.walk)) none.1
-    ∙ sym (nothing-cut (map (values_of rows) chains) c.args.chain
-    (chain-map (values_of rows) chains c.args.chain refl
-    ∙ ap (λ rs. values_of rows rs) (none-at t.holds c.args.chain none.0))))
+returns-in_err-row-clause-chains g c = grind (arith, table-rest, nothing-cut, chain-map, none-at)
 
 pub take_value-value-requires : goal.take_value-value-requires
 take_value-value-requires g c =

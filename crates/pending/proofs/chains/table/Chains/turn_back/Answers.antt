@@ -1,4 +1,4 @@
-use Rattle.std.proofs.Common.{length, map, Some, refl, ap, sym, ◌∙◌, arith, length-set, ◌<◌}
+use Rattle.std.proofs.Common.{length, map, Some, ap, sym, ◌∙◌, arith, length-set, ◌<◌}
 use Rattle.pending.specs.Edits.{turned}
 use Rattle.pending.specs.inside.Tables.{seen_chains, values_of}
 use Rattle.pending.proofs.HoldsLaws.{none-at}
@@ -10,17 +10,8 @@ use Rattle.pending.proofs.BackLaws.{back-made, back-turned, before-there}
 use Rattle.pending.proofs.chains.table.Chains.turn_back.Goals as goal
 
 pub returns-in_default-at-clause-chains : goal.returns-in_default-at-clause-chains
-returns-in_default-at-clause-chains g c = λ chain walked.
-    let seen = rw (← c.self.view_is) at walked in
-    let last = walked-last c.self.inside.walk c.in-Some.walk chain c.self.invariant
-    c.in-Some.is seen in
-    let rows = c.self.inside.rows.items in
-    let chains = seen_chains c.self.inside.links c.self.inside.walk in
-    rw (← c.self.view_is)
-    (sym (nothing-turned (map (values_of rows) chains) chain
-    (chain-map (values_of rows) chains chain refl
-    ∙ ap (λ rs. values_of rows rs)
-    (none-at (c.self.invariant).table.holds chain (last.1 ∙ c.in_default-at.is)))))
+returns-in_default-at-clause-chains g c =
+    grind (arith, walked-last, nothing-turned, chain-map, none-at)
 
 pub before-before-requires : goal.before-before-requires
 before-before-requires g c =

@@ -1,7 +1,7 @@
 #!/usr/bin/env python3
 """hostile: the built program on images that no recorder writes, under limits of memory and of time.
 
-  bench/hostile.py [IMAGES [FIRST [PROGRAM]]]    so many images (default 100,000) from the seed FIRST (default 1) on; PROGRAM, else crates/dmlw/out/dmlw
+  bench/hostile.py [IMAGES [FIRST [PROGRAM]]]    so many images (default 100,000) from the seed FIRST (default 1) on; PROGRAM, else crates/dmlw_program/out/dmlw_program
 
 An image has 512 to 65,536 bytes and log sectors of any size: a log that was cut and in which bytes and fields were set to others, or fields of the largest
 numbers, or any bytes behind a log's first ones. Each is listed, and asked for its status, replayed or copied. The program has 8 MiB of addresses beyond what

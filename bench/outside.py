@@ -1,7 +1,7 @@
 #!/usr/bin/env python3
 """outside: tries the built program on real files, pipes and a full disk, where no contract can see it.
 
-  outside.py [PROGRAM]      PROGRAM: the built program, else crates/dmlw/out/dmlw
+  outside.py [PROGRAM]      PROGRAM: the built program, else crates/dmlw_program/out/dmlw_program
 
 Prints a line for each trial, and ends with status 1 where one fails. The trials that need the right to mount or to set up a loop device, or a file system's own
 tools, are left out where these are missing, with a line that begins with `--`.
@@ -11,7 +11,7 @@ import hashlib, lzma, os, pathlib, pty, re, shutil, struct, subprocess, sys, tem
 import release
 
 ROOT = pathlib.Path(__file__).resolve().parent.parent
-PROGRAM = os.path.realpath(sys.argv[1]) if len(sys.argv) > 1 else str(ROOT / "crates/dmlw/out/dmlw")
+PROGRAM = os.path.realpath(sys.argv[1]) if len(sys.argv) > 1 else str(ROOT / "crates/dmlw_program/out/dmlw_program")
 FIRST = b"data 16\nlog 32\nw a 5 1 41\nc a\nf b\nc b\nclose\n"
 TOLD = b"a ok\nb ok\n3 4\n"
 failed = []
@@ -242,9 +242,9 @@ def make_home(room):
     shutil.copytree(ROOT / "examples", home / "examples")
     shutil.copy(ROOT / "dmlw", home)
     (home / "crates.txt").touch()
-    (home / "crates/dmlw/out").mkdir(parents=True)
-    (home / "crates/dmlw/out/dmlw").symlink_to(PROGRAM)
-    (home / "crates/dmlw/out/dmlw.built").touch()
+    (home / "crates/dmlw_program/out").mkdir(parents=True)
+    (home / "crates/dmlw_program/out/dmlw_program").symlink_to(PROGRAM)
+    (home / "crates/dmlw_program/out/dmlw_program.built").touch()
     return home
 
 
@@ -266,7 +266,7 @@ def ship(home):
     """Gives a folder with the launcher a release/ of the program that is tried, and takes away what was built or unpacked there."""
     release.root = str(home)
     program = pathlib.Path(PROGRAM).read_bytes()
-    for it in ("crates/dmlw/out", ".cache", "release"):
+    for it in ("crates/dmlw_program/out", ".cache", "release"):
         shutil.rmtree(home / it, ignore_errors=True)
     (home / "release").mkdir()
     (home / release.PACKED).write_bytes(lzma.compress(program))

@@ -1,7 +1,7 @@
 #!/usr/bin/env python3
 """refused_memory: the built program with its Nth growth of memory refused, for N from 1 until a run meets no refusal.
 
-  bench/refused_memory.py [PROGRAM]             PROGRAM: the built program, else crates/dmlw/out/dmlw
+  bench/refused_memory.py [PROGRAM]             PROGRAM: the built program, else crates/dmlw_program/out/dmlw_program
   bench/refused_memory.py --from [PROGRAM]      all growths from the Nth on are refused, as where memory has run out
 
 A small C library that is built here (it needs `cc`) stands before the program's `malloc` and `realloc`: it counts them, in all threads, and refuses one, or all

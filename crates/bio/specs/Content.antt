@@ -1,9 +1,11 @@
+-- The content of a device's sectors, and patches: the values that a write or a discard puts there.
+use Rattle.std.specs.Prelude.{if◌then◌else◌, Some, None, unwrap_or, List, length, take, drop}
+use Rattle.std.specs.Prelude.{replicate, ◌⊎◌, ◌≡◌, ℕ, ◌+◌, ◌-◌, ◌*◌, ◌/◌, ◌<◌, ◌≤◌, ◌&&◌, nat_le}
+use Rattle.std.specs.Prelude.{nat_lt, Option}
+use Rattle.bio.specs.Places.{collect}
+
 -- The content of a device's sectors, and the values that a write or a discard puts there. The law
 -- of block devices and the replay of logs are stated with these definitions.
-use Rattle.std.specs.Prelude.{◌≡◌, ℕ, ◌+◌, ◌-◌, ◌*◌, ◌/◌, ◌<◌, ◌≤◌, ◌&&◌, nat_le, nat_lt, Option}
-use Rattle.std.specs.Prelude.{Some, None, unwrap_or, List, length, take, drop, replicate, ◌⊎◌}
-use Rattle.std.specs.Prelude.{if◌then◌else◌}
-use Rattle.bio.specs.Places.{collect}
 
 -- the bytes of each sector of a device
 abbrev pub Content : Type 0
@@ -77,3 +79,32 @@ put patch content sector = unwrap_or (patch sector) (content sector)
 abbrev pub Patched : Patch → Content → Content → Type 0
 Patched patch old new =
     (sector : ℕ) → (new sector ≡ old sector) ⊎ (new sector ≡ put patch old sector)
+
+-- Parts of a patch: its values below a sector or between two, and two parts that join to a whole.
+-- Proofs about layers that do a call block by block, and about the writes of a log, use them.
+
+-- the patch's values below sector `end`
+abbrev pub below : ℕ → Patch → Patch
+below end patch sector = if nat_lt sector end then patch sector else None
+
+-- the patch's values from sector `from` to before `to`
+abbrev pub between : ℕ → ℕ → Patch → Patch
+between from to patch sector = if nat_le from sector && nat_lt sector to then patch sector else None
+
+-- the patch has no values from sector `end` on
+abbrev pub HasNoneFrom : ℕ → Patch → Type 0
+HasNoneFrom end patch = (sector : ℕ) → end ≤ sector → patch sector ≡ None
+
+-- the patches have the same values
+abbrev pub SameValues : Patch → Patch → Type 0
+SameValues patch other = (sector : ℕ) → patch sector ≡ other sector
+
+-- for each sector, `part` has no value or the same as `whole`
+abbrev pub IsPart : Patch → Patch → Type 0
+IsPart part whole = (sector : ℕ) → (part sector ≡ None) ⊎ (part sector ≡ whole sector)
+
+-- if `first` is put and then `second`, the values of `whole` are put
+abbrev pub Joins : Patch → Patch → Patch → Type 0
+Joins first second whole = (sector : ℕ) →
+    ((second sector ≡ None) × (first sector ≡ whole sector))
+    ⊎ ((value : List ℕ) × (second sector ≡ Some value) × (whole sector ≡ Some value))

@@ -1,6 +1,6 @@
 //! The data of a request and the text of a mark: bytes that clones can share.
 ghost use Rattle.std.specs.Prelude.{◌≡◌, ◌==◌, IfOk, length, take};
-ghost use Rattle.bio.specs.inside.Storage.{stored};
+ghost use Rattle.bio.specs.inside.{stored};
 
 use std::alloc::AllocError;
 use std::marker::Model;
@@ -26,7 +26,7 @@ enum Storage {
 
 impl Model for Bytes {
     ghost use Rattle.std.specs.Prelude.{List, ℕ};
-    ghost use Rattle.bio.specs.inside.Storage.{stored};
+    ghost use Rattle.bio.specs.inside.{stored};
 
     ghost Value = { List ℕ };
 

@@ -5,10 +5,9 @@ ghost use Rattle.std.specs.Prelude.{List, Ok, Some, false, length, slice_index, 
 ghost use Rattle.bio.specs.declared.event.CoreEvent.{CoreEvent};
 ghost use Rattle.bio.specs.declared.request.Bio.{Bio};
 ghost use Rattle.bio.specs.declared.request.Bio.TheVariants.{Write, Flush, Discard, Read};
-ghost use Rattle.bio.specs.Check.{check_answer, check_sized_answer};
-ghost use Rattle.bio.specs.Events.{end_of, is_before};
-ghost use Rattle.bio.specs.Lawful.{is_lawful, is_lawful_sized, is_text};
-ghost use Rattle.bio.specs.Requests.{covers, is_aligned, overlaps};
+ghost use Rattle.bio.specs.Requests.{check_answer, check_sized_answer, covers, is_aligned};
+ghost use Rattle.bio.specs.Requests.{overlaps};
+ghost use Rattle.bio.specs.Events.{end_of, is_before, is_lawful, is_lawful_sized, is_text};
 
 use crate::MAX_REQUEST_SECTORS;
 

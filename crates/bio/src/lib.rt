@@ -11,26 +11,22 @@
 //! list.
 //!
 //! `specs/Requests` defines which sectors a request covers. `specs/Events` defines at which index
-//! of an event list a request ends, and `specs/Lawful` which lists are lawful. `laws` has the laws
-//! of these definitions.
+//! of an event list a request ends, and which lists are lawful. `laws` has the laws of these
+//! definitions.
 #![tactic(auto)]
 
 pub use bytes::Bytes;
 pub use content::{MAX_DEVICE_SECTORS, SECTOR_BYTES};
-pub use event::{CoreEvent, Event};
-pub use id::Id;
+pub use event::{CoreEvent, Event, Id};
 pub use ms::Ms;
 pub use outcome::{DevError, Status};
 pub use refusals::End;
-pub use request::{BadBio, Bio, MAX_REQUEST_SECTORS, check, check_sized};
-pub use sector_size::SectorSize;
+pub use request::{BadBio, Bio, MAX_REQUEST_SECTORS, SectorSize, check, check_sized};
 
 mod bytes;
 pub mod content;
 mod event;
-mod id;
 pub mod laws;
 mod ms;
 mod outcome;
 mod request;
-mod sector_size;

@@ -6,9 +6,7 @@ use Rattle.std.specs.Prelude.{Result, slice_index_or}
 use Rattle.bio.specs.declared.outcome.DevError.{DevError}
 use Rattle.bio.specs.declared.outcome.DevError.TheVariants.{Io}
 use Rattle.bio.specs.Content.{Content, Patch}
-use Rattle.blockdev.specs.View.{IsLawful, Place, View}
-use Rattle.blockdev.specs.Calls.{Call, IsByteRange, IsRange}
-use Rattle.blockdev.specs.InTurn.{DoesInTurn}
+use Rattle.blockdev.specs.View.{Call, DoesInTurn, IsByteRange, IsLawful, IsRange, Place, View}
 use Rattle.blockdev.specs.Messages.{Unchanged}
 use Rattle.blockdev.specs.Law.{DeviceFrame, HasCause, WriteDone, NoLie, CrashSetKept, FlushDone}
 

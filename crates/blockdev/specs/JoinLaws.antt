@@ -1,12 +1,20 @@
+-- Laws of several calls: of those that together do one whole call, of calls in turn, and of durable
+-- and torn writes.
+use Rattle.std.proofs.Common.{sym, ◌∙◌, inl, inr, arith, ◌≡◌, ℕ, ◌+◌, true, List, [], ◌∷◌, ◌++◌, Ok}
+use Rattle.std.proofs.Common.{Err, subst, ◌≤◌, Bool, None, refl}
+use Rattle.std.specs.Prelude.{Result}
+use Rattle.bio.specs.Content.{Content, HasBytes, HasNoneBelow, HasNoneFrom, HasWholeSectors, IsPart}
+use Rattle.bio.specs.Content.{Joins, Patch, SameValues, below, between, nothing, writes}
+use Rattle.bio.specs.ContentLaws.{HasBytes-put, below-joins, below-part, below_all, below_more}
+use Rattle.bio.specs.ContentLaws.{below_none, between-part, patched-none, patched-part}
+use Rattle.bio.specs.ContentLaws.{patched-same, patched_cases, patched_twice, put-joined, put-none}
+use Rattle.bio.specs.ContentLaws.{put-same}
+use Rattle.bio.specs.declared.outcome.DevError.{DevError}
+use Rattle.blockdev.specs.View.{Call, DoesInTurn, IsLawful, View}
+use Rattle.blockdev.specs.Law.{AfterPatch, DeviceFrame, IsTorn, WriteDone, FlushDone, NoLie}
+use Rattle.blockdev.specs.Law.{CrashSetKept}
+
 -- Laws of several calls that together do one whole call.
-use Rattle.std.proofs.Common.{◌≡◌, ℕ, ◌≤◌, Bool, None, refl, sym, ◌∙◌, inl, inr, arith}
-use Rattle.bio.specs.Content.{Content, HasNoneBelow, HasWholeSectors, Patch, nothing}
-use Rattle.bio.specs.ContentLaws.{patched-same, put-none}
-use Rattle.bio.specs.Parts.{HasNoneFrom, IsPart, Joins, SameValues, below, between}
-use Rattle.bio.specs.PartLaws.{below-joins, below-part, below_all, below_more, below_none}
-use Rattle.bio.specs.PartLaws.{between-part, patched-part, patched_twice, put-joined, put-same}
-use Rattle.blockdev.specs.View.{IsLawful, View}
-use Rattle.blockdev.specs.Law.{AfterPatch, DeviceFrame, WriteDone, NoLie, CrashSetKept}
 
 -- If each content of `mid` is a patched content of `set`, each patched content of `mid` is also one
 -- of `set`.
@@ -199,3 +207,53 @@ crash-whole v left lawful may =
 -- The content of a device has whole sectors.
 pub content-whole : (v : View) → IsLawful v → HasWholeSectors v.size v.content
 content-whole v lawful = crash-whole v v.content lawful lawful.current
+
+-- A law of calls in turn: two lists of calls that are done in turn join to one.
+
+-- If all calls of `first` return Ok, and then `second` is done in turn, `first ++ second` is done
+-- in turn.
+pub in_turn_joined : {D : Type 0} (does : D → Call → ℕ → Result ℕ DevError → D → Type 0) (now : ℕ)
+    (first second : List Call) (old mid new : D)
+    (result : Result (Unit {0}) DevError) → DoesInTurn does now first old (Ok tt) mid
+    → DoesInTurn does now second mid result new
+    → DoesInTurn does now (first ++ second) old result new
+in_turn_joined {D} does now [] second old mid new result before after =
+    subst (λ (device : D). DoesInTurn does now second device result new) before after
+in_turn_joined does now (call ∷ calls) second old mid new (Ok done) (next, ends, before) after =
+    (next, ends, in_turn_joined does now calls second next mid new (Ok done) before after)
+in_turn_joined does now (call ∷ calls) second old mid new (Err error) (next, ends, before) after =
+    inr (next, ends, in_turn_joined does now calls second next mid new (Err error) before after)
+
+-- Laws of durable writes and torn calls, which follow from the law of devices.
+
+-- If a content is patched, it is torn (`IsTorn`).
+pub after-torn : (patch : Patch) (before : Content → Type 0) (left : Content)
+    → AfterPatch patch before left → IsTorn patch before left
+after-torn patch before left after = (after.0, after.1, patched_cases patch after.0 left after.2)
+
+-- If a write is done, and then a flush, whatever a crash leaves has the write's bytes.
+pub landed-flushed : (u v w : View) (first : ℕ) (bytes : List ℕ) (fua : Bool) (left : Content)
+    → WriteDone (writes first bytes) fua u v
+    → DeviceFrame nothing v w → FlushDone w → w.crash left → HasBytes left first bytes
+landed-flushed u v w first bytes fua left lands goes syncs may = λ sector h.
+    syncs.only left may (first + sector)
+    ∙ patched-none nothing v.content w.content goes.content (first + sector) refl
+    ∙ lands.content (first + sector)
+    ∙ HasBytes-put first bytes u.content sector h
+
+-- If a write with FUA is done, whatever a crash leaves has the write's bytes.
+pub landed-durable : (v w : View) (first : ℕ) (bytes : List ℕ) (left : Content)
+    → WriteDone (writes first bytes) true v w
+    → w.crash left → HasBytes left first bytes
+landed-durable v w first bytes left lands may = λ sector h.
+    let old = lands.durable refl left may in
+    old.2 (first + sector) ∙ HasBytes-put first bytes old.0 sector h
+
+-- If a crash since the start of a call may have left a content, the content is torn.
+pub gained-torn : (v w : View) (patch : Patch) (left : Content) → IsLawful v → DeviceFrame patch v w
+    → w.since v.moment left
+    → IsTorn patch v.crash left
+gained-torn v w patch left lawful goes may = elim (goes.gains v.moment left (omega arith) may) [
+  | inl before ↦ (left, lawful.only_now left before, λ sector. inl refl)
+  | inr during ↦ after-torn patch v.crash left during
+]

@@ -1,7 +1,11 @@
+-- The view of a block device in contracts, its calls, and calls one after another.
+use Rattle.std.specs.Prelude.{◌≡◌, ◌⊎◌, ℕ, ◌+◌, ◌/◌, ◌%◌, Bool, List, [], ◌∷◌, Result, Ok, Err, ◌-◌}
+use Rattle.std.specs.Prelude.{◌<◌, ◌≤◌, ◌^◌}
+use Rattle.bio.specs.Content.{Content, HasWholeSectors}
+use Rattle.bio.specs.declared.outcome.DevError.{DevError}
+
 -- The view of a block device in contracts: its content, what a crash may leave, faults and lies.
 -- `Law` defines how a call changes it; each `BlockDev` satisfies `IsLawful` at all times.
-use Rattle.std.specs.Prelude.{ℕ, Bool, ◌-◌, ◌<◌, ◌≤◌, ◌^◌}
-use Rattle.bio.specs.Content.{Content, HasWholeSectors}
 
 -- The position of a device on the disk below all layers: its first sector there, and the number of
 -- sectors of that disk.
@@ -51,3 +55,44 @@ pub record IsLawful (v : View) : Type 0 where
       → HasWholeSectors v.size left
   pub faults : v.faults < 2 ^ 64
   pub lies : v.lies < 2 ^ 64
+
+-- The calls of a block device, and the ranges of sectors that they may name. The contracts of
+-- `BlockDev` (src/device) use them, and so does each layer's statement of what it does.
+
+-- A call of a device. `Reads` has the bytes of the buffer before and after the call.
+pub data Call : Type 0 where
+  Reads : (first : ℕ) (before after : List ℕ) → Call
+  Writes : (first : ℕ) (bytes : List ℕ) (fua : Bool) → Call
+  Discards : (first count : ℕ) → Call
+  Flushes : Call
+
+-- the range of `count` sectors has at least one, and is within the device of `size` sectors
+pub record IsRange (size first count : ℕ) : Type 0 where
+  pub some : 0 < count
+  pub within : first + count ≤ size
+
+-- `length` bytes are whole sectors, at least one, and their range is within the device of `size`
+-- sectors
+pub record IsByteRange (size first length : ℕ) : Type 0 where
+  pub whole : length % 512 ≡ 0
+  pub some : 0 < length
+  pub within : first + length / 512 ≤ size
+
+-- Calls of a device, one after another.
+
+-- a device does a call at the time `now`, and the call returns Ok
+abbrev pub EndsWell : {D : Type 0} → (D → Call → ℕ → Result ℕ DevError → D → Type 0) → ℕ → Call → D
+    → D → Type 0
+EndsWell does now call old new = (end : ℕ) × does old call now (Ok end) new
+
+-- A device does the calls in turn, each at the time `now`. Either each call returns Ok. Or a call
+-- fails: it is the last one done, and its error is the result.
+abbrev pub DoesInTurn : {D : Type 0} → (D → Call → ℕ → Result ℕ DevError → D → Type 0) → ℕ
+    → List Call → D → Result (Unit {0}) DevError → D → Type 0
+DoesInTurn does now [] old (Ok done) new = new ≡ old
+DoesInTurn does now [] old (Err error) new = ⊥
+DoesInTurn {D} does now (call ∷ calls) old (Ok done) new =
+    (mid : D) × EndsWell does now call old mid × DoesInTurn does now calls mid (Ok done) new
+DoesInTurn {D} does now (call ∷ calls) old (Err error) new =
+    does old call now (Err error) new
+    ⊎ ((mid : D) × EndsWell does now call old mid × DoesInTurn does now calls mid (Err error) new)

@@ -3,11 +3,10 @@
 //! through the trait.
 ghost use Rattle.std.specs.Prelude.{◌≡◌, ◌/◌, OnOk, Result, false, length, ℕ};
 ghost use Rattle.bio.specs.declared.outcome.DevError.{DevError};
-ghost use Rattle.blockdev.specs.Calls.{Call, Discards, Flushes, IsByteRange, IsRange, Reads};
-ghost use Rattle.blockdev.specs.Calls.{Writes};
+ghost use Rattle.blockdev.specs.View.{Call, Discards, Flushes, IsByteRange, IsLawful, IsRange};
+ghost use Rattle.blockdev.specs.View.{Reads, View, Writes};
 ghost use Rattle.blockdev.specs.Law.{DeviceFrame, HasCause, WriteDone, NoLie, CrashSetKept};
 ghost use Rattle.blockdev.specs.Law.{FlushDone};
-ghost use Rattle.blockdev.specs.View.{IsLawful, View};
 ghost use Rattle.bio.specs.Content.{discards, gather, nothing, writes};
 
 use bio::{DevError, Ms};

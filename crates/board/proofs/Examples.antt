@@ -1,9 +1,10 @@
 -- Examples of statuses that may follow one another, of some that may not, and of their numbers.
 use Rattle.std.proofs.Common.{◌≡◌, Bool, true, false, true≢false, List, [], ◌∷◌, Some, None, refl}
 use Rattle.std.proofs.Common.{ap, arith}
-use Rattle.refusals.specs.declared.end.End.TheVariants.{Full, Device, Memory}
+use Rattle.refusals.specs.declared.run_error.End.TheVariants.{Full, Device, Memory}
 use Rattle.bio.specs.declared.outcome.Status.{Status}
-use Rattle.board.specs.Posts.{opening, last_of, IsFit, MayFollow, MayPost, IsRising, Begins, word_of}
+use Rattle.board.specs.Posts.{opening, last_of, IsFit, MayFollow, MayPost, IsRising, Begins}
+use Rattle.board.specs.Posts.{word_of}
 use Rattle.board.specs.PostLaws.{rises_more, opening_rises}
 
 -- the status of a log of one entry, of two, and of two once the log was found full

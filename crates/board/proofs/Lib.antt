@@ -1,4 +1,3 @@
 -- The lemmas of `board`; the proof of a function is in the folder of its source file.
-pub mod Words
 pub mod Moves
 mod Examples

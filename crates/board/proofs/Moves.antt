@@ -1,20 +1,57 @@
 -- Each step keeps the rule of a board.
-use Rattle.std.proofs.Common.{◌≡◌, ◌≢◌, ℕ, zero, suc, List, [], ◌∷◌, ◌++◌, set, true, false}
-use Rattle.std.proofs.Common.{true≢false, refl, sym, ap, ◌∙◌, subst, ⊎_elim}
+-- Two statuses that fit have the same number only if they are equal.
+use Rattle.std.proofs.Common.{true≢false, refl, arith, sym, ap, ◌∙◌, subst, ⊎_elim, ◌≡◌, ◌≢◌, ℕ}
+use Rattle.std.proofs.Common.{◌+◌, ◌*◌, ◌≤◌, Option, Some, None, zero, suc, List, [], ◌∷◌, ◌++◌}
+use Rattle.std.proofs.Common.{set, true, false}
 use Rattle.std.specs.Prelude.{slice_set, slice_index}
-use mathlib.Core.Option.{none, some, some-ne-none, some-injective}
-use lib.ListN.{get_elem?}
-use Rattle.atomic_table.specs.Table.{State, Me, Step, keeps, Allows, Splits, Joins}
 use Rattle.atomic_table.proofs.Lists.{at_set, at_snoc, set_again}
+use Rattle.atomic_table.specs.Table.{State, Me, Step, keeps, Allows, Splits, Joins}
+use lib.ListN.{get_elem?}
+use mathlib.Core.Option.{none, some, some-ne-none, some-injective}
+use Rattle.refusals.specs.declared.run_error.End.{End}
+use Rattle.refusals.specs.declared.run_error.End.TheVariants as ends
 use Rattle.bio.specs.declared.outcome.Status.{Status}
 use Rattle.board.specs.declared.rule.Knows.{Knows}
-use Rattle.board.specs.Posts.{opening, last_of, word_of, IsFit, MayFollow, IsRising, Begins}
-use Rattle.board.specs.Rules.{writer_of, reader_of, told_by, as_reader, Publishes, Looks, Compares}
-use Rattle.board.specs.Rules.{Fits, IsPosted}
 use Rattle.board.specs.PostLaws.{begins_itself, begins_longer, begins_none, last_of-push}
-use Rattle.board.specs.PostLaws.{rises_more}
-use Rattle.board.specs.PostLaws.{opening_rises}
-use Rattle.board.proofs.Words.{word_once}
+use Rattle.board.specs.PostLaws.{opening_rises, rises_more}
+use Rattle.board.specs.Posts.{Looks, Compares, Fits, IsPosted, writer_of, reader_of, told_by}
+use Rattle.board.specs.Posts.{as_reader, Publishes, Begins, opening, last_of, word_of, IsFit}
+use Rattle.board.specs.Posts.{end_number, MayFollow, IsRising}
+
+pub end_few : (end : Option End) → end_number end ≤ 20
+end_few None = omega arith
+end_few (Some ends.Full) = omega arith
+end_few (Some ends.Device) = omega arith
+end_few (Some ends.Memory) = omega arith
+
+pub end_once : (one other : Option End) → end_number one ≡ end_number other → one ≡ other
+end_once None None e = refl
+end_once None (Some ends.Full) e = absurd (omega arith)
+end_once None (Some ends.Device) e = absurd (omega arith)
+end_once None (Some ends.Memory) e = absurd (omega arith)
+end_once (Some ends.Full) None e = absurd (omega arith)
+end_once (Some ends.Full) (Some ends.Full) e = refl
+end_once (Some ends.Full) (Some ends.Device) e = absurd (omega arith)
+end_once (Some ends.Full) (Some ends.Memory) e = absurd (omega arith)
+end_once (Some ends.Device) None e = absurd (omega arith)
+end_once (Some ends.Device) (Some ends.Full) e = absurd (omega arith)
+end_once (Some ends.Device) (Some ends.Device) e = refl
+end_once (Some ends.Device) (Some ends.Memory) e = absurd (omega arith)
+end_once (Some ends.Memory) None e = absurd (omega arith)
+end_once (Some ends.Memory) (Some ends.Full) e = absurd (omega arith)
+end_once (Some ends.Memory) (Some ends.Device) e = absurd (omega arith)
+end_once (Some ends.Memory) (Some ends.Memory) e = refl
+
+-- the parts of a number
+parts : (entries sector end a b c : ℕ) → sector ≤ 1048576 → end ≤ 20 → b ≤ 1048576 → c ≤ 20
+    → entries * 67108864 + sector * 32 + end ≡ a * 67108864 + b * 32 + c
+    → (entries ≡ a) × (sector ≡ b) × (end ≡ c)
+parts entries sector end a b c few small less tiny e = (omega arith, omega arith, omega arith)
+
+-- two statuses that fit and have one number are one
+pub word_once : (one other : Status) → IsFit one → IsFit other → word_of one ≡ word_of other
+    → one ≡ other
+word_once one other fit fits e = grind (arith, end_number, end_few, end_once)
 
 off : false ≡ true → ⊥
 off e = true≢false (sym e)

@@ -1,9 +1,16 @@
--- The statuses that a writer posts one after another, and a status as a number.
-use Rattle.std.specs.Prelude.{◌≡◌, ℕ, ◌+◌, ◌*◌, ◌≤◌, List, [], ◌∷◌, ◌++◌, Option, Some, None}
-use Rattle.std.specs.Prelude.{slice_get}
-use Rattle.refusals.specs.declared.end.End.{End}
-use Rattle.refusals.specs.declared.end.End.TheVariants as ends
+-- The statuses that a writer posts, a status as a number, and the rule of a board.
+use Rattle.std.specs.Prelude.{slice_get, ◌≡◌, ℕ, ◌+◌, ◌*◌, ◌≤◌, List, [], ◌∷◌, ◌++◌, true, false}
+use Rattle.std.specs.Prelude.{Option, Some, None}
+use Rattle.atomic_table.specs.Seated.{TableId}
+use Rattle.atomic_table.specs.Table.{Step, Me}
+use lib.ListN.{get_elem?}
+use mathlib.Core.Option.{some}
+use Rattle.refusals.specs.declared.run_error.End.{End}
+use Rattle.refusals.specs.declared.run_error.End.TheVariants as ends
 use Rattle.bio.specs.declared.outcome.Status.{Status}
+use Rattle.board.specs.declared.rule.Knows.{Knows}
+
+-- The statuses that a writer posts one after another, and a status as a number.
 
 -- the status of an empty log, which a new board has
 abbrev pub opening : Status
@@ -56,3 +63,72 @@ end_number (Some ends.Memory) = 20
 -- a status as one number
 abbrev pub word_of : Status → ℕ
 word_of status = status.entries * 67108864 + status.sector * 32 + end_number status.end
+
+-- The rule of a board, and the change of a pass by each step. A pass is what the seat of the writer
+-- or of a reader knows.
+
+-- a placeholder: the id of no table
+abbrev pub no_table : TableId
+no_table =
+    record {
+      words = 0;
+      slots = 0;
+      views_name = 0;
+      atom = 0;
+      block = 0;
+      offset = 0;
+      slot_names = [];
+    }
+
+-- the writer's pass, if `seen` are all statuses that were posted
+abbrev pub writer_of : List Status → Knows
+writer_of seen = record { writes = true; seen = seen; told = [] }
+
+-- a reader's pass that has seen the statuses `seen`
+abbrev pub reader_of : List Status → Knows
+reader_of seen = record { writes = false; seen = seen; told = [] }
+
+-- `pass` after it has learned what `other` has seen
+abbrev pub told_by : Knows → Knows → Knows
+told_by pass other = record { writes = pass.writes; seen = pass.seen; told = other.seen }
+
+-- a reader's pass that has seen as much as `pass`
+abbrev pub as_reader : Knows → Knows
+as_reader pass = reader_of pass.seen
+
+-- The writer posts: if the step stores the number of a status that fits, this status is added to
+-- what the writer's pass has seen.
+abbrev pub Publishes : Step (Unit {0}) → Me (Unit {0}) Knows → ℕ → Me (Unit {0}) Knows → Type 0
+Publishes step before found after =
+    (status : Status) → IsFit status → step.first ≡ word_of status
+    → after ≡ (writer_of (before.0.seen ++ status ∷ []), [])
+
+-- A reader looks. The statuses that it has seen then begin with those that it had seen before, and
+-- none goes back. The step finds the number of the last one.
+abbrev pub Looks : Step (Unit {0}) → Me (Unit {0}) Knows → ℕ → Me (Unit {0}) Knows → Type 0
+Looks step before found after =
+    Begins before.0.seen after.0.seen × IsRising after.0.seen
+    × (after ≡ (reader_of after.0.seen, [])) × (found ≡ word_of (last_of after.0.seen))
+
+-- The writer compares: the statuses that its pass has learned are a prefix of those that it posted.
+-- Its pass then forgets the learned ones.
+abbrev pub Compares : Step (Unit {0}) → Me (Unit {0}) Knows → ℕ → Me (Unit {0}) Knows → Type 0
+Compares step before found after =
+    Begins before.0.told before.0.seen × (after ≡ (writer_of before.0.seen, []))
+
+-- The rule for the pass at index `by`; the writer's is at `place`, and `statuses` were posted.
+pub record Fits (place : ℕ) (statuses : List Status) (by : ℕ) (pass : Knows) : Type 0 where
+  -- only the pass at `place` can be the writer's; the writer's pass has seen all that was posted
+  pub writes : pass.writes ≡ true → (by ≡ place) × (pass.seen ≡ statuses)
+  -- what the pass has seen, and what it has learned, are prefixes of what was posted
+  pub seen : Begins pass.seen statuses
+  pub told : Begins pass.told statuses
+
+-- The rule. The table's one word is the number of the last posted status, and no posted status goes
+-- back. Each pass has seen a prefix of the posted statuses.
+pub record IsPosted (words : List ℕ) (passes : List Knows) : Type 0 where
+  pub place : ℕ
+  pub statuses : List Status
+  pub word : words ≡ word_of (last_of statuses) ∷ []
+  pub rising : IsRising statuses
+  pub fits : (by : ℕ) (pass : Knows) → get_elem? passes by ≡ some pass → Fits place statuses by pass

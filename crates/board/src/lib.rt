@@ -28,7 +28,7 @@ pub trait Names {
 }
 
 impl Names for Brand {
-    ghost use Rattle.board.specs.Rules.{no_table};
+    ghost use Rattle.board.specs.Posts.{no_table};
 
     ghost board = { no_table };
 }
@@ -44,8 +44,7 @@ pub struct Blank {
 impl Model for Blank {
     ghost use Rattle.std.specs.Prelude.{◌≡◌, [], ◌∷◌};
     ghost use Rattle.atomic_table.specs.Seated.{TableId, table_id_coded};
-    ghost use Rattle.board.specs.Posts.{opening};
-    ghost use Rattle.board.specs.Rules.{writer_of};
+    ghost use Rattle.board.specs.Posts.{opening, writer_of};
 
     ghost Value = { TableId };
 
@@ -77,8 +76,7 @@ pub struct WriterSeat<N: Names> {
 impl<N: Names> Model for WriterSeat<N> {
     ghost use Rattle.std.specs.Prelude.{◌≡◌, List, []};
     ghost use Rattle.bio.specs.declared.outcome.Status.{Status};
-    ghost use Rattle.board.specs.Posts.{last_of, IsRising};
-    ghost use Rattle.board.specs.Rules.{writer_of};
+    ghost use Rattle.board.specs.Posts.{writer_of, last_of, IsRising};
 
     ghost Value = { List Status };
 
@@ -99,7 +97,7 @@ pub struct StatusSeat<N: Names> {
 impl<N: Names> Model for StatusSeat<N> {
     ghost use Rattle.std.specs.Prelude.{◌≡◌, List, []};
     ghost use Rattle.bio.specs.declared.outcome.Status.{Status};
-    ghost use Rattle.board.specs.Rules.{reader_of};
+    ghost use Rattle.board.specs.Posts.{reader_of};
 
     ghost Value = { List Status };
 

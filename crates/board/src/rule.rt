@@ -20,8 +20,7 @@ pub struct Law;
 
 impl TableRule<(), Knows, ()> for Law {
     ghost use Rattle.std.specs.Prelude.{[], ◌∷◌};
-    ghost use Rattle.board.specs.Posts.{opening};
-    ghost use Rattle.board.specs.Rules.{IsPosted, writer_of};
+    ghost use Rattle.board.specs.Posts.{IsPosted, opening, writer_of};
 
     ghost holds = { λ _ state. IsPosted state.words state.views };
 
@@ -35,7 +34,7 @@ pub type Post = Table<(), Knows, (), Law, Global>;
 pub struct Publish;
 
 impl Play<(), Knows> for Publish {
-    ghost use Rattle.board.specs.Rules.{Publishes};
+    ghost use Rattle.board.specs.Posts.{Publishes};
 
     ghost then = { Publishes };
 }
@@ -44,7 +43,7 @@ impl Play<(), Knows> for Publish {
 pub struct Look;
 
 impl Play<(), Knows> for Look {
-    ghost use Rattle.board.specs.Rules.{Looks};
+    ghost use Rattle.board.specs.Posts.{Looks};
 
     ghost then = { Looks };
 }
@@ -53,7 +52,7 @@ impl Play<(), Knows> for Look {
 pub struct Compare;
 
 impl Play<(), Knows> for Compare {
-    ghost use Rattle.board.specs.Rules.{Compares};
+    ghost use Rattle.board.specs.Posts.{Compares};
 
     ghost then = { Compares };
 }
@@ -62,7 +61,7 @@ impl Play<(), Knows> for Compare {
 pub struct Copied;
 
 impl Split<Knows> for Copied {
-    ghost use Rattle.board.specs.Rules.{as_reader};
+    ghost use Rattle.board.specs.Posts.{as_reader};
 
     ghost left = { λ pass. pass };
 
@@ -74,7 +73,7 @@ pub struct Told;
 
 impl Join<Knows> for Told {
     ghost use Rattle.std.specs.Prelude.{[]};
-    ghost use Rattle.board.specs.Rules.{told_by, reader_of};
+    ghost use Rattle.board.specs.Posts.{told_by, reader_of};
 
     ghost both = { told_by };
 

@@ -1,7 +1,7 @@
 // A status as one number: the entries from bit 26 on, the sector from bit 5 on, and the end's
 // number below.
 ghost use Rattle.std.specs.Prelude.{◌≡◌, ◌≤◌, Option};
-ghost use Rattle.refusals.specs.declared.end.End.{End};
+ghost use Rattle.refusals.specs.declared.run_error.End.{End};
 ghost use Rattle.bio.specs.declared.outcome.Status.{Status as Said};
 ghost use Rattle.board.specs.Posts.{IsFit, end_number, word_of as word_said};
 

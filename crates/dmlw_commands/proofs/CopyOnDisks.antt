@@ -1,56 +1,51 @@
 -- The result of copying the log in an image, on disks in memory.
-use Rattle.std.proofs.Common.{◌⊎◌, ◌≡◌, ◌∙◌, ℕ, ◌+◌, ◌*◌, ◌/◌, ◌<◌, ◌≤◌, true, false, List, [], ◌++◌}
-use Rattle.std.proofs.Common.{map, take, Option, None, Some, Result, Ok, Err, IfErr, IfOk, ap}
-use Rattle.std.proofs.Common.{arith, inl, inr, length, refl, subst, sym}
+use Rattle.std.proofs.Common.{arith, inl, inr, length, refl, subst, sym, map, take, Option, None}
+use Rattle.std.proofs.Common.{Some, Result, Ok, Err, IfErr, IfOk, ap, ◌⊎◌, ◌≡◌, ◌∙◌, ℕ, ◌+◌, ◌*◌}
+use Rattle.std.proofs.Common.{◌/◌, ◌<◌, ◌≤◌, true, false, List, [], ◌++◌}
 use Rattle.std.specs.Prelude.{slice_get}
+use Rattle.std.proofs.lemmas.List.{length-map, take_all}
 use Rattle.std.proofs.Math.Nat.{eq-zero-or-pos}
 use Rattle.std.specs.List.{list_all}
-use Rattle.std.proofs.lemmas.List.{take_all}
+use Rattle.refusals.specs.declared.run_error.End.TheVariants as ends
+use Rattle.refusals.specs.declared.run_error.RunError.{RunError}
+use Rattle.refusals.specs.Errors.{memory_error}
 use Rattle.bio.specs.Content.{AgreeBelow, Content, HasWholeSectors, sector_of}
-use Rattle.refusals.specs.declared.end.End.TheVariants as ends
+use Rattle.bio.specs.ContentLaws.{length-gather, sector_of-gather}
 use Rattle.blockdev.specs.View.{IsLawful, View}
-use Rattle.bio.specs.SectorLaws.{length-gather, sector_of-gather}
+use Rattle.sector_disk.specs.CandidateLaws.{disk_lawful}
 use Rattle.sector_disk.specs.declared.disk.SectorDisk.{SectorDisk}
 use Rattle.sector_disk.specs.DiskView.{shown_of}
-use Rattle.sector_disk.specs.DiskViewLaws.{disk_lawful}
 use Rattle.log_format.specs.declared.decode.Super.{Super}
 use Rattle.log_format.specs.declared.entry.Entry.{Entry}
 use Rattle.log_format.specs.Entries.{sectors_of}
 use Rattle.log_format.specs.EntryLaws.{sector_size_bounds}
-use Rattle.log_format.specs.EntryWalk.{entries_at}
-use Rattle.log_format.specs.LogOf.{IsLogOf, log_sectors, next_sector}
-use Rattle.log_reader.specs.declared.fault.LogFault.{LogFault}
-use Rattle.log_reader.specs.declared.fault.ReadDeviceError.TheVariants as reads
-use Rattle.log_reader.specs.SameDiskLaws.{reads_alike}
-use Rattle.log_reader.specs.AnyDisk.{any_reading}
-use Rattle.log_reader.specs.Devices.{HasFaulted}
-use Rattle.log_reader.specs.DiskLogLaws.{size_of_head}
-use Rattle.log_reader.specs.Reader.{Reader}
-use Rattle.log_reader.specs.ImageLog.{IsReading}
-use Rattle.log_reader.specs.DiskLog.{Reads}
+use Rattle.log_format.specs.LogOf.{IsLogOf, entries_at, log_sectors, next_sector}
+use Rattle.log_format.specs.Replay.{replay}
 use Rattle.log_store.specs.Calls.{HasFailed, StoreFrame}
 use Rattle.log_store.specs.Store.{Store, StoreInvariant, entries_of}
-use Rattle.replay.specs.declared.copy_fault.CopyError.{CopyError}
-use Rattle.replay.specs.declared.copy_fault.CopyError.TheVariants as copies
-use Rattle.replay.specs.declared.copy_fault.CopyFault.{CopyFault}
+use Rattle.log_reader.specs.AnyDisk.{any_reading}
+use Rattle.log_reader.specs.declared.fault.LogFault.{LogFault}
+use Rattle.log_reader.specs.declared.fault.ReadDeviceError.TheVariants as reads
+use Rattle.log_reader.specs.DiskLog.{IsReading, Reads}
+use Rattle.log_reader.specs.DiskLogLaws.{log_is_read, same_reading, size_of_head}
+use Rattle.log_reader.specs.Reader.{HasFaulted, Reader}
+use Rattle.log_reader.specs.SameDiskLaws.{reads_alike}
 use Rattle.replay.specs.Copies.{HasNoRoom, IsCopied as IsPlaced, IsLog, IsUnaligned, StopsBy}
-use Rattle.replay.specs.Copies.{entries_from}
-use Rattle.replay.specs.Resize.{is_aligned_to, resized}
-use Rattle.refusals.specs.declared.run_error.RunError.{RunError}
-use Rattle.dmlw_files.specs.Files.{MatchesContents}
-use Rattle.dmlw_files.specs.Images.{IsImage, image_of}
-use Rattle.dmlw_commands.specs.declared.copy_log.images.Copied.{Copied}
-use Rattle.dmlw_commands.specs.LogCopies.{FailsCopy, FailsOnImage, HasStopCause, IsCopied}
-use Rattle.dmlw_commands.specs.LogCopies.{IsCopiedFrom, LacksRoom, StopsCopy, memory, of_image}
-use Rattle.dmlw_commands.specs.LogCopies.{file, stopped, unopened}
-use Rattle.dmlw_commands.specs.declared.exit.Exit.TheVariants.{Refused}
-use Rattle.dmlw_commands.specs.Exits.{exit_of}
+use Rattle.replay.specs.Copies.{entries_from, is_aligned_to, resized}
+use Rattle.replay.specs.declared.fault.CopyError.{CopyError}
+use Rattle.replay.specs.declared.fault.CopyError.TheVariants as copies
+use Rattle.replay.specs.declared.fault.CopyFault.{CopyFault}
+use Rattle.replay.specs.ResizeLaws.{replay_first}
+use Rattle.dmlw_files.specs.Files.{IsImage, MatchesContents, image_of}
 use Rattle.dmlw_commands.proofs.CommandEnds.{file_refused}
 use Rattle.dmlw_commands.proofs.ImageLog.{some_sector}
-use Rattle.dmlw_commands.specs.DiskCopy.{IsBegun, IsCopiedOn}
-use Rattle.dmlw_commands.specs.ImageLog.{Opens}
-use Rattle.dmlw_commands.specs.Lists.{RefusesImage}
-use Rattle.refusals.specs.Errors.{memory_error}
+use Rattle.dmlw_commands.specs.declared.copy_log.images.Copied.{Copied}
+use Rattle.dmlw_commands.specs.declared.exit.Exit.TheVariants.{Refused}
+use Rattle.dmlw_commands.specs.Ends.{exit_of}
+use Rattle.dmlw_commands.specs.Lists.{Opens, RefusesImage}
+use Rattle.dmlw_commands.specs.LogCopies.{FailsCopy, FailsOnImage, HasStopCause, IsBegun, IsCopied}
+use Rattle.dmlw_commands.specs.LogCopies.{IsCopiedFrom, IsCopiedOn, LacksRoom, StopsCopy, file}
+use Rattle.dmlw_commands.specs.LogCopies.{memory, of_image, stopped, unopened}
 
 -- the content of a device has whole sectors
 pub content_whole : (v : View) → IsLawful v → HasWholeSectors v.size v.content
@@ -338,3 +333,50 @@ file_stop_refused log_file sectors stop (of_image log same read is memory) = ref
 file_stop_refused log_file sectors stop (of_image log same read is (unopened fault refuses)) =
     ap exit_of refuses.2
 file_stop_refused log_file sectors stop (of_image log same read is (stopped fault stops)) = refl
+
+-- The log that is read in a copy's image, and the content that it replays to.
+
+-- the image of a copy is read as the entries of the log, resized
+copy_read : (log image : List ℕ) (count sectors : ℕ) (new : Super) (found : List Entry)
+    (fault : Option LogFault) (is : IsCopied log count sectors image)
+    → IsReading image new found fault
+    → (new.sectorsize ≡ 4096) × (map (resized is.head.sectorsize 4096) is.entries ≡ found)
+    × (None ≡ fault)
+copy_read log image count sectors new found fault is reading =
+    let es = map (resized is.head.sectorsize 4096) is.entries in
+    let long = is.size in
+    let size : sectors ≡ length image / 512 = omega arith in
+    let whole = subst (λ (n : ℕ). IsLogOf n (sector_of image) 4096 es) size is.copied in
+    let read = log_is_read (length image / 512) 4096 (sector_of image) new es whole
+    reading.super_block in
+    let same =
+    same_reading (length image / 512)
+    (sector_of image) new new es found None fault read.1 reading in
+    (read.0, same.1, same.2)
+
+-- so it has as many, and no fault
+pub copy_whole : (log image : List ℕ) (count sectors : ℕ) (new : Super) (found : List Entry)
+    (fault : Option LogFault) → IsCopied log count sectors image
+    → IsReading image new found fault
+    → (fault ≡ None) × (length found ≡ count) × (new.sectorsize ≡ 4096)
+copy_whole log image count sectors new found fault is reading =
+    let read = copy_read log image count sectors new found fault is reading in
+    let long = ap length (sym read.1) ∙ length-map is.entries (resized is.head.sectorsize 4096) in
+    (sym read.2, long ∙ sym is.all, read.0)
+
+-- and its first entries replay to what the log's do
+pub copy_alike : (log image : List ℕ) (count sectors n : ℕ) (head new : Super)
+    (es found : List Entry) (f g : Option LogFault) (first : Content)
+    → IsCopied log count sectors image → IsReading log head es f → IsReading image new found g
+    → replay new.sectorsize (take n found) first ≡ replay head.sectorsize (take n es) first
+copy_alike log image count sectors n head new es found f g first is log_read image_read =
+    let old =
+    same_reading (length log / 512)
+    (sector_of log) is.head head is.entries es None f is.reading log_read in
+    let read = copy_read log image count sectors new found g is image_read in
+    let is_size = size_of_head (sector_of log 0) is.head is.reading.super_block in
+    ap (λ (size : ℕ). replay size (take n found) first) read.0
+    ∙ ap (λ (xs : List Entry). replay 4096 (take n xs) first) (sym read.1)
+    ∙ replay_first is.head.sectorsize 4096 n is.entries first is_size refl is.aligned
+    ∙ ap (λ (h : Super). replay h.sectorsize (take n is.entries) first) old.0
+    ∙ ap (λ (xs : List Entry). replay head.sectorsize (take n xs) first) old.1

@@ -2,13 +2,7 @@
 -- file.
 pub mod ImageLog
 pub mod ListLines
-pub mod RecordEnds
 pub mod CommandEnds
 mod ReplayOnDisk
 mod CopyOnDisks
-mod CopyReplay
-mod LastMoment
 mod QuestionEnds
-mod Agreement
-mod PrefixIsPossible
-mod SeatLines

@@ -1,35 +1,53 @@
--- The result of a question about an image.
-use Rattle.std.proofs.Common.{◌≡◌, ◌∙◌, ◌⊎◌, ℕ, true, Option, Some, None, List, Result, Ok, Err}
-use Rattle.std.proofs.Common.{◌≤◌, IfErr, IfOk, ap, inl, inr, length, refl, subst, sym}
-use Rattle.std.specs.Prelude.{IsOk, take}
+-- The results of questions about an image, and that a replayed prefix of a script's log is judged
+-- possible.
+use Rattle.std.proofs.Common.{◌/◌, ◌<◌, ◌⊎◌, ℕ, suc, Bool, ◌*◌, true, false, Option, IsTrue, Some}
+use Rattle.std.proofs.Common.{None, List, arith, Result, Ok, Err, ◌≤◌, IfErr, IfOk, ap, inl, inr}
+use Rattle.std.proofs.Common.{length, refl, subst, sym, ◌≡◌, ◌∙◌}
+use Rattle.std.specs.Prelude.{IsOk, get_or, slice_get, take, unwrap_or}
+use Rattle.std.proofs.lemmas.Bool.{and_parts}
+use Rattle.std.proofs.lemmas.List.{take_all}
+use Rattle.std.proofs.lemmas.Option.{slice_get-get_or, slice_get_within}
 use Rattle.std.specs.Io.KnownBytes.{Appends, Keeps}
 use Rattle.std.specs.Result.{IsErrAnd}
-use Rattle.bio.specs.declared.event.CoreEvent.{CoreEvent}
-use Rattle.bio.specs.Lawful.{all_aligned, is_lawful}
-use Rattle.bio.specs.Sizes.{bytes_of}
-use Rattle.bio.specs.Content.{sector_of}
-use Rattle.refusals.specs.declared.fault.Fault.{Fault}
 use Rattle.refusals.specs.declared.refusal.Refusal.TheVariants as refusals
-use Rattle.dmlw_script.specs.Grammar.{IsTextOf}
-use Rattle.dmlw_script.specs.Plans.{ScriptValue, top_of}
-use Rattle.dmlw_script.specs.FirstFault.{IsFaultOf, is_memory}
+use Rattle.refusals.specs.declared.run_error.Fault.{Fault}
 use Rattle.refusals.specs.declared.run_error.RunError.{RunError}
 use Rattle.refusals.specs.declared.run_error.RunError.TheVariants.{Refused}
-use Rattle.script_runner.specs.CallLaws.{keeps_same, keeps_twice, appends_kept}
 use Rattle.refusals.specs.Errors.{IsFileError, memory_error, refused_by}
-use Rattle.script_runner.specs.Rehearsals.{FailsRehearsal, IsRehearsed}
+use Rattle.bio.specs.Content.{Content, sector_of}
+use Rattle.bio.specs.declared.event.CoreEvent.{CoreEvent}
+use Rattle.bio.specs.Events.{all_aligned, is_lawful, is_stop, is_well_formed, is_within}
+use Rattle.bio.specs.PlaceLaws.{first_below-none, is_first_below}
+use Rattle.bio.specs.Places.{all_below, first_below, or_here}
+use Rattle.bio.specs.Possible.{Possible, PossibleAt, has_kept, is_replaced, values_at}
+use Rattle.bio.specs.Requests.{bytes_of}
+use Rattle.log_format.specs.AlignmentLaws.{right_size}
+use Rattle.log_format.specs.Entries.{is_sector_size}
+use Rattle.log_format.specs.Replay.{replay}
+use Rattle.judge.specs.declared.verdict.Verdict.{Verdict}
+use Rattle.judge.specs.declared.verdict.Verdict.TheVariants.{Yes, No}
+use Rattle.judge.specs.Verdicts.{IsVerdict}
+use Rattle.world.specs.declared.reaching.Finding.{Finding}
+use Rattle.world.specs.declared.reaching.Finding.TheVariants.{Run, RuledOut}
+use Rattle.world.specs.Machine.{IsFinding, IsReachable}
+use Rattle.pending.specs.CompletionList.{BelongsTo, completion_list, dm_log_writes, entries_of}
+use Rattle.pending.specs.CompletionList.{last_moment}
+use Rattle.dmlw_script.specs.FirstFault.{IsFaultOf, is_memory}
+use Rattle.dmlw_script.specs.Grammar.{IsTextOf}
+use Rattle.dmlw_script.specs.Plans.{ScriptValue, top_of}
+use Rattle.script_runner.specs.CallLaws.{keeps_same, keeps_twice, appends_kept}
+use Rattle.script_runner.specs.DiskRun.{FailsRehearsal, IsRehearsed}
 use Rattle.dmlw_files.specs.declared.files.FileError.{FileError}
 use Rattle.dmlw_files.specs.declared.files.FileError.TheVariants as errors
-use Rattle.dmlw_files.specs.FileErrors.{file_refusal}
-use Rattle.dmlw_files.specs.Files.{IsWithin, MatchesContents}
-use Rattle.dmlw_files.specs.Images.{IsImage, image_read}
-use Rattle.dmlw_commands.specs.Judgements.{Answers, CanJudge, CannotJudge, HasAnswer}
-use Rattle.dmlw_commands.specs.Judgements.{HasNoVerdict, Meaning, Question, blank}
-use Rattle.dmlw_commands.specs.Judgements.{file}
-use Rattle.dmlw_commands.specs.Judgements.{moment as no_moment, question, run as no_run}
-use Rattle.dmlw_commands.specs.Judgements.{text as unread}
-use Rattle.dmlw_commands.proofs.CommandEnds.{IsKept}
-use Rattle.dmlw_commands.proofs.RecordEnds.{file_told}
+use Rattle.dmlw_files.specs.Files.{IsImage, IsWithin, MatchesContents, file_refusal, image_read}
+use Rattle.dmlw_commands.proofs.CommandEnds.{IsKept, file_told}
+use Rattle.dmlw_commands.specs.Judgements.{Answers, BeginsLog, CanJudge, CannotJudge, HasAnswer}
+use Rattle.dmlw_commands.specs.Judgements.{HasNoVerdict, HasVerdict, IsFound, IsJudged}
+use Rattle.dmlw_commands.specs.Judgements.{IsReplayedTo, Meaning, Question, blank, file}
+use Rattle.dmlw_commands.specs.Judgements.{moment as no_moment, question, replayed_first}
+use Rattle.dmlw_commands.specs.Judgements.{run as no_run, text as unread, verdict_of}
+
+-- The result of a question about an image.
 
 -- an answer after these events is one of the script's run
 pub judged_by : {A : Type 0} (meaning : Meaning A) (text image : List ℕ) (asked sectors : ℕ)
@@ -227,3 +245,167 @@ answers_kept meaning asked old mid new (Ok answer) (has, printed) kept =
 answers_kept meaning asked old mid new (Err fault) (inl (none, same)) kept =
     inl (none, keeps_twice old mid new same kept)
 answers_kept meaning asked old mid new (Err fault) (inr unprinted) kept = inr unprinted
+
+-- `path` and `judge` agree: the verdict of a finding is the verdict on the image.
+
+-- an image has one verdict
+abbrev pub OneVerdict : Type 0
+OneVerdict = (sectors : ℕ) (events : List CoreEvent) (first now : Content) (verdict other : Verdict)
+    → IsVerdict sectors events first now verdict → IsVerdict sectors events first now other
+    → verdict ≡ other
+
+-- what a run leaves is possible
+abbrev pub RunsArePossible : Type 0
+RunsArePossible =
+    (events : List CoreEvent) (moment : ℕ) (first now : Content)
+    → IsReachable (take moment events) first now → Possible (take moment events) first now
+
+-- a finding is a verdict
+finding_holds : RunsArePossible
+    → (sectors : ℕ) (events : List CoreEvent) (first now : Content) (finding : Finding)
+    → IsFinding sectors events first now finding
+    → IsVerdict sectors events first now (verdict_of finding)
+finding_holds possible sectors events first now (Run run) found =
+    let all : take (length events) events ≡ events =
+    take_all (length events) events (omega arith) in
+    subst (λ (es : List CoreEvent). Possible es first now) all
+    (possible events (length events) first now
+    (subst (λ (es : List CoreEvent). IsReachable es first now) (sym all) (run.items, found)))
+finding_holds possible sectors events first now (RuledOut sector by) found = found
+
+-- and so it is the verdict
+pub same_verdict : OneVerdict → RunsArePossible
+    → (sectors : ℕ) (events : List CoreEvent) (first now : Content) (verdict : Verdict)
+    (finding : Finding)
+    → IsVerdict sectors events first now verdict → IsFinding sectors events first now finding
+    → verdict ≡ verdict_of finding
+same_verdict one possible sectors events first now verdict finding holds found =
+    one sectors events first now verdict (verdict_of finding) holds
+    (finding_holds possible sectors events first now finding found)
+
+-- also by a script's events
+pub same_judged : OneVerdict → RunsArePossible
+    → (plan : ScriptValue) (moment : ℕ) (image : List ℕ) (verdict : Verdict) (finding : Finding)
+    → (judged : IsJudged plan moment image verdict) → (found : IsFound plan moment image finding)
+    → judged.events ≡ found.events → verdict ≡ verdict_of finding
+same_judged one possible plan moment image verdict finding judged found same =
+    same_verdict one possible (top_of plan.data_disk) (take moment found.events)
+    (blank (length image)) (sector_of image) verdict finding
+    (subst (λ (es : List CoreEvent). IsVerdict (top_of plan.data_disk) (take moment es)
+    (blank (length image)) (sector_of image) verdict) same judged.holds) found.holds
+
+-- The content after replaying a prefix of a script's log is judged possible.
+
+-- a beginning of the log that belongs to a moment replays to what the device could hold there
+abbrev pub BeginningsArePossible : Type 0
+BeginningsArePossible =
+    (size : ℕ) (events : List CoreEvent) (first : Content) (moment count : ℕ)
+    → IsTrue (is_sector_size size)
+    → IsTrue (all_aligned size events) → is_well_formed events ≡ true
+    → moment ≤ last_moment events → BelongsTo (dm_log_writes size) events moment count
+    → Possible (take moment events) first
+    (replay size (entries_of (take count (completion_list (dm_log_writes size) events))) first)
+
+-- its content is judged possible
+pub begun_yes : BeginningsArePossible
+    → (size : ℕ) (events : List CoreEvent) (moment count bytes : ℕ) → is_sector_size size ≡ true
+    → all_aligned size events ≡ true → is_well_formed events ≡ true
+    → BeginsLog size events moment count
+    → IsVerdict (bytes / 512) (take moment events) (blank bytes)
+    (replayed_first size events count bytes) Yes
+begun_yes possible size events moment count bytes right aligned well_formed begins =
+    possible size events (blank bytes) moment count right aligned well_formed begins.safe
+    begins.belongs
+
+-- the device could hold this value in the sector
+abbrev HoldsAt : List CoreEvent → Content → ℕ → List ℕ → Type 0
+HoldsAt events first sector value =
+    ((value ≡ first sector) × (has_kept events sector ≡ false))
+    ⊎ ((id : ℕ) × (values_at (slice_get events id) sector ≡ Some value)
+    × (is_replaced events sector id ≡ false))
+
+-- what it could hold there of one content, it could hold of each that has the same bytes there
+same_possible : (events : List CoreEvent) (first now other : Content) (sector : ℕ)
+    → other sector ≡ now sector → PossibleAt events first now sector
+    → PossibleAt events first other sector
+same_possible events first now other sector same possible =
+    subst (HoldsAt events first sector) (sym same) possible
+
+-- an image of that content isn't ruled out
+verdict_yes : BeginningsArePossible
+    → (size : ℕ) (events : List CoreEvent) (sectors moment count : ℕ) (image : List ℕ)
+    (verdict : Verdict)
+    → is_sector_size size ≡ true → all_aligned size events ≡ true → is_well_formed events ≡ true
+    → length image ≡ 512 * sectors → IsReplayedTo size events moment count image
+    → IsVerdict sectors (take moment events) (blank (length image)) (sector_of image) verdict
+    → verdict ≡ Yes
+verdict_yes possible size events sectors moment count image Yes right aligned well_formed sized
+    replayed holds = refl
+verdict_yes possible size events sectors moment count image
+    (No sector by) right aligned well_formed sized replayed holds =
+    let there : sector < length image / 512 = let less = holds.within in omega arith in
+    let could =
+    begun_yes possible size events moment count
+    (length image) right aligned well_formed replayed.begins sector in
+    absurd (holds.fails (same_possible (take moment events) (blank (length image))
+    (replayed_first size events count (length image)) (sector_of image) sector
+    (replayed.content sector there) could))
+
+-- lawful events are well formed
+lawful_formed : (sectors : ℕ) (events : List CoreEvent) → is_lawful sectors events ≡ true
+    → is_well_formed events ≡ true
+lawful_formed sectors events lawful =
+    (and_parts (is_well_formed events)
+    (all_below (λ place. is_within sectors (slice_get events place)) (length events)) lawful).0
+
+-- nor is it by a script's events
+pub judged_yes : BeginningsArePossible
+    → (plan : ScriptValue) (moment count : ℕ) (image : List ℕ) (verdict : Verdict)
+    (judged : IsJudged plan moment image verdict)
+    → IsReplayedTo (bytes_of plan.log_size) judged.events moment count image → verdict ≡ Yes
+judged_yes possible plan moment count image verdict judged replayed =
+    verdict_yes possible (bytes_of plan.log_size) judged.events
+    (top_of plan.data_disk) moment count image verdict (right_size plan.log_size) judged.aligned
+    (lawful_formed (top_of plan.data_disk) judged.events judged.lawful)
+    judged.can_judge.1 replayed judged.holds
+
+-- nor by those in a file
+pub asked_yes : BeginningsArePossible
+    → (asked : Question) (count : ℕ) (verdict : Verdict) (has : HasVerdict asked verdict)
+    → IsReplayedTo (bytes_of has.plan.log_size) has.judged.events asked.moment count has.image
+    → verdict ≡ Yes
+asked_yes possible asked count verdict has replayed =
+    judged_yes possible has.plan asked.moment count has.image verdict has.judged replayed
+
+-- The last moment of a list of events.
+
+-- an element that was read stands there
+pub slice_get-of_get_or : {A : Type 0} (xs : List A) (k : ℕ) (x : A) → k < length xs → x ≡ get_or xs k x
+    → slice_get xs k ≡ Some x
+slice_get-of_get_or {A} xs k x within is = slice_get-get_or xs k x within ∙ ap (λ (y : A). Some y) (sym is)
+
+-- the event of this place is a Stop
+abbrev pub stops_at : List CoreEvent → ℕ → Bool
+stops_at events place = is_stop (slice_get events place)
+
+-- where no Stop stands before a Stop, its place is the last moment
+pub stop_is_last : (events : List CoreEvent) (place : ℕ) (event : CoreEvent)
+    → first_below (stops_at events) place ≡ None
+    → slice_get events place ≡ Some event → is_stop (Some event) ≡ true → place ≡ last_moment events
+stop_is_last events place event none there stop =
+    sym (ap (λ (found : Option ℕ). unwrap_or found (length events))
+    (is_first_below (stops_at events) (length events) place (record {
+      within = slice_get_within events place event there;
+      here = ap is_stop there ∙ stop;
+      before = first_below-none (stops_at events) place none;
+    })))
+
+-- one place more is no Stop
+pub none_next : (events : List CoreEvent) (place next : ℕ) (event : CoreEvent) → next ≡ suc place
+    → first_below (stops_at events) place ≡ None
+    → slice_get events place ≡ Some event → is_stop (Some event) ≡ false
+    → first_below (stops_at events) next ≡ None
+none_next events place next event is none there other =
+    subst (λ (n : ℕ). first_below (stops_at events) n ≡ None) (sym is)
+    (ap (λ (found : Option ℕ). or_here found (stops_at events place) place) none
+    ∙ ap (λ (here : Bool). or_here None here place) (ap is_stop there ∙ other))

@@ -3,44 +3,40 @@ use Rattle.std.proofs.Common.{◌≡◌, ◌∙◌, ◌⊎◌, ℕ, ◌+◌, ◌
 use Rattle.std.proofs.Common.{Err, IfErr, IfOk, ap, arith, inl, inr, length, refl, subst, sym}
 use Rattle.std.proofs.lemmas.Option.{slice_get_within}
 use Rattle.bio.specs.Content.{Content, sector_of}
-use Rattle.bio.specs.SectorLaws.{length-gather, sector_of-gather}
+use Rattle.bio.specs.ContentLaws.{length-gather, sector_of-gather}
 use Rattle.blockdev.specs.View.{View}
 use Rattle.blockdev.specs.Law.{NoLie}
 use Rattle.bio.specs.declared.outcome.DevError.TheVariants as devices
 use Rattle.sector_disk.specs.declared.disk.SectorDisk.{SectorDisk}
-use Rattle.sector_disk.specs.DiskView.{shown_of}
-use Rattle.sector_disk.specs.DiskViewLaws.{content_whole}
-use Rattle.sector_disk.specs.Sizes.{Begins}
+use Rattle.sector_disk.specs.DiskView.{Begins, shown_of}
+use Rattle.sector_disk.specs.CandidateLaws.{content_whole}
 use Rattle.log_format.specs.declared.decode.Super.{Super}
 use Rattle.log_format.specs.declared.entry.Entry.{Entry}
 use Rattle.log_reader.specs.declared.fault.LogFault.{LogFault}
 use Rattle.log_reader.specs.declared.fault.ReadDeviceError.TheVariants as reads
 use Rattle.log_reader.specs.SameDiskLaws.{reads_alike}
-use Rattle.log_reader.specs.Devices.{HasFaulted}
-use Rattle.log_reader.specs.ImageLog.{IsReading}
-use Rattle.log_reader.specs.DiskLog.{Reads}
+use Rattle.log_reader.specs.Reader.{HasFaulted}
+use Rattle.log_reader.specs.DiskLog.{IsReading, Reads}
 use Rattle.log_reader.specs.Refusals.{open_device_refusal}
-use Rattle.replay.specs.SameDiskLaws.{replay_alike}
+use Rattle.replay.specs.ResizeLaws.{replay_alike}
 use Rattle.replay.specs.declared.fault.ReplayError.{ReplayError}
 use Rattle.replay.specs.declared.fault.ReplayError.TheVariants as replays
 use Rattle.replay.specs.declared.fault.ReplayFault.{ReplayFault}
-use Rattle.replay.specs.declared.upto.Upto.{Upto}
+use Rattle.replay.specs.declared.replaying.Upto.{Upto}
 use Rattle.replay.specs.Replays.{HasReplayCause, IsApplied, LeavesBy, ReachesPast, entries_from}
 use Rattle.headline.specs.declared.reopening.ReopenError.{ReopenError}
 use Rattle.headline.specs.declared.reopening.ReopenError.TheVariants as reopens
 use Rattle.headline.specs.ReopenedLog.{IsRefused, IsReplayed as IsReopened, IsStopped, first_reader}
 use Rattle.refusals.specs.declared.run_error.RunError.{RunError}
 use Rattle.refusals.specs.Errors.{memory_error, refused_by}
-use Rattle.dmlw_files.specs.Images.{IsImage, image_of}
+use Rattle.dmlw_files.specs.Files.{IsImage, MatchesContents, image_of}
 use Rattle.dmlw_commands.specs.Lists.{RefusesImage}
-use Rattle.dmlw_files.specs.Files.{MatchesContents}
 use Rattle.dmlw_commands.specs.declared.replay_log.images.Replayed.{Replayed}
-use Rattle.dmlw_commands.specs.DiskReplay.{IsReplayedOn, stop_by}
 use Rattle.dmlw_commands.specs.Replays.{AreImages, FailsOnImages, FailsReplay, HasStopCause}
-use Rattle.dmlw_commands.specs.Replays.{IsReplayed, IsReplayedFrom, StopsReplay, images, memory}
-use Rattle.dmlw_commands.specs.Replays.{file, stopped, unopened}
+use Rattle.dmlw_commands.specs.Replays.{IsReplayed, IsReplayedFrom, IsReplayedOn, StopsReplay, file}
+use Rattle.dmlw_commands.specs.Replays.{images, memory, stop_by, stopped, unopened}
 use Rattle.dmlw_commands.specs.declared.exit.Exit.TheVariants.{Refused}
-use Rattle.dmlw_commands.specs.Exits.{exit_of}
+use Rattle.dmlw_commands.specs.Ends.{exit_of}
 use Rattle.dmlw_commands.proofs.CommandEnds.{file_refused}
 use Rattle.dmlw_commands.proofs.ImageLog.{some_sector, unopened_on}
 

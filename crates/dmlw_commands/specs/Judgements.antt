@@ -1,34 +1,40 @@
 -- Questions about an image, and their answers. `judge` answers whether a power failure could leave
--- the image on a script's data disk, and `path` answers how. The answers of `path` are in `Paths`.
-use Rattle.std.specs.Prelude.{◌≡◌, ◌⊎◌, ◌<◌, ◌≤◌, ◌*◌, ℕ, true, List, ◌++◌, Option, Some, Result}
-use Rattle.std.specs.Prelude.{Ok, Err, codes, length, replicate, take}
+-- the image on a script's data disk, and `path` answers how. The answers of `path` are in `Judgements`.
+use Rattle.std.specs.Prelude.{◌/◌, true, List, ◌++◌, Option, Some, Result, Ok, Err, codes, length}
+use Rattle.std.specs.Prelude.{replicate, take, ◌≡◌, ◌⊎◌, ◌<◌, ◌≤◌, ◌*◌, ℕ}
 use Rattle.std.specs.Io.KnownBytes.{Appends, Keeps}
-use Rattle.bio.specs.Content.{Content, sector_of}
-use Rattle.bio.specs.declared.event.CoreEvent.{CoreEvent}
-use Rattle.bio.specs.Lawful.{all_aligned, is_lawful}
-use Rattle.bio.specs.Sizes.{bytes_of}
+use Rattle.std.specs.List.{flat_map}
 use Rattle.refusals.specs.declared.refusal.Refusal.{Refusal}
 use Rattle.refusals.specs.declared.refusal.Refusal.TheVariants as refusals
-use Rattle.pending.specs.Moments.{last_moment}
-use Rattle.dmlw_script.specs.Grammar.{IsTextOf}
-use Rattle.dmlw_script.specs.Lines.{lines_of}
-use Rattle.dmlw_script.specs.Plans.{ScriptValue, top_of}
-use Rattle.dmlw_script.specs.FirstFault.{IsFirstFault}
-use Rattle.judge.specs.declared.verdict.Verdict.{Verdict}
-use Rattle.judge.specs.declared.verdict.Verdict.TheVariants as verdicts
-use Rattle.judge.specs.Texts.{verdict_text}
-use Rattle.judge.specs.Verdicts.{IsVerdict}
 use Rattle.refusals.specs.declared.run_error.RunError.{RunError}
 use Rattle.refusals.specs.declared.run_error.RunError.TheVariants.{Refused}
 use Rattle.refusals.specs.Errors.{IsFileError, memory_error, refused_by}
-use Rattle.script_runner.specs.Rehearsals.{FailsRehearsal, IsRehearsed}
+use Rattle.bio.specs.Content.{AgreeBelow, Content, sector_of}
+use Rattle.bio.specs.declared.event.CoreEvent.{CoreEvent}
+use Rattle.bio.specs.Events.{all_aligned, is_lawful}
+use Rattle.bio.specs.Requests.{bytes_of}
+use Rattle.log_format.specs.Replay.{replay}
+use Rattle.judge.specs.declared.verdict.Verdict.{Verdict}
+use Rattle.judge.specs.declared.verdict.Verdict.TheVariants as verdicts
+use Rattle.judge.specs.Verdicts.{IsVerdict, verdict_text}
+use Rattle.world.specs.declared.reaching.Finding.{Finding}
+use Rattle.world.specs.declared.reaching.Finding.TheVariants.{Run, RuledOut}
+use Rattle.world.specs.declared.step.Step.{Step}
+use Rattle.world.specs.Machine.{IsFinding}
+use Rattle.world.specs.Texts.{step_text}
+use Rattle.pending.specs.CompletionList.{BelongsTo, completion_list, dm_log_writes, entries_of}
+use Rattle.pending.specs.CompletionList.{last_moment}
+use Rattle.dmlw_script.specs.FirstFault.{IsFirstFault}
+use Rattle.dmlw_script.specs.Grammar.{IsTextOf}
+use Rattle.dmlw_script.specs.Words.{lines_of}
+use Rattle.dmlw_script.specs.Plans.{ScriptValue, top_of}
+use Rattle.script_runner.specs.DiskRun.{FailsRehearsal, IsRehearsed}
+use Rattle.dmlw_files.specs.Files.{HoldsImage, IsImage, IsWithin, MatchesContents}
 use Rattle.dmlw_commands.specs.declared.exit.Exit.{Exit}
 use Rattle.dmlw_commands.specs.declared.exit.Exit.TheVariants as exits
-use Rattle.dmlw_commands.specs.Exits.{exit_of}
-use Rattle.dmlw_commands.specs.Seen.{Does, OnlyReads}
-use Rattle.dmlw_files.specs.Files.{IsWithin, MatchesContents}
-use Rattle.dmlw_files.specs.Images.{HoldsImage, IsImage}
+use Rattle.dmlw_commands.specs.Ends.{exit_of}
 use Rattle.dmlw_commands.specs.Records.{IsNoScript, of_recorder}
+use Rattle.dmlw_commands.specs.Seen.{Does, OnlyReads}
 
 -- The content of an image of `count` zero bytes.
 abbrev pub blank : ℕ → Content
@@ -172,3 +178,56 @@ IsJudged plan count image verdict = IsAnswered verdict_meaning plan count image 
 -- verdict on the image.
 abbrev pub HasVerdict : Question → Verdict → Type 0
 HasVerdict asked verdict = HasAnswer verdict_meaning asked verdict
+
+-- Images that result from replaying a prefix of a script's log.
+
+-- The content of an image of `bytes` zeroes after a replay of the first `count` entries of the log
+-- of `events`. The log has sectors of `size` bytes.
+abbrev pub replayed_first : ℕ → List CoreEvent → ℕ → ℕ → Content
+replayed_first size events count bytes =
+    replay size (entries_of (take count (completion_list (dm_log_writes size) events)))
+    (blank bytes)
+
+-- The first `count` entries of the log of `events` belong to `moment` (`BelongsTo`). `moment` isn't
+-- past the last moment of `events`.
+pub record BeginsLog (size : ℕ) (events : List CoreEvent) (until count : ℕ) : Type 0 where
+  pub safe : until ≤ last_moment events
+  pub belongs : BelongsTo (dm_log_writes size) events until count
+
+-- `image` holds what the first `count` entries of the log of `events` leave of zeroes, and these
+-- entries belong to `moment`.
+pub record IsReplayedTo (size : ℕ) (events : List CoreEvent) (until count : ℕ)
+    (image : List ℕ) : Type 0 where
+  pub begins : BeginsLog size events until count
+  pub content : AgreeBelow (length image / 512) (replayed_first size events count (length image))
+      (sector_of image)
+
+-- What `path` answers: a machine run that leaves the image, or what rules the image out.
+
+-- The verdict that a finding implies: yes if it is a run, otherwise no with the same cause.
+abbrev pub verdict_of : Finding → Verdict
+verdict_of (Run steps) = verdicts.Yes
+verdict_of (RuledOut sector by) = verdicts.No sector by
+
+-- The line that `path` prints for a step.
+abbrev pub step_line : Step → List ℕ
+step_line step = step_text step ++ codes "\n"
+
+-- What `path` prints: a line for each step of the run, in order, or the line of the verdict no.
+abbrev pub finding_text : Finding → List ℕ
+finding_text (Run steps) = flat_map step_line steps.items
+finding_text (RuledOut sector by) = verdict_line (verdicts.No sector by)
+
+-- The exit of `path`: `Done` for a run, `RuledOut` if there is none.
+abbrev pub exit_by_finding : Finding → Exit
+exit_by_finding (Run steps) = exits.Done
+exit_by_finding (RuledOut sector by) = exits.RuledOut
+
+-- The kind of answer that `path` gives.
+abbrev pub finding_meaning : Meaning Finding
+finding_meaning = record { says = IsFinding; printed = finding_text; ends = exit_by_finding }
+
+-- `finding` is the finding about `image` after the first `moment` events of the script `plan`, on a
+-- disk of zeroes.
+abbrev pub IsFound : ScriptValue → ℕ → List ℕ → Finding → Type 0
+IsFound plan upto image finding = IsAnswered finding_meaning plan upto image finding

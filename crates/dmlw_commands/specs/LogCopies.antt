@@ -1,33 +1,33 @@
 -- The result of `copy`: the log in a file is copied to a new log with sectors of 4,096 bytes. A
 -- disk has sectors of 512 bytes.
-use Rattle.std.specs.Prelude.{◌≡◌, ℕ, ◌+◌, ◌*◌, ◌≤◌, IsTrue, List, ◌++◌, Option, None, Some, codes}
-use Rattle.std.specs.Prelude.{length, map, slice_get, take}
+use Rattle.std.specs.Prelude.{length, map, slice_get, take, ◌≡◌, ℕ, ◌+◌, ◌*◌, ◌≤◌, IsTrue, List}
+use Rattle.std.specs.Prelude.{◌++◌, Option, None, Some, codes}
 use Rattle.std.specs.Fmt.{decimal}
 use Rattle.std.specs.Io.KnownBytes.{Keeps}
 use Rattle.std.specs.List.{list_all}
-use Rattle.bio.specs.Content.{sector_of}
-use Rattle.refusals.specs.declared.end.End.TheVariants as ends
-use Rattle.log_format.specs.declared.entry.Entry.{Entry}
-use Rattle.log_format.specs.declared.decode.Super.{Super}
-use Rattle.log_format.specs.Entries.{sectors_of}
-use Rattle.log_format.specs.LogOf.{IsLogOf, log_sectors, next_sector}
-use Rattle.log_reader.specs.declared.fault.LogFault.{LogFault}
-use Rattle.log_reader.specs.declared.fault.ReadDeviceError.TheVariants as reads
-use Rattle.log_reader.specs.ImageLog.{IsReading}
-use Rattle.replay.specs.declared.copy_fault.CopyError.{CopyError}
-use Rattle.replay.specs.declared.copy_fault.CopyError.TheVariants as copies
-use Rattle.replay.specs.declared.copy_fault.CopyFault.{CopyFault}
-use Rattle.replay.specs.Copies.{IsUnaligned}
-use Rattle.replay.specs.CopyRefusals.{copy_refusal}
-use Rattle.replay.specs.Resize.{is_aligned_to, resized}
+use Rattle.refusals.specs.declared.run_error.End.TheVariants as ends
 use Rattle.refusals.specs.declared.run_error.RunError.{RunError}
 use Rattle.refusals.specs.declared.run_error.RunError.TheVariants.{StoppedAfter}
 use Rattle.refusals.specs.Errors.{IsFileError, memory_error}
+use Rattle.bio.specs.Content.{sector_of}
+use Rattle.blockdev.specs.View.{View}
+use Rattle.log_format.specs.declared.decode.Super.{Super}
+use Rattle.log_format.specs.declared.entry.Entry.{Entry}
+use Rattle.log_format.specs.Entries.{sectors_of}
+use Rattle.log_format.specs.LogOf.{IsLogOf, log_sectors, next_sector}
+use Rattle.log_store.specs.Store.{Store}
+use Rattle.log_reader.specs.declared.fault.LogFault.{LogFault}
+use Rattle.log_reader.specs.declared.fault.ReadDeviceError.TheVariants as reads
+use Rattle.log_reader.specs.DiskLog.{IsReading}
+use Rattle.replay.specs.Copies.{IsUnaligned, is_aligned_to, resized}
+use Rattle.replay.specs.declared.fault.CopyError.{CopyError}
+use Rattle.replay.specs.declared.fault.CopyError.TheVariants as copies
+use Rattle.replay.specs.declared.fault.CopyFault.{CopyFault}
+use Rattle.replay.specs.Refusals.{copy_refusal}
+use Rattle.dmlw_files.specs.Files.{HoldsImage, IsImage, MatchesContents}
 use Rattle.dmlw_commands.specs.Lists.{RefusesImage}
 use Rattle.dmlw_commands.specs.Makings.{Makes, Making}
 use Rattle.dmlw_commands.specs.Seen.{Does}
-use Rattle.dmlw_files.specs.Files.{MatchesContents}
-use Rattle.dmlw_files.specs.Images.{HoldsImage, IsImage}
 
 -- The line that `copy` prints: how many entries it copied.
 abbrev pub copied_line : ℕ → List ℕ
@@ -123,3 +123,24 @@ copying log_file sectors = record {
 -- `name` gets the disk's image.
 abbrev pub Copies : List ℕ → List ℕ → ℕ → Does ℕ
 Copies log name sectors = Makes (λ files. copying (files log) sectors) log name
+
+-- A finished copy, on disks in memory: what the new log's disk holds.
+
+-- `store` is a new log with sectors of 4,096 bytes and no entries, on a disk of `sectors` sectors.
+pub record IsBegun (sectors : ℕ) (store : Store) : Type 0 where
+  pub size : store.device.size ≡ sectors
+  pub sector_bytes : store.sector_bytes ≡ 4096
+  pub placed : store.placed ≡ 0
+  pub end : store.end ≡ None
+
+-- The log in the image `log` has `count` entries and no fault. The place and length in bytes of
+-- each entry are multiples of 4,096. The device `v` has `sectors` sectors, and holds a log of the
+-- same entries in sectors of 4,096 bytes.
+pub record IsCopiedOn (log : List ℕ) (count sectors : ℕ) (v : View) : Type 0 where
+  pub head : Super
+  pub entries : List Entry
+  pub reading : IsReading log head entries None
+  pub all : count ≡ length entries
+  pub aligned : IsTrue (list_all (is_aligned_to head.sectorsize 4096) entries)
+  pub size : v.size ≡ sectors
+  pub copied : IsLogOf sectors v.content 4096 (map (resized head.sectorsize 4096) entries)

@@ -2,26 +2,31 @@
 use Rattle.std.specs.Prelude.{◌≡◌, ℕ, ◌/◌, ◌<◌, ◌≤◌, List, ◌++◌, Option, None, Some, codes, length}
 use Rattle.std.specs.Fmt.{decimal}
 use Rattle.std.specs.Io.KnownBytes.{Keeps}
+use Rattle.refusals.specs.declared.run_error.RunError.{RunError}
+use Rattle.refusals.specs.declared.run_error.RunError.TheVariants.{StoppedAfter}
+use Rattle.refusals.specs.Errors.{IsFileError, memory_error, refused_by}
+use Rattle.refusals.specs.Words.{IsNumber}
 use Rattle.bio.specs.Content.{AgreeBelow, sector_of}
 use Rattle.bio.specs.declared.outcome.DevError.TheVariants as devices
-use Rattle.log_format.specs.declared.entry.Entry.{Entry}
+use Rattle.blockdev.specs.View.{View}
 use Rattle.log_format.specs.declared.decode.Super.{Super}
+use Rattle.log_format.specs.declared.entry.Entry.{Entry}
 use Rattle.log_format.specs.Replay.{replay}
 use Rattle.log_reader.specs.declared.fault.LogFault.{LogFault}
 use Rattle.log_reader.specs.declared.fault.ReadDeviceError.TheVariants as reads
-use Rattle.log_reader.specs.ImageLog.{IsReading}
+use Rattle.log_reader.specs.DiskLog.{IsReading}
+use Rattle.log_reader.specs.Refusals.{open_device_refusal}
 use Rattle.replay.specs.declared.fault.ReplayError.{ReplayError}
 use Rattle.replay.specs.declared.fault.ReplayError.TheVariants as replays
 use Rattle.replay.specs.declared.fault.ReplayFault.{ReplayFault}
-use Rattle.replay.specs.declared.upto.Upto.{Upto}
+use Rattle.replay.specs.declared.replaying.Upto.{Upto}
+use Rattle.replay.specs.declared.replaying.Upto.TheVariants as uptos
 use Rattle.replay.specs.Refusals.{replay_refusal}
 use Rattle.replay.specs.Replays.{AsksTooMany, EndsShort, IsUpto, LacksFlush, LacksMark, ReachesPast}
 use Rattle.replay.specs.Replays.{entries_from}
-use Rattle.refusals.specs.declared.run_error.RunError.{RunError}
-use Rattle.refusals.specs.declared.run_error.RunError.TheVariants.{StoppedAfter}
-use Rattle.refusals.specs.Errors.{IsFileError, memory_error}
-use Rattle.dmlw_files.specs.Files.{MatchesContents}
-use Rattle.dmlw_files.specs.Images.{HoldsImage, IsImage}
+use Rattle.headline.specs.declared.reopening.ReopenError.{ReopenError}
+use Rattle.headline.specs.declared.reopening.ReopenError.TheVariants as reopens
+use Rattle.dmlw_files.specs.Files.{HoldsImage, IsImage, MatchesContents}
 use Rattle.dmlw_commands.specs.Lists.{RefusesImage}
 use Rattle.dmlw_commands.specs.Makings.{Makes, Making}
 use Rattle.dmlw_commands.specs.Seen.{Does}
@@ -124,3 +129,37 @@ replaying log_file first_file upto = record {
 abbrev pub Replays : List ℕ → List ℕ → List ℕ → Upto → Does ℕ
 Replays log first name upto =
     Makes (λ files. replaying (files log) (files first) upto) log name
+
+-- The word of `replay` that names the end of the replay.
+
+-- The word names this end of a replay: a number of entries, the first mark with a text, or the
+-- first flush.
+abbrev pub IsWhat : List ℕ → Upto → Type 0
+IsWhat word (uptos.Count n) =
+    (digits : List ℕ) × (word ≡ codes "entries:" ++ digits) × IsNumber digits n
+IsWhat word (uptos.Mark text) = word ≡ codes "mark:" ++ text.now
+IsWhat word uptos.Flush = word ≡ codes "flush"
+
+-- The word names no end of a replay.
+abbrev pub IsNoWhat : List ℕ → Type 0
+IsNoWhat word = (upto : Upto) → IsWhat word upto → ⊥
+
+-- What a disk in memory holds after a replay, and why a replay stops.
+
+-- `upto` asks for the first `count` entries of the log in the image `log`. The device `v` has the
+-- size of the image `first`, and the content of `first` after these entries are replayed.
+pub record IsReplayedOn (log first : List ℕ) (upto : Upto) (count : ℕ) (v : View) : Type 0 where
+  pub head : Super
+  pub entries : List Entry
+  pub fault : Option LogFault
+  pub reading : IsReading log head entries fault
+  pub named : IsUpto upto entries 0 count
+  pub within : 0 < count → count ≤ length entries
+  pub size : v.size ≡ length first / 512
+  pub content : AgreeBelow (length first / 512)
+      (replay head.sectorsize (entries_from entries 0 count) (sector_of first)) v.content
+
+-- The fault of `replay` if the log can't be opened, or if the replay stops.
+abbrev pub stop_by : ReopenError → RunError
+stop_by (reopens.Open error) = refused_by (open_device_refusal error)
+stop_by (reopens.Replay stop) = replay_stopped stop

@@ -2,8 +2,7 @@
 ghost use Rattle.std.specs.Prelude.{◌≡◌, ◌++◌, [], Err, OnOk, true};
 ghost use Rattle.std.specs.Io.KnownBytes.{Appends, Keeps};
 ghost use Rattle.dmlw_commands.specs.declared.exit.Exit.{Exit};
-ghost use Rattle.dmlw_commands.specs.Exits.{exit_after, exit_by, exit_of};
-ghost use Rattle.dmlw_commands.specs.Exits.{fault_line, reported_line};
+ghost use Rattle.dmlw_commands.specs.Ends.{exit_after, exit_by, exit_of, fault_line, reported_line};
 
 use crate::exit::Exit;
 use bio::Status;

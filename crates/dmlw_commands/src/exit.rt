@@ -1,6 +1,6 @@
 //! The exit status of a command.
 ghost use Rattle.std.specs.Prelude.{◌≡◌};
-ghost use Rattle.dmlw_commands.specs.Exits.{exit_at, exit_of, status_of};
+ghost use Rattle.dmlw_commands.specs.Ends.{exit_at, exit_of, status_of};
 
 use bio::End;
 use refusals::RunError;

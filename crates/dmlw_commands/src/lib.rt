@@ -1,11 +1,11 @@
 //! The commands of dmlw, over files and writers of any kind.
 //!
 //! - `record` runs a script of one recorder, and asks for its log to be written (`specs/Records`).
-//! - `run` does this for a script of several seats (`specs/LogRuns`).
+//! - `run` does this for a script of several seats (`specs/Records`).
 //! - `list` and `status` print what a log's image holds (`specs/Lists`).
 //! - `replay` and `copy` make an image of a log (`specs/Replays`, `specs/LogCopies`).
 //! - `judge` and `path` print whether a power failure could leave an image on a script's data disk
-//!   (`specs/Judgements`, `specs/Paths`).
+//!   (`specs/Judgements`).
 //!
 //! Each command reports its fault and returns how it ended (`specs/Ends`). `explain` has what
 //! `--explain` adds after a fault's line. The commands use the file system by `Files` of

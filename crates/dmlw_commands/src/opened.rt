@@ -3,13 +3,11 @@
 ghost use Rattle.std.specs.Prelude.{◌≡◌, ◌⊎◌, IfErr, IfOk, List, Option, false};
 ghost use Rattle.log_format.specs.declared.entry.Entry.{Entry};
 ghost use Rattle.log_reader.specs.declared.fault.LogFault.{LogFault};
-ghost use Rattle.log_reader.specs.Reader.{GivesWithin, Keeps};
+ghost use Rattle.log_reader.specs.Reader.{GivesWithin, Keeps, reader_of};
 ghost use Rattle.log_reader.specs.DiskLog.{Reads};
-ghost use Rattle.log_reader.specs.ReaderView.{reader_of};
 ghost use Rattle.refusals.specs.Errors.{memory_error};
-ghost use Rattle.dmlw_files.specs.Images.{IsImage};
-ghost use Rattle.dmlw_commands.specs.Lists.{RefusesImage};
-ghost use Rattle.dmlw_commands.specs.ImageLog.{GivesNext, Opens};
+ghost use Rattle.dmlw_files.specs.Files.{IsImage};
+ghost use Rattle.dmlw_commands.specs.Lists.{GivesNext, Opens, RefusesImage};
 
 use blockdev::laws::crashes_leave_whole_sectors;
 use log_format::{Entry, Placed};

@@ -3,13 +3,12 @@ ghost use Rattle.std.specs.Prelude.{◌≡◌, Err, IfErr, IfOk, List, OnOk, Opt
 ghost use Rattle.std.specs.Io.KnownBytes.{Appends};
 ghost use Rattle.refusals.specs.declared.refusal.Refusal.TheVariants as refusals;
 ghost use Rattle.refusals.specs.Errors.{IsFileError, refused_by};
-ghost use Rattle.dmlw_commands.specs.Ends.{Ends, ReportsLine, err_stream};
+ghost use Rattle.dmlw_commands.specs.Ends.{Ends, ReportsLine, err_stream, exit_after, exit_of};
+ghost use Rattle.dmlw_commands.specs.Ends.{fault_line};
 ghost use Rattle.dmlw_commands.specs.Seen.{seen};
 ghost use Rattle.dmlw_commands.specs.declared.exit.Exit.{Exit};
-ghost use Rattle.dmlw_commands.specs.Exits.{exit_after, exit_of, fault_line};
 ghost use Rattle.std.specs.Result.{IsErrAnd};
-ghost use Rattle.dmlw_files.specs.Files.{IsTooLong, KeepsFiles, MatchesContents};
-ghost use Rattle.dmlw_files.specs.Images.{image_of};
+ghost use Rattle.dmlw_files.specs.Files.{IsTooLong, KeepsFiles, MatchesContents, image_of};
 ghost use Rattle.dmlw_commands.specs.Records.{FailsRecording, PrintsLog, Records, end_lines};
 ghost use Rattle.dmlw_commands.specs.Records.{lies_line, of_recorder, status_line};
 

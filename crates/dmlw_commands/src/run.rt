@@ -3,14 +3,12 @@ ghost use Rattle.std.specs.Prelude.{◌≡◌, Err, IfErr, IfOk, List, OnOk, Opt
 ghost use Rattle.std.specs.Io.KnownBytes.{Appends};
 ghost use Rattle.refusals.specs.declared.refusal.Refusal.TheVariants as refusals;
 ghost use Rattle.refusals.specs.Errors.{IsFileError, refused_by};
-ghost use Rattle.dmlw_commands.specs.Ends.{Ends, ReportsLine, err_stream};
+ghost use Rattle.dmlw_commands.specs.Ends.{Ends, ReportsLine, err_stream, exit_after, fault_line};
 ghost use Rattle.dmlw_commands.specs.Seen.{seen};
 ghost use Rattle.dmlw_commands.specs.declared.exit.Exit.{Exit};
-ghost use Rattle.dmlw_commands.specs.Exits.{exit_after, fault_line};
-ghost use Rattle.dmlw_files.specs.Files.{IsTooLong, MatchesContents};
-ghost use Rattle.dmlw_files.specs.Images.{image_of};
-ghost use Rattle.dmlw_commands.specs.LogRuns.{of_seats, seat_line, seat_lines};
-ghost use Rattle.dmlw_commands.specs.Records.{FailsRecording, PrintsLog, Records};
+ghost use Rattle.dmlw_files.specs.Files.{IsTooLong, MatchesContents, image_of};
+ghost use Rattle.dmlw_commands.specs.Records.{FailsRecording, PrintsLog, Records, of_seats};
+ghost use Rattle.dmlw_commands.specs.Records.{seat_line, seat_lines};
 
 use crate::explain::explain_running;
 use crate::record::{print_end, script_text};

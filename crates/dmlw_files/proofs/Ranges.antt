@@ -1,8 +1,8 @@
 -- The pieces of a disk's image, one after another, are the image.
-use Rattle.std.proofs.Common.{◌≡◌, ◌∙◌, ℕ, zero, suc, ◌+◌, ◌++◌, List, Option, None}
-use Rattle.std.proofs.Common.{Some, ap, arith, sym}
+use Rattle.std.proofs.Common.{Some, ap, arith, sym, ◌≡◌, ◌∙◌, ℕ, zero, suc, ◌+◌, ◌++◌, List, Option}
+use Rattle.std.proofs.Common.{None}
 use Rattle.std.proofs.lemmas.List.{append_assoc, append-nil}
-use Rattle.std.specs.Io.KnownBytes.{Appends}
+use Rattle.std.specs.Io.KnownBytes.{Appends, Consumes}
 use Rattle.bio.specs.Content.{Content, gather}
 
 -- two ranges, of which one begins where the other ends, have the bytes of both
@@ -39,3 +39,14 @@ written_more c d (Some a) (Some b)
     (before ∙ ap (λ (n : ℕ). a ++ gather c 0 n) begins)
     ∙ append_assoc a (gather c 0 first) (gather c first size)
     ∙ ap (λ (xs : List ℕ). a ++ xs) (sym (gather_joined c first size) ∙ ap (gather c 0) ends)
+
+-- What several reads take from a reader.
+
+-- some bytes were read, and then others
+pub consumed_more : (old middle new : Option (List ℕ)) (first next : List ℕ)
+    → Consumes old middle first → Consumes middle new next → Consumes old new (first ++ next)
+consumed_more None middle new first next before after = tt
+consumed_more (Some rest) None new first next before after = absurd before
+consumed_more (Some rest) (Some left) None first next before after = absurd after
+consumed_more (Some rest) (Some left) (Some last) first next before after =
+    before ∙ ap (λ xs. first ++ xs) after ∙ sym (append_assoc first next last)

@@ -2,9 +2,8 @@
 ghost use Rattle.std.specs.Prelude.{◌≡◌, ◌≤◌, Bool, IfErr, IfOk, List, OnErr, OnOk, Option, false};
 ghost use Rattle.std.specs.Prelude.{is_some, length, true, ℕ};
 ghost use Rattle.refusals.specs.Errors.{refused_by};
-ghost use Rattle.dmlw_files.specs.Files.{IsWithin, KeepsFiles, MatchesContents, Write, one_more};
-ghost use Rattle.dmlw_files.specs.FileErrors.{file_error, file_refusal};
-ghost use Rattle.dmlw_files.specs.Images.{image_of};
+ghost use Rattle.dmlw_files.specs.Files.{IsWithin, KeepsFiles, MatchesContents, Write, file_error};
+ghost use Rattle.dmlw_files.specs.Files.{file_refusal, image_of, one_more};
 
 use refusals::{Refusal, RunError};
 use sector_disk::{Image, SectorDisk};

@@ -1,8 +1,7 @@
 //! Reads an image from a file: whole sectors, at most 512 MiB.
 ghost use Rattle.std.specs.Prelude.{◌≡◌, IfErr, IfOk};
 ghost use Rattle.refusals.specs.Errors.{IsFileError, memory_error};
-ghost use Rattle.dmlw_files.specs.Files.{KeepsFiles, MatchesContents};
-ghost use Rattle.dmlw_files.specs.Images.{HoldsImage, IsImage};
+ghost use Rattle.dmlw_files.specs.Files.{HoldsImage, IsImage, KeepsFiles, MatchesContents};
 
 use crate::files::Files;
 use bio::SECTOR_BYTES;
@@ -16,7 +15,7 @@ pub const MAX_IMAGE_BYTES: u64 = 536_870_912;
 /// Reads the image in the file `name`: whole sectors of 512 bytes, at least one and at most 512
 /// MiB. A file that holds no image, or can't be read, is refused with `File`. If the file is known
 /// to hold an image, the call fails only if memory runs out.
-#[tactic(auto, using(crate::specs::Images::image_within, crate::specs::Images::image_read))]
+#[tactic(auto, using(crate::specs::Files::image_within, crate::specs::Files::image_read))]
 pub fn read_image<F: Files>(alloc: Global, name: &str, files: &mut F) -> Result<Image, RunError>
     ensures contents { IfOk result
         (λ image. MatchesContents (F.contents files.old name.now) image) }

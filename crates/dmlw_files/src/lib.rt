@@ -2,7 +2,7 @@
 //!
 //! `Files` is a command's access to files by name (`specs/Files`). `HostFiles` is the files of the
 //! operating system; nothing is proved about their contents. `read_text` and `read_image` read
-//! scripts and images, and check their sizes (`specs/Images`). `Output` is a writer whose reader
+//! scripts and images, and check their sizes (`specs/Files`). `Output` is a writer whose reader
 //! may go away. A `Session` has the files and streams of a command.
 #![tactic(auto)]
 

@@ -16,8 +16,8 @@ use Rattle.std.proofs.lemmas.Slice.Eq.{bytes_eq-Decides}
 use Rattle.std.proofs.Math.Seq.{get_or-append_seam}
 use Rattle.std.proofs.lemmas.Option.{cond_some}
 use Rattle.bio.specs.declared.request.BadBio.{BadBio}
-use Rattle.bio.specs.declared.sector_size.SectorSize.{SectorSize}
-use Rattle.bio.specs.Sizes.{bytes_of}
+use Rattle.bio.specs.declared.request.SectorSize.{SectorSize}
+use Rattle.bio.specs.Requests.{bytes_of}
 use Rattle.refusals.specs.declared.refusal.Refusal.{Refusal}
 use Rattle.refusals.specs.declared.refusal.Refusal.TheVariants.{BadId}
 use Rattle.dmlw_script.specs.declared.command.Command.{Command}
@@ -33,14 +33,14 @@ use Rattle.dmlw_script.specs.declared.command.Submission.{Submission}
 use Rattle.dmlw_script.specs.inside.Stages as heads
 use Rattle.dmlw_script.specs.inside.Drafts.{body_step, ended_next, named_next, as_refusal}
 use Rattle.dmlw_script.specs.inside.Drafts.{step_test, with_command, with_name, Body}
-use Rattle.dmlw_script.specs.Ids.{script_id, same_name}
+use Rattle.dmlw_script.specs.Words.{script_id, same_name}
 use Rattle.dmlw_script.specs.Plans.{count_after_command, lines_of_body, is_ended, is_submission}
 use Rattle.dmlw_script.specs.Plans.{name_at, request_of, line_at, time_after, step_answer}
 use Rattle.dmlw_script.specs.Plans.{submission_answer, submissions, top_of, Disk, HasLineText}
 use Rattle.dmlw_script.specs.Plans.{IsInTime, IsName, IsWellFormed, CanFollow, WritesByte}
 use Rattle.dmlw_script.specs.inside.Readers.{parsed_step, Progress}
 use Rattle.dmlw_script.proofs.DraftLemmas.{listed, with_new_name}
-use Rattle.dmlw_script.proofs.FoldLaws.{all_append, barred_ok, bind_at, bind_ok, fold}
+use Rattle.dmlw_script.proofs.ReaderLaws.{all_append, barred_ok, bind_at, bind_ok, fold}
 
 -- ---- names
 

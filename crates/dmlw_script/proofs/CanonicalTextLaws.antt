@@ -1,56 +1,60 @@
 -- The canonical text of a script is a text of the script, and lines with line feeds make a text.
 -- Serves the laws `each_script_has_a_text` and `lines_make_a_text`.
-use Rattle.std.proofs.Common.{◌≡◌, ◌≢◌, ℕ, ◌+◌, ◌^◌, ◌<◌, ◌≤◌, Bool, true, false}
-use Rattle.std.proofs.Common.{not, ◌&&◌, cond, List, [], ◌∷◌, ◌++◌, length, Option, Some, None, Ok}
-use Rattle.std.proofs.Common.{refl, ap, ◌∙◌, sym, arith, append_assoc}
+use Rattle.std.proofs.Common.{refl, ap, ◌∙◌, sym, subst, arith, append_assoc, not, ◌&&◌, cond, List}
+use Rattle.std.proofs.Common.{[], ◌∷◌, ◌++◌, length, Option, Some, None, Ok, ◌≡◌, ◌≢◌, ℕ, ◌+◌, ◌^◌}
+use Rattle.std.proofs.Common.{◌<◌, ◌≤◌, Bool, true, false}
 use Rattle.std.specs.Prelude.{◌==◌, flat_map, map, nat_lt, unwrap_or}
-use Rattle.std.specs.List.{join_with_byte, AllByRecursion}
 use Rattle.std.proofs.lemmas.Bool.Decides.{nat_tests}
 use Rattle.std.proofs.lemmas.List.Elements.{All-from_recursion}
-use Rattle.bio.specs.Sizes.{bytes_of}
-use Rattle.bio.specs.declared.sector_size.SectorSize.{SectorSize}
-use Rattle.bio.specs.declared.sector_size.SectorSize.TheVariants as sizes
-use Rattle.dmlw_script.specs.declared.command.Command.{Command}
-use Rattle.dmlw_script.specs.declared.command.Command.TheVariants as commands
-use Rattle.dmlw_script.specs.declared.disk_name.DiskName.{DiskName}
-use Rattle.dmlw_script.specs.declared.disk_name.DiskName.TheVariants as disks
-use Rattle.dmlw_script.specs.declared.script_id.ScriptId.{ScriptId}
-use Rattle.dmlw_script.specs.LineMeaning.{LineMeaning}
-use Rattle.dmlw_script.specs.LineMeaning as parsed_lines
-use Rattle.dmlw_script.specs.declared.line.HeadLine.TheVariants as head_lines
-use Rattle.dmlw_script.specs.declared.line.BodyLine.TheVariants as body_lines
-use Rattle.dmlw_script.specs.declared.command.Submission.{Submission}
-use Rattle.dmlw_script.specs.Fields.{fields_of, head_fields, layer_word, number}
-use Rattle.dmlw_script.specs.Fields.{text_of, Fields, Given}
-use Rattle.dmlw_script.specs.Fields.{IsLineWith}
-use Rattle.dmlw_script.specs.Grammar.{IsTextOf}
-use Rattle.dmlw_script.specs.Lines.{with_line_feeds, is_line_byte, is_skipped, lines_of}
-use Rattle.dmlw_script.specs.Lines.{IsUnbroken}
-use Rattle.dmlw_script.specs.Ids.{script_id}
-use Rattle.dmlw_script.specs.Plans.{ArePicks, CanFollow, count_after_command, head_of, layer_line}
-use Rattle.dmlw_script.specs.Plans.{line_at, lines_after_head, lines_of_body, name_at}
-use Rattle.dmlw_script.specs.Plans.{lines_of_script}
-use Rattle.dmlw_script.specs.Plans.{submissions, top_of, with_ending, Disk, IsDisk}
-use Rattle.dmlw_script.specs.Plans.{IsName, IsWellFormed, IsPlan, ScriptValue}
-use Rattle.dmlw_script.specs.CanonicalText.{canonical_text}
-use Rattle.layer_table.specs.LineLaws.{printed_again}
-use Rattle.layer_table.specs.Ranges.{IsLayerSpec, IsTargetInRange}
-use Rattle.layer_table.specs.Texts as table_texts
-use Rattle.layer_table.specs.Texts.{feature_words, set_words, target_words}
-use Rattle.fault_layers.specs.declared.feature.Feature.{Feature}
-use Rattle.fault_layers.specs.declared.feature.Feature.TheVariants as features
-use Rattle.layer_table.specs.declared.layer_spec.LayerSpec.{LayerSpec}
+use Rattle.std.specs.List.{join_with_byte, AllByRecursion}
+use Rattle.bio.specs.declared.request.SectorSize.{SectorSize}
+use Rattle.bio.specs.declared.request.SectorSize.TheVariants as sizes
+use Rattle.bio.specs.Requests.{bytes_of}
+use Rattle.fault_layers.specs.declared.target.Feature.{Feature}
+use Rattle.fault_layers.specs.declared.target.Feature.TheVariants as features
 use Rattle.fault_layers.specs.declared.target.Target.{Target}
 use Rattle.fault_layers.specs.declared.target.Target.TheVariants as targets
-use Rattle.dmlw_script.proofs.DiskLaws.{disk_small, layer_specs, top_small}
-use Rattle.dmlw_script.proofs.FieldLaws.{line_number, line_text_append, text_good, text_has, Fits}
-use Rattle.dmlw_script.proofs.FieldLaws.{FitsLine, FitsWord, IsLineText}
-use Rattle.dmlw_script.proofs.FoldLaws.{all_append, all_map, tells_said, Tells}
-use Rattle.dmlw_script.proofs.BodyLaws.{count_after_command-is, submissions-cons}
-use Rattle.dmlw_script.proofs.BodyLaws.{submissions-push}
-use Rattle.dmlw_script.proofs.WordLaws.{all_weaker, cut_alone, cut_word, lacks}
+use Rattle.layer_table.specs.declared.layer_spec.LayerSpec.{LayerSpec}
+use Rattle.layer_table.specs.LineLaws.{printed_again}
+use Rattle.layer_table.specs.TableLines.{IsLayerSpec, IsTargetInRange, feature_words, set_words}
+use Rattle.layer_table.specs.TableLines.{target_words}
+use Rattle.layer_table.specs.TableLines as table_texts
+use Rattle.dmlw_script.proofs.BodyLaws.{count_after_command-is, submissions-cons, submissions-push}
+use Rattle.dmlw_script.proofs.HeadLaws.{disk_small, layer_specs, top_small}
+use Rattle.dmlw_script.proofs.Spelling.{line_text_append, text_good, text_has, Fits, FitsLine}
+use Rattle.dmlw_script.proofs.Spelling.{FitsWord, IsLineText, line_number}
+use Rattle.dmlw_script.proofs.ReaderLaws.{one_script, all_append, all_map, tells_said, Tells}
+use Rattle.dmlw_script.proofs.WordLaws.{after_line, all_weaker, cut_alone, cut_word, first_line}
+use Rattle.dmlw_script.proofs.WordLaws.{lacks}
 use Rattle.dmlw_script.proofs.LineParserLaws.{said_kept, step_fits, submission_fits}
-use Rattle.dmlw_script.proofs.LineLemmas.{after_line, first_line}
+use Rattle.dmlw_script.proofs.RunLaws.{run_said_kept, runner}
+use Rattle.dmlw_script.specs.declared.command.Command.{Command}
+use Rattle.dmlw_script.specs.declared.command.Command.TheVariants as commands
+use Rattle.dmlw_script.specs.declared.command.Submission.{Submission}
+use Rattle.dmlw_script.specs.declared.command.DiskName.{DiskName}
+use Rattle.dmlw_script.specs.declared.command.DiskName.TheVariants as disks
+use Rattle.dmlw_script.specs.declared.line.BodyLine.TheVariants as body_lines
+use Rattle.dmlw_script.specs.declared.line.HeadLine.TheVariants as head_lines
+use Rattle.dmlw_script.specs.declared.run_line.RunLine.{RunLine}
+use Rattle.dmlw_script.specs.declared.run_line.RunLine.TheVariants as run_lines
+use Rattle.dmlw_script.specs.declared.script_id.ScriptId.{ScriptId}
+use Rattle.dmlw_script.specs.declared.run_line.Call.{Call}
+use Rattle.dmlw_script.specs.declared.run_line.Call.TheVariants as calls
+use Rattle.dmlw_script.specs.declared.run_line.SeatCall.{SeatCall}
+use Rattle.dmlw_script.specs.Fields.{all_of, call_fields, run_fields, IsLineWith, text_of, Fields}
+use Rattle.dmlw_script.specs.Fields.{Given, fields_of, head_fields, layer_word, number}
+use Rattle.dmlw_script.specs.Grammar.{IsRunText, IsTextOf, canonical_text, run_text}
+use Rattle.dmlw_script.specs.LineMeaning.{LineMeaning}
+use Rattle.dmlw_script.specs.LineMeaning as parsed_lines
+use Rattle.dmlw_script.specs.Words.{script_id, IsUnbroken, with_line_feeds, is_line_byte}
+use Rattle.dmlw_script.specs.Words.{is_skipped, lines_of}
+use Rattle.dmlw_script.specs.Plans.{IsName, IsWellFormed, IsPlan, ScriptValue, submissions, top_of}
+use Rattle.dmlw_script.specs.Plans.{with_ending, Disk, IsDisk, ArePicks, CanFollow}
+use Rattle.dmlw_script.specs.Plans.{count_after_command, head_of, layer_line, line_at}
+use Rattle.dmlw_script.specs.Plans.{lines_after_head, lines_of_body, lines_of_script, name_at}
+use Rattle.dmlw_script.specs.RunPlans.{RunPlan, IsAllowed as SeatCanStand, FitsLine as CallFits}
+use Rattle.dmlw_script.specs.RunPlans.{IsRunPlan, call_answer, data_layer, lines_of_run, log_layer}
+use Rattle.dmlw_script.specs.RunPlans.{run_head}
 
 -- ---- lines
 
@@ -299,3 +303,94 @@ pub ended_but_last : (lines : List (List ℕ)) (last : List ℕ) → AllByRecurs
 ended_but_last [] last whole unbroken some = fed_last last unbroken some
 ended_but_last (line ∷ lines) last whole unbroken some =
     grind (arith, ended_but_last lines last whole.1 unbroken some, append_assoc, fed_line)
+
+-- The canonical text of a run's script is a text of the script. A text is the text of at most one
+-- run's script.
+
+-- ---- each script has a text
+
+-- what can be written of what a run's line says
+abbrev IsRunWritten : RunLine → Type 0
+IsRunWritten said = IsWrittenAs run_fields said
+
+run_written_as : (said : RunLine) → FitsLine (run_fields said) → IsRunWritten said
+run_written_as said fits = written_as run_fields said fits
+
+-- each call that may stand in a script can be written
+call_fits : (bytes sectors : ℕ) (call : Call) → sectors ≤ 1048576
+    → call_answer bytes sectors call ≡ Ok tt → CallFits call → Fits (all_of (call_fields call))
+call_fits bytes sectors (calls.Submit submission) small passes fits = grind (arith, submission_fits)
+call_fits bytes sectors (calls.Mark text) small passes good = ((refl, refl), good)
+
+-- the line of a call
+seat_call_written : (bytes sectors seats : ℕ) (said : SeatCall) → sectors ≤ 1048576 → seats ≤ 64
+    → SeatCanStand bytes sectors seats said
+    → IsRunWritten (run_lines.Body said)
+seat_call_written bytes sectors seats said small few stands =
+    let below : said.seat < seats = stands.seat in
+    run_written_as (run_lines.Body said) (record {
+      first = omega (arith, below, few);
+      others = call_fits bytes sectors said.call small stands.tested stands.spelled;
+    })
+
+-- each line of a head can be written
+run_head_written : (plan : RunPlan) → IsRunPlan plan → AllByRecursion IsRunWritten (run_head plan)
+run_head_written plan is =
+    let few : plan.seats ≤ 64 = is.few_seats in
+    let is_data : IsDisk plan.data_disk = is.data_disk in
+    let is_log : IsDisk plan.log_disk = is.log_disk in
+    let layers =
+    all_append IsRunWritten (map data_layer plan.data_disk.layers)
+    (map log_layer plan.log_disk.layers)
+    (all_map IsLayerSpec IsRunWritten data_layer
+    (λ spec is. run_written_as _ (layer_fits disks.Data spec is))
+    plan.data_disk.layers (layer_specs plan.data_disk.sectors plan.data_disk.layers is_data.stand))
+    (all_map IsLayerSpec IsRunWritten log_layer
+    (λ spec is. run_written_as _ (layer_fits disks.Log spec is))
+    plan.log_disk.layers (layer_specs plan.log_disk.sectors plan.log_disk.layers is_log.stand)) in
+    let first =
+    run_written_as _ (data_fits plan.data_disk.sectors
+    (omega (arith, disk_small plan.data_disk is_data))) in
+    let second =
+    run_written_as _ (log_fits plan.log_disk.sectors plan.log_size
+    (omega (arith, disk_small plan.log_disk is_log))) in
+    let low : plan.seats < 2 ^ 64 = omega (arith, few) in
+    let third =
+    run_written_as (run_lines.Seats plan.seats)
+    (record { first = (refl, refl); others = (low, tt) }) in
+    (first, (second, (third, layers)))
+
+-- each line of a script can be written
+run_written : (plan : RunPlan) → IsRunPlan plan → AllByRecursion IsRunWritten (lines_of_run plan)
+run_written plan is =
+    let is_data : IsDisk plan.data_disk = is.data_disk in
+    let small : top_of plan.data_disk ≤ 1048576 =
+    top_small plan.data_disk.sectors plan.data_disk.layers is_data.stand
+    (disk_small plan.data_disk is_data) in
+    all_append IsRunWritten (run_head plan) (map run_lines.Body plan.calls)
+    (run_head_written plan is)
+    (all_map (SeatCanStand (bytes_of plan.log_size) (top_of plan.data_disk) plan.seats) IsRunWritten
+    run_lines.Body (λ said stands. seat_call_written (bytes_of plan.log_size)
+    (top_of plan.data_disk) plan.seats said small is.few_seats stands) plan.calls is.calls)
+
+-- the spelling of a script is a text of it
+pub run_text_is : (plan : RunPlan) → IsRunPlan plan → IsRunText (run_text plan) plan
+run_text_is plan is =
+    let written =
+    written_text run_fields run_said_kept (lines_of_run plan) (run_written plan is) in
+    record { plain = written.plain; says = written.says; script = is }
+
+-- ---- a text is one script's at most
+
+-- a text is one script's at most
+pub one_run_script_of : (text : List ℕ) (plan other : RunPlan) → IsRunText text plan
+    → IsRunText text other → plan ≡ other
+one_run_script_of text plan other is again =
+    one_script runner (lines_of text) plan other is again
+
+-- scripts of one spelling are one
+pub same_from_run_text : (plan other : RunPlan) → IsRunPlan plan → IsRunPlan other
+    → run_text plan ≡ run_text other → plan ≡ other
+same_from_run_text plan other is_plan is_other same =
+    one_run_script_of (run_text plan) plan other (run_text_is plan is_plan)
+    (subst (λ (text : List ℕ). IsRunText text other) (sym same) (run_text_is other is_other))

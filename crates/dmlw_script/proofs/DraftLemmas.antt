@@ -13,7 +13,7 @@ use Rattle.std.proofs.lemmas.List.{length-append, length-set}
 use Rattle.dmlw_script.specs.declared.command.Command.{Command}
 use Rattle.dmlw_script.specs.declared.command.Command.TheVariants as commands
 use Rattle.dmlw_script.specs.inside.Drafts.{with_name, Body, IsFlags}
-use Rattle.dmlw_script.specs.Ids.{same_name}
+use Rattle.dmlw_script.specs.Words.{same_name}
 use Rattle.dmlw_script.specs.Plans.{is_end_of, is_ended, time_at, time_from, request_of}
 use Rattle.dmlw_script.specs.declared.script_id.ScriptId.{ScriptId}
 use Rattle.refusals.specs.declared.refusal.Refusal.TheVariants.{BadId}

@@ -1,29 +1,31 @@
 -- Examples of the definitions about lines, disks and scripts, each proved by computation.
-use Rattle.std.proofs.Common.{◌≡◌, ℕ, Bool, true, false, None, Some, List, [], ◌∷◌, Err, Ok}
-use Rattle.std.proofs.Common.{refl, arith}
+use Rattle.std.proofs.Common.{refl, arith, ◌≡◌, ℕ, Bool, true, false, None, Some, List, [], ◌∷◌}
+use Rattle.std.proofs.Common.{Err, Ok}
 use Rattle.std.specs.Prelude.{◌≤◌, ◌++◌, codes, decimal}
-use Rattle.layer_table.specs.declared.layer_spec.LayerSpec.{LayerSpec}
-use Rattle.fault_layers.specs.declared.target.Target.TheVariants as targets
-use Rattle.bio.specs.declared.request.BadBio.TheVariants.{Unaligned}
 use Rattle.refusals.specs.declared.refusal.Refusal.TheVariants.{BadLine, OutOfRange}
-use Rattle.dmlw_script.specs.LineMeaning as parsed_lines
-use Rattle.dmlw_script.specs.declared.line.HeadLine.TheVariants as head_lines
-use Rattle.bio.specs.declared.sector_size.SectorSize.TheVariants as sizes
-use Rattle.dmlw_script.specs.declared.disk_name.DiskName.TheVariants as disks
+use Rattle.bio.specs.declared.request.BadBio.TheVariants.{Unaligned}
+use Rattle.bio.specs.declared.request.SectorSize.TheVariants as sizes
+use Rattle.fault_layers.specs.declared.target.Target.TheVariants as targets
+use Rattle.layer_table.specs.declared.layer_spec.LayerSpec.{LayerSpec}
 use Rattle.dmlw_script.specs.declared.command.Command.TheVariants as commands
-use Rattle.dmlw_script.specs.declared.command.Submission.TheVariants as submits
 use Rattle.dmlw_script.specs.declared.command.Step.TheVariants as steps
+use Rattle.dmlw_script.specs.declared.command.Submission.TheVariants as submits
 use Rattle.dmlw_script.specs.declared.command.WriteOptions.{WriteOptions}
-use Rattle.dmlw_script.specs.CanonicalText.{line_text}
-use Rattle.dmlw_script.specs.Plans.{head_count, is_log_disk_size, is_within, layer_line}
-use Rattle.dmlw_script.specs.Plans.{time_after, range_test, top_of, Disk}
-use Rattle.dmlw_script.specs.Plans.{IsInTime, IsPlan, ScriptValue}
-use Rattle.dmlw_script.specs.FirstFault.{bare, data_due, head_refusal, in_body, in_head}
-use Rattle.dmlw_script.specs.FirstFault.{prefix_after, MayFollowInScript}
+use Rattle.dmlw_script.specs.declared.command.DiskName.TheVariants as disks
+use Rattle.dmlw_script.specs.declared.line.HeadLine.TheVariants as head_lines
+use Rattle.dmlw_script.specs.declared.run_line.RunLine.TheVariants.{Body}
+use Rattle.dmlw_script.specs.declared.run_line.Call.TheVariants.{Submit, Mark}
 use Rattle.dmlw_script.specs.Fields.{option_fields, text_after}
-use Rattle.dmlw_script.specs.Ids.{script_id}
-use Rattle.dmlw_script.specs.Lines.{is_line_text}
-use Rattle.dmlw_script.specs.inside.LineParser.{parse_line, step, submit}
+use Rattle.dmlw_script.specs.FirstFault.{prefix_after, MayFollowInScript, bare, data_due}
+use Rattle.dmlw_script.specs.FirstFault.{head_refusal, in_body, in_head}
+use Rattle.dmlw_script.specs.Grammar.{line_text}
+use Rattle.dmlw_script.specs.inside.LineParser.{parse_line, parse_run_line, step, submit}
+use Rattle.dmlw_script.specs.inside.Readers.{read_run_text}
+use Rattle.dmlw_script.specs.LineMeaning as parsed_lines
+use Rattle.dmlw_script.specs.Words.{is_line_text, script_id}
+use Rattle.dmlw_script.specs.Plans.{IsInTime, IsPlan, ScriptValue, time_after, range_test, top_of}
+use Rattle.dmlw_script.specs.Plans.{Disk, head_count, is_log_disk_size, is_within, layer_line}
+use Rattle.dmlw_script.specs.RunPlans.{IsRunPlan, RunPlan}
 
 -- a write that asks for this
 abbrev asks_for : Bool → Bool → Bool → WriteOptions
@@ -178,3 +180,41 @@ long_log_layer = refl
 -- what has a top of 7 sectors isn't a script
 no_room_on_top : IsPlan (large (linear 8 8 ∷ linear 7 0 ∷ [])) → ⊥
 no_room_on_top is = absurd (let room : 8 ≤ 7 = is.room in omega arith)
+
+-- Examples of run's scripts: the meanings of some lines and texts, and which values are scripts.
+
+-- a mark's text is all after one space, and a seat alone says nothing
+reads_mark : parse_run_line (codes "s0 mark  two  spaces ")
+    ≡ Some (Body (record { seat = 0; call = Mark (codes " two  spaces ") }))
+reads_mark = refl
+
+lone_seat : parse_run_line (codes "s0") ≡ None
+lone_seat = refl
+
+-- a script of two seats, of which this one flushes
+abbrev flushes : ℕ → RunPlan
+flushes seat = record {
+  data_disk = bare 16;
+  log_disk = bare 64;
+  log_size = sizes.B512;
+  seats = 2;
+  calls = (record { seat = seat; call = Submit submits.Flush }) ∷ [];
+}
+
+-- the head of its text
+abbrev head : List ℕ
+head = codes "data 16\nlog 64\nseats 2\n"
+
+-- the last seat is one less than their number
+last_seat : read_run_text (head ++ codes "s1 f\n") ≡ Ok (flushes 1)
+last_seat = refl
+
+no_such_seat : read_run_text (head ++ codes "s0 f\ns2 f\n")
+    ≡ Err (record { line = Some 5; refusal = BadLine })
+no_such_seat = refl
+
+second_flushes : IsRunPlan (flushes 1)
+second_flushes = grind arith
+
+third_of_two : IsRunPlan (flushes 2) → ⊥
+third_of_two is = let first = is.calls.0 in absurd (let below = first.seat in omega arith)

@@ -6,16 +6,16 @@ use Rattle.std.specs.Prelude.{Result, IfErr}
 use Rattle.std.specs.List.{AllZip}
 use Rattle.std.proofs.lemmas.Bool.{cases_lt}
 use Rattle.std.proofs.lemmas.List.{append-nil}
-use Rattle.refusals.specs.declared.fault.Fault.{Fault}
+use Rattle.refusals.specs.declared.run_error.Fault.{Fault}
 use Rattle.refusals.specs.declared.refusal.Refusal.{Refusal}
 use Rattle.refusals.specs.declared.refusal.Refusal.TheVariants.{BadLine}
-use Rattle.dmlw_script.specs.Lines.{is_ascii_line, is_skipped, unskipped}
+use Rattle.dmlw_script.specs.Words.{is_ascii_line, is_skipped, unskipped}
 use Rattle.dmlw_script.specs.FirstFault.{is_memory}
 use Rattle.dmlw_script.specs.inside.Readers.{and_then, at_line, read_by, step_if, IsFault, Reads}
-use Rattle.dmlw_script.proofs.FoldLaws.{memory_is, reads_on, stopped, StopsAt}
-use Rattle.dmlw_script.proofs.ReaderLaws.{kept_line, lines_spell, one_said, one_script, one_told}
-use Rattle.dmlw_script.proofs.ReaderLaws.{reached, skipped_line, strange_line, reached_spells}
-use Rattle.dmlw_script.proofs.ReaderLaws.{reads, spelled_lines, takes, Reached, Reader}
+use Rattle.dmlw_script.proofs.ReaderLaws.{reads, spelled_lines, takes, Reached, Reader, reached}
+use Rattle.dmlw_script.proofs.ReaderLaws.{skipped_line, strange_line, reached_spells, kept_line}
+use Rattle.dmlw_script.proofs.ReaderLaws.{lines_spell, one_said, one_script, one_told, memory_is}
+use Rattle.dmlw_script.proofs.ReaderLaws.{reads_on, stopped, StopsAt}
 
 -- ---- lines in two parts
 

@@ -11,10 +11,10 @@ use Rattle.std.proofs.lemmas.Bool.{cases_Bool, cond-true}
 use Rattle.std.proofs.lemmas.Bool.{eqb-true}
 use Rattle.std.proofs.lemmas.Slice.Eq.{bytes_eq-Decides}
 use Rattle.std.proofs.lemmas.Option.{cond_some}
-use Rattle.bio.specs.declared.sector_size.SectorSize.{SectorSize}
-use Rattle.bio.specs.declared.sector_size.SectorSize.TheVariants as sizes
-use Rattle.dmlw_script.specs.declared.disk_name.DiskName.{DiskName}
-use Rattle.dmlw_script.specs.declared.disk_name.DiskName.TheVariants as disks
+use Rattle.bio.specs.declared.request.SectorSize.{SectorSize}
+use Rattle.bio.specs.declared.request.SectorSize.TheVariants as sizes
+use Rattle.dmlw_script.specs.declared.command.DiskName.{DiskName}
+use Rattle.dmlw_script.specs.declared.command.DiskName.TheVariants as disks
 use Rattle.dmlw_script.specs.declared.script_id.ScriptId.{ScriptId}
 use Rattle.dmlw_script.specs.LineMeaning.{LineMeaning}
 use Rattle.dmlw_script.specs.LineMeaning as parsed_lines
@@ -30,31 +30,26 @@ use Rattle.dmlw_script.specs.Fields.{size_fields, submission_fields, submission_
 use Rattle.dmlw_script.specs.Fields.{Field, Given, HasFields, IsWord, Name, Number, One, Says, Text}
 use Rattle.dmlw_script.specs.Fields.{Word}
 use Rattle.dmlw_script.specs.Grammar.{ParsesAs}
-use Rattle.dmlw_script.specs.Lines.{is_line_text, is_skipped}
-use Rattle.dmlw_script.specs.Ids.{id_of_word}
+use Rattle.dmlw_script.specs.Words.{byte_of, id_of_word, is_line_text, is_skipped}
 use Rattle.dmlw_script.specs.inside.LineParser.{◌>>=◌, body_words, disk_of_word, found_options}
 use Rattle.dmlw_script.specs.inside.LineParser.{head_words, layer_of, log_of, mark_of}
 use Rattle.dmlw_script.specs.inside.LineParser.{message_of, options_of, parse_line, parse_parts}
 use Rattle.dmlw_script.specs.inside.LineParser.{picks_of, plain_parts, sectors_of, size_of, step}
 use Rattle.dmlw_script.specs.inside.LineParser.{submission_of, submit, submit_of, take_word}
 use Rattle.dmlw_script.specs.inside.LineParser.{with_number, write_words}
-use Rattle.dmlw_script.specs.Words.{byte_of}
-use Rattle.dmlw_script.proofs.PickLaws.{picks_first}
+use Rattle.dmlw_script.proofs.WordLaws.{before_all, bind_at, bind_some, cut_alone, first_some}
+use Rattle.dmlw_script.proofs.WordLaws.{id_lacks_space, lacks, map_some, number_lacks_space}
+use Rattle.dmlw_script.proofs.WordLaws.{picks_first, same_bytes, same_some, verb_read}
 use Rattle.refusals.specs.Words.{after_byte, before_byte, number_of}
 use Rattle.std.proofs.Common.{◌^◌, ◌≤◌, Ok}
 use Rattle.std.proofs.lemmas.Bool.{ltb-false}
-use Rattle.bio.specs.SizeLaws.{sized_passed}
+use Rattle.bio.specs.RequestLaws.{sized_passed}
 use Rattle.dmlw_script.specs.declared.command.Step.{Step}
 use Rattle.dmlw_script.specs.Fields.{step_fields}
 use Rattle.dmlw_script.specs.Plans.{range_test, step_answer, submission_answer, HasLineText}
 use Rattle.dmlw_script.specs.Plans.{WritesByte}
-use Rattle.dmlw_script.proofs.FieldLaws.{Fits, FitsLine, FitsWord}
-use Rattle.dmlw_script.proofs.FoldLaws.{barred_ok}
-use Rattle.dmlw_script.proofs.WordLaws.{before_all, bind_at, bind_some}
-use Rattle.dmlw_script.proofs.WordLaws.{cut_alone}
-use Rattle.dmlw_script.proofs.WordLaws.{first_some, id_lacks_space}
-use Rattle.dmlw_script.proofs.WordLaws.{lacks, map_some, number_lacks_space, same_bytes, same_some}
-use Rattle.dmlw_script.proofs.WordLaws.{verb_read}
+use Rattle.dmlw_script.proofs.Spelling.{Fits, FitsLine, FitsWord}
+use Rattle.dmlw_script.proofs.ReaderLaws.{barred_ok}
 
 -- ---- fields that are left
 

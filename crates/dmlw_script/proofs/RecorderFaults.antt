@@ -6,9 +6,9 @@ use Rattle.std.specs.Prelude.{Result, codes}
 use Rattle.std.specs.List.{list_any}
 use Rattle.std.proofs.lemmas.Bool.{cond-true, cond-false, cases_Bool, ltb-true}
 use Rattle.bio.specs.declared.request.BadBio.{BadBio}
-use Rattle.bio.specs.declared.sector_size.SectorSize.{SectorSize}
-use Rattle.bio.specs.declared.sector_size.SectorSize.TheVariants as sizes
-use Rattle.bio.specs.Sizes.{bytes_of}
+use Rattle.bio.specs.declared.request.SectorSize.{SectorSize}
+use Rattle.bio.specs.declared.request.SectorSize.TheVariants as sizes
+use Rattle.bio.specs.Requests.{bytes_of}
 use Rattle.refusals.specs.declared.refusal.Refusal.{Refusal}
 use Rattle.refusals.specs.declared.refusal.Refusal.TheVariants.{BadLine}
 use Rattle.layer_table.specs.declared.layer_spec.LayerSpec.{LayerSpec}
@@ -17,8 +17,8 @@ use Rattle.dmlw_script.specs.declared.command.Command.{Command}
 use Rattle.dmlw_script.specs.declared.command.Command.TheVariants as commands
 use Rattle.dmlw_script.specs.declared.command.Step.{Step}
 use Rattle.dmlw_script.specs.declared.command.Step.TheVariants as steps
-use Rattle.dmlw_script.specs.declared.disk_name.DiskName.{DiskName}
-use Rattle.dmlw_script.specs.declared.disk_name.DiskName.TheVariants as disks
+use Rattle.dmlw_script.specs.declared.command.DiskName.{DiskName}
+use Rattle.dmlw_script.specs.declared.command.DiskName.TheVariants as disks
 use Rattle.dmlw_script.specs.declared.script_id.ScriptId.{ScriptId}
 use Rattle.dmlw_script.specs.LineMeaning.{LineMeaning}
 use Rattle.dmlw_script.specs.LineMeaning as parsed_lines
@@ -33,7 +33,7 @@ use Rattle.dmlw_script.specs.inside.Heads.{head_step}
 use Rattle.dmlw_script.specs.inside.Drafts.{◌>>=◌, body_step, ended_next, named_next, as_refusal}
 use Rattle.dmlw_script.specs.inside.Drafts.{step_test, with_command, Body}
 use Rattle.dmlw_script.specs.Grammar.{AreLinesOf}
-use Rattle.dmlw_script.specs.Ids.{same_name}
+use Rattle.dmlw_script.specs.Words.{same_name}
 use Rattle.dmlw_script.specs.Plans.{disk_of, least_sectors, time_after, request_of}
 use Rattle.dmlw_script.specs.Plans.{step_answer, submission_answer, top_of, Disk, ScriptValue}
 use Rattle.dmlw_script.specs.Plans.{head_of, layer_line, lines_of_body, time_at_step}
@@ -45,7 +45,7 @@ use Rattle.dmlw_script.specs.FirstFault.{head_refusal, in_body, in_head, log_due
 use Rattle.dmlw_script.specs.FirstFault.{prefix_after, refused, test_refusal, BeginsScript}
 use Rattle.dmlw_script.specs.FirstFault.{ComesInTime, FaultAfter, IsFirstFault, IsLineAfter}
 use Rattle.dmlw_script.specs.FirstFault.{IsLineFault, Prefix, MayFollowInScript, line_refusal}
-use Rattle.dmlw_script.proofs.FoldLaws.{barred_err, made_err}
+use Rattle.dmlw_script.proofs.ReaderLaws.{barred_err, made_err}
 use Rattle.dmlw_script.proofs.BodyLaws.{in_draft, unlisted}
 use Rattle.dmlw_script.proofs.DraftLemmas.{listed}
 use Rattle.dmlw_script.proofs.HeadLaws.{after_both, after_layers, asked_refusal, bare_is}

@@ -4,12 +4,12 @@ use Rattle.std.proofs.Common.{None, Ok, refl, ap, ◌∙◌, sym, subst}
 use Rattle.std.specs.Prelude.{map, Result}
 use Rattle.std.specs.List.{AllByRecursion, IsDistinct}
 use Rattle.std.proofs.lemmas.Bool.{cond-true}
-use Rattle.bio.specs.declared.sector_size.SectorSize.{SectorSize}
-use Rattle.bio.specs.Sizes.{bytes_of}
+use Rattle.bio.specs.declared.request.SectorSize.{SectorSize}
+use Rattle.bio.specs.Requests.{bytes_of}
 use Rattle.refusals.specs.declared.refusal.Refusal.{Refusal}
 use Rattle.layer_table.specs.declared.layer_spec.LayerSpec.{LayerSpec}
 use Rattle.dmlw_script.specs.declared.command.Command.{Command}
-use Rattle.dmlw_script.specs.declared.disk_name.DiskName.TheVariants as disks
+use Rattle.dmlw_script.specs.declared.command.DiskName.TheVariants as disks
 use Rattle.dmlw_script.specs.declared.script_id.ScriptId.{ScriptId}
 use Rattle.dmlw_script.specs.LineMeaning.{LineMeaning}
 use Rattle.dmlw_script.specs.LineMeaning as parsed_lines
@@ -34,7 +34,7 @@ use Rattle.dmlw_script.specs.Plans.{ScriptValue, WritesByte}
 use Rattle.dmlw_script.specs.FirstFault.{bare, with_layer}
 use Rattle.refusals.specs.WordLaws.{number_low, number_read}
 use Rattle.std.proofs.lemmas.Option.{cond_some}
-use Rattle.dmlw_script.specs.Ids.{is_id, script_id}
+use Rattle.dmlw_script.specs.Words.{is_id, script_id}
 use Rattle.dmlw_script.proofs.WordLaws.{byte_low}
 use Rattle.refusals.specs.Words.{after_byte, before_byte}
 use Rattle.dmlw_script.specs.inside.Readers.{body_line, crash_line, finish_step, finished}
@@ -42,13 +42,12 @@ use Rattle.dmlw_script.specs.inside.Readers.{has_begun, nothing, parsed_step, wi
 use Rattle.dmlw_script.specs.inside.LineParser.{parse_line}
 use Rattle.dmlw_script.proofs.BodyLaws.{in_draft, lines_grow, lines_of_draft, run, run_again}
 use Rattle.dmlw_script.proofs.BodyLaws.{step_grows, IsFine, IsSound}
-use Rattle.dmlw_script.proofs.FoldLaws.{bind_at, fold_append, made_ok}
+use Rattle.dmlw_script.proofs.ReaderLaws.{Reader, bind_at, fold_append, made_ok}
 use Rattle.dmlw_script.proofs.LineParserLaws.{parsed_again, parsed_read, text_left, word_left}
 use Rattle.dmlw_script.proofs.HeadLaws.{bodiless, data_push, fine_head, head_kept, head_taken}
 use Rattle.dmlw_script.proofs.HeadLaws.{layer_lines, layers_again, log_push, sizes_again}
 use Rattle.dmlw_script.proofs.HeadLaws.{data_size, data_top, log_size, log_top, Takes, IsFineHead}
 use Rattle.dmlw_script.proofs.HeadLaws.{IsHead}
-use Rattle.dmlw_script.proofs.ReaderLaws.{Reader}
 
 -- ---- what is heard of single lines
 

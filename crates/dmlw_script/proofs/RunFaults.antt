@@ -3,22 +3,22 @@ use Rattle.std.proofs.Common.{◌≡◌, ℕ, ◌<◌, true, false, List, [], �
 use Rattle.std.proofs.Common.{Err, ◌⊎◌, inl, inr, ⊎_elim, refl, ap, ◌∙◌, sym}
 use Rattle.std.specs.Prelude.{Result, codes, map, nat_le, nat_lt}
 use Rattle.std.proofs.lemmas.Bool.{and_from, le-leb, lt-ltb, ltb-true}
-use Rattle.bio.specs.declared.sector_size.SectorSize.TheVariants as sizes
-use Rattle.bio.specs.Sizes.{bytes_of}
+use Rattle.bio.specs.declared.request.SectorSize.TheVariants as sizes
+use Rattle.bio.specs.Requests.{bytes_of}
 use Rattle.refusals.specs.declared.refusal.Refusal.{Refusal}
 use Rattle.refusals.specs.declared.refusal.Refusal.TheVariants.{BadLine}
 use Rattle.layer_table.specs.declared.layer_spec.LayerSpec.{LayerSpec}
 use Rattle.layer_table.specs.declared.table_error.TableError.{TableError}
-use Rattle.dmlw_script.specs.declared.disk_name.DiskName.{DiskName}
-use Rattle.dmlw_script.specs.declared.disk_name.DiskName.TheVariants as disks
+use Rattle.dmlw_script.specs.declared.command.DiskName.{DiskName}
+use Rattle.dmlw_script.specs.declared.command.DiskName.TheVariants as disks
 use Rattle.dmlw_script.specs.declared.line.HeadLine.{HeadLine}
 use Rattle.dmlw_script.specs.declared.line.HeadLine.TheVariants as head_lines
 use Rattle.dmlw_script.specs.declared.run_line.RunLine.{RunLine}
 use Rattle.dmlw_script.specs.declared.run_line.RunLine.TheVariants as run_lines
-use Rattle.dmlw_script.specs.declared.seat_call.SeatCall.{SeatCall}
+use Rattle.dmlw_script.specs.declared.run_line.SeatCall.{SeatCall}
 use Rattle.dmlw_script.specs.Plans.{least_sectors, top_of, Disk}
 use Rattle.dmlw_script.specs.FirstFault.{bare}
-use Rattle.dmlw_script.specs.RunGrammar.{AreRunLines}
+use Rattle.dmlw_script.specs.Grammar.{AreRunLines}
 use Rattle.dmlw_script.specs.RunPlans.{call_answer, data_layer, log_layer, RunPlan}
 use Rattle.dmlw_script.specs.RunFirstFault.{at_end, bad_line, data_due, head_refusal, in_body}
 use Rattle.dmlw_script.specs.RunFirstFault.{in_head, next, line_refusal, log_due, prefix_after}
@@ -27,12 +27,12 @@ use Rattle.dmlw_script.specs.RunFirstFault.{IsFirstRunFault, IsRunLineAfter, IsR
 use Rattle.dmlw_script.specs.RunFirstFault.{RunFaultAfter, RunPrefix, MayFollowInRun}
 use Rattle.dmlw_script.specs.inside.Drafts.{as_refusal}
 use Rattle.dmlw_script.specs.inside.Heads.{head_step}
-use Rattle.dmlw_script.specs.inside.RunReaders.{call_line, finished_run, is_closed, is_seat_count}
-use Rattle.dmlw_script.specs.inside.RunReaders.{run_finish_step, said_step, seats_line, with_call}
-use Rattle.dmlw_script.specs.inside.RunReaders.{RunProgress}
+use Rattle.dmlw_script.specs.inside.Readers.{RunProgress, call_line, finished_run, is_closed}
+use Rattle.dmlw_script.specs.inside.Readers.{is_seat_count, run_finish_step, said_step, seats_line}
+use Rattle.dmlw_script.specs.inside.Readers.{with_call}
 use Rattle.dmlw_script.specs.inside.Stages.{Stage}
 use Rattle.dmlw_script.specs.inside.Stages as heads
-use Rattle.dmlw_script.proofs.FoldLaws.{made_err}
+use Rattle.dmlw_script.proofs.ReaderLaws.{made_err}
 use Rattle.dmlw_script.proofs.HeadLaws.{after_both, after_layers, asked_refusal, bare_is}
 use Rattle.dmlw_script.proofs.HeadLaws.{cond_err, head_refused, layer_lines, misplaced, no_layer}
 use Rattle.dmlw_script.proofs.HeadLaws.{tested_err, HeadRefused, HeadStands}

@@ -11,25 +11,23 @@ use Rattle.std.proofs.lemmas.List.{append-nil, length-append, length-map}
 use Rattle.std.proofs.lemmas.List.Elements.{filter-append}
 use Rattle.std.proofs.lemmas.Slice.Zip.{AllZip-long}
 use Rattle.std.proofs.lemmas.Option.{slice_get-get_or, slice_get_past}
-use Rattle.dmlw_script.proofs.FoldLaws.{kept_said, kept_skipped}
+use Rattle.dmlw_script.proofs.ReaderLaws.{kept_said, kept_skipped, one_script}
 use Rattle.std.proofs.Math.Bool.{or-true}
-use Rattle.bio.specs.Sizes.{bytes_of}
+use Rattle.bio.specs.Requests.{bytes_of}
 use Rattle.dmlw_script.specs.declared.command.Command.{Command}
 use Rattle.dmlw_script.specs.declared.command.Command.TheVariants as commands
 use Rattle.dmlw_script.specs.declared.script_id.ScriptId.{ScriptId}
 use Rattle.dmlw_script.specs.LineMeaning.{LineMeaning}
 use Rattle.dmlw_script.specs.LineMeaning as parsed_lines
-use Rattle.dmlw_script.specs.Grammar.{IsLineOf, ParsesAs, IsTextOf, AreLinesOf}
-use Rattle.dmlw_script.specs.Lines.{command_line, is_ascii_line, is_skipped, unskipped}
-use Rattle.dmlw_script.specs.Lines.{unskipped_numbers, lines_of}
+use Rattle.dmlw_script.specs.Grammar.{canonical_text, IsLineOf, ParsesAs, IsTextOf, AreLinesOf}
+use Rattle.dmlw_script.specs.Words.{unskipped_numbers, lines_of, command_line, is_ascii_line}
+use Rattle.dmlw_script.specs.Words.{is_skipped, unskipped}
 use Rattle.dmlw_script.specs.Plans.{count_after_command, count_after_head, head_count, head_of}
 use Rattle.dmlw_script.specs.Plans.{lines_after_head, lines_of_body}
 use Rattle.dmlw_script.specs.Plans.{is_ended, lines_of_script, top_of, with_ending, IsWellFormed}
 use Rattle.dmlw_script.specs.Plans.{IsPlan, CanFollow, ScriptValue}
-use Rattle.dmlw_script.specs.CanonicalText.{canonical_text}
 use Rattle.dmlw_script.proofs.CanonicalTextLaws.{spelling_spells}
 use Rattle.dmlw_script.proofs.FaultLaws.{longer}
-use Rattle.dmlw_script.proofs.ReaderLaws.{one_script}
 use Rattle.dmlw_script.proofs.RecorderLaws.{recorder}
 use Rattle.dmlw_script.proofs.LineParserLaws.{said_kept}
 

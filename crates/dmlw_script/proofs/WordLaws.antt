@@ -1,25 +1,28 @@
--- Laws of choices, and of words: how a line is split into words, and which word is read as a
--- number, an id or a byte.
-use Rattle.std.proofs.Common.{◌≡◌, ℕ, ◌-◌, ◌/◌, ◌%◌, ◌<◌, Bool, true, false, ◌&&◌}
-use Rattle.std.proofs.Common.{cond, List, [], ◌∷◌, ◌++◌, Option, Some, None, ◌⊎◌, inl, inr}
-use Rattle.std.proofs.Common.{refl, ap, ◌∙◌, sym, arith}
-use Rattle.std.specs.Prelude.{◌==◌, nat_le, not}
-use Rattle.std.specs.Char.{is_ascii_digit}
-use Rattle.std.specs.List.{list_all}
-use Rattle.std.specs.Option.{option_map, option_or}
-use Rattle.std.specs.Str.{bytes_eq}
-use Rattle.std.proofs.lemmas.Bool.{and_parts, and_from, cond-true, eq-eqb}
-use Rattle.std.proofs.lemmas.Bool.{eqb-true}
+-- Laws of the lines of a text, of the words of a line, and of words that are read one after
+-- another.
+use Rattle.std.proofs.Common.{true, false, ◌&&◌, Some, None, ◌⊎◌, inl, inr, ◌≡◌, ℕ, ◌+◌, ◌-◌, ◌/◌}
+use Rattle.std.proofs.Common.{◌%◌, ◌<◌, ◌≤◌, Bool, refl, ap, ◌∙◌, sym, arith, append_assoc, cond}
+use Rattle.std.proofs.Common.{List, [], ◌∷◌, length, ◌++◌, Option}
+use Rattle.std.specs.Prelude.{◌==◌, unwrap_or, nat_le, not}
+use Rattle.std.proofs.lemmas.Bool.{eqb-true, and_parts, and_from, cond-true, eq-eqb}
 use Rattle.std.proofs.lemmas.Bool.Decides.{nat_tests}
 use Rattle.std.proofs.lemmas.List.{append-nil}
-use Rattle.std.proofs.lemmas.Slice.Eq.{bytes_eq-Decides}
 use Rattle.std.proofs.lemmas.Option.{cond_some}
-use Rattle.dmlw_script.specs.declared.script_id.ScriptId.{ScriptId}
-use Rattle.dmlw_script.specs.Ids.{is_id, is_name_byte, id_of_word, script_id}
+use Rattle.std.proofs.lemmas.Slice.Eq.{bytes_eq-Decides}
+use Rattle.std.specs.Char.{is_ascii_digit}
+use Rattle.std.specs.List.{list_all, onto_first}
+use Rattle.std.specs.Option.{option_map, option_or}
+use Rattle.std.specs.Str.{bytes_eq}
 use Rattle.refusals.specs.WordLaws.{number_read}
-use Rattle.dmlw_script.specs.inside.LineParser.{◌>>=◌}
-use Rattle.dmlw_script.specs.Words.{byte_from, byte_of, byte_text, half_of, hex_digit}
 use Rattle.refusals.specs.Words.{after_byte, before_byte, number_of}
+use Rattle.dmlw_script.specs.declared.script_id.ScriptId.{ScriptId}
+use Rattle.dmlw_script.specs.inside.LineParser.{numbers_of, picks_of, split_words, with_number}
+use Rattle.dmlw_script.specs.inside.LineParser.{◌>>=◌}
+use Rattle.dmlw_script.specs.Words.{script_id, byte_from, byte_of, byte_text, half_of, hex_digit}
+use Rattle.dmlw_script.specs.Words.{is_id, is_name_byte, id_of_word, lines_of}
+
+-- Laws of choices, and of words: how a line is split into words, and which word is read as a
+-- number, an id or a byte.
 
 -- ---- choices
 
@@ -191,3 +194,129 @@ pub verb_read : {A : Type 0} (says : List ℕ → A → Type 0) (verb word : Lis
     (s : A) → (x ≡ Some s → says word s) → (y ≡ Some s → says verb s)
     → cond (bytes_eq verb word) x y ≡ Some s → says verb s
 verb_read says verb word x y s here other e = grind (arith, same_bytes)
+
+-- The first line of a text, and the text after it, which is shorter. Serves the proof of the
+-- reader's `next_line`, and `CanonicalTextLaws`.
+
+-- the text after the first line
+abbrev pub after_line : List ℕ → List ℕ
+after_line text = unwrap_or (after_byte 10 text) []
+
+-- a line of one byte
+alone_step : (t : Bool) (b : ℕ)
+    → cond t ([] ∷ []) ((b ∷ []) ∷ [])
+    ≡ cond t [] (b ∷ []) ∷ lines_of (unwrap_or (cond t (Some []) None) [])
+alone_step true b = refl
+alone_step false b = refl
+
+-- one more byte of the first line
+first_step : (t : Bool) (b : ℕ) (bytes f : List ℕ) (after : Option (List ℕ))
+    → lines_of bytes ≡ f ∷ lines_of (unwrap_or after []) →
+    cond t ([] ∷ lines_of bytes) (onto_first b (lines_of bytes))
+    ≡ cond t [] (b ∷ f) ∷ lines_of (unwrap_or (cond t (Some bytes) after) [])
+first_step true b bytes f after same = refl
+first_step false b bytes f after same = grind arith
+
+-- the first line of a text that isn't empty
+pub first_line : (b : ℕ) (bytes : List ℕ)
+    → lines_of (b ∷ bytes) ≡ before_byte 10 (b ∷ bytes) ∷ lines_of (after_line (b ∷ bytes))
+first_line b [] = alone_step (b == 10) b
+first_line b (c ∷ bytes) = first_step (b == 10) b (c ∷ bytes) _ _ (first_line c bytes)
+
+-- one more byte before a line feed, or that is one
+shorter_step : (t : Bool) (b : ℕ) (bytes : List ℕ) (after : Option (List ℕ))
+    → length (unwrap_or after []) ≤ length bytes
+    → length (unwrap_or (cond t (Some bytes) after) []) < length (b ∷ bytes)
+shorter_step true b bytes after low = omega arith
+shorter_step false b bytes after low = omega arith
+
+-- the text after the first line is no longer
+pub after_line_short : (text : List ℕ) → length (after_line text) ≤ length text
+after_line_short [] = omega arith
+after_line_short (b ∷ bytes) = grind (arith, after_line_short bytes, shorter_step)
+
+-- and shorter where there is one
+pub after_line_shorter : (b : ℕ) (bytes : List ℕ)
+    → length (after_line (b ∷ bytes)) < length (b ∷ bytes)
+after_line_shorter b bytes =
+    shorter_step (b == 10) b bytes (after_byte 10 bytes) (after_line_short bytes)
+
+-- the first line, and the shorter text after it
+pub first_line_of : (text : List ℕ) → 0 < length text
+    → (lines_of text ≡ before_byte 10 text ∷ lines_of (after_line text))
+    × (length (after_line text) < length text)
+first_line_of [] filled = absurd (omega arith)
+first_line_of (b ∷ bytes) filled = (first_line b bytes, after_line_shorter b bytes)
+
+-- How the picks of a crash are read, one word after another.
+
+-- the words of what stands behind a word
+abbrev pub words_behind : Option (List ℕ) → List (List ℕ)
+words_behind None = []
+words_behind (Some words) = split_words words
+
+-- one more byte of the first word, or a space
+split_step : (t : Bool) (b : ℕ) (bytes first : List ℕ) (behind : Option (List ℕ))
+    → split_words bytes ≡ first ∷ words_behind behind
+    → cond t ([] ∷ split_words bytes) (onto_first b (split_words bytes))
+    ≡ cond t [] (b ∷ first) ∷ words_behind (cond t (Some bytes) behind)
+split_step true b bytes first behind e = refl
+split_step false b bytes first behind e = ap (onto_first b) e
+
+-- the words of a text are the first and those behind it
+pub split_first : (bytes : List ℕ)
+    → split_words bytes ≡ before_byte 32 bytes ∷ words_behind (after_byte 32 bytes)
+split_first [] = refl
+split_first (b ∷ bytes) = split_step (b == 32) b bytes _ _ (split_first bytes)
+
+-- the picks of what stands behind a word
+picks_behind : (rest : Option (List ℕ)) → numbers_of (words_behind rest) ≡ picks_of rest
+picks_behind None = refl
+picks_behind (Some words) = refl
+
+-- the picks of a text are the first and those behind it
+pub picks_first : (words : List ℕ)
+    → picks_of (Some words) ≡ with_number (number_of (before_byte 32 words))
+    (picks_of (after_byte 32 words))
+picks_first words =
+    ap numbers_of (split_first words)
+    ∙ ap (with_number (number_of (before_byte 32 words))) (picks_behind (after_byte 32 words))
+
+-- picks behind others
+abbrev pub picks_after : List ℕ → Option (List ℕ) → Option (List ℕ)
+picks_after front o = option_map (λ (more : List ℕ). front ++ more) o
+
+-- one more pick in front
+front_step : (front : List ℕ) (n : ℕ) (o : Option (List ℕ))
+    → picks_after (front ++ n ∷ []) o ≡ picks_after front (with_number (Some n) o)
+front_step front n None = refl
+front_step front n (Some more) = ap Some (append_assoc front (n ∷ []) more)
+
+-- one more pick is read
+pub pick_read : (front words : List ℕ) (n : ℕ) (rest all : Option (List ℕ))
+    → after_byte 32 words ≡ rest → number_of (before_byte 32 words) ≡ Some n
+    → picks_after front (picks_of (Some words)) ≡ all
+    → picks_after (front ++ n ∷ []) (picks_of rest) ≡ all
+pick_read front words n rest all cut number e = grind (arith, front_step, picks_first)
+
+-- a word that is no number has no picks
+pub no_pick : (front words : List ℕ) (all : Option (List ℕ))
+    → number_of (before_byte 32 words) ≡ None → picks_after front (picks_of (Some words)) ≡ all
+    → all ≡ None
+no_pick front words all number e = grind (arith, picks_first)
+
+-- how much is left
+abbrev pub left_of : Option (List ℕ) → ℕ
+left_of None = 0
+left_of (Some words) = length words + 1
+
+-- one more byte before a space, or that is one
+left_step : (t : Bool) (bytes : List ℕ) (behind : Option (List ℕ)) → left_of behind ≤ length bytes
+    → left_of (cond t (Some bytes) behind) ≤ length bytes + 1
+left_step true bytes behind low = omega arith
+left_step false bytes behind low = omega arith
+
+-- less is left behind a word
+pub left_behind : (words : List ℕ) → left_of (after_byte 32 words) ≤ length words
+left_behind [] = omega arith
+left_behind (b ∷ bytes) = grind (arith, left_behind bytes, left_step)

@@ -2,15 +2,15 @@
 -- grammar and the canonical text of a line follow from these fields.
 use Rattle.std.specs.Prelude.{◌≡◌, ℕ, Bool, true, false, List, [], ◌∷◌, ◌++◌, Option, Some}
 use Rattle.std.specs.Prelude.{None, Result, Ok, Err, codes, decimal, map, if◌then◌else◌}
-use Rattle.bio.specs.declared.sector_size.SectorSize.{SectorSize}
-use Rattle.bio.specs.declared.sector_size.SectorSize.TheVariants as sizes
+use Rattle.bio.specs.declared.request.SectorSize.{SectorSize}
+use Rattle.bio.specs.declared.request.SectorSize.TheVariants as sizes
 use Rattle.dmlw_script.specs.declared.command.Submission.{Submission}
 use Rattle.dmlw_script.specs.declared.command.Submission.TheVariants as submits
 use Rattle.dmlw_script.specs.declared.command.Step.{Step}
 use Rattle.dmlw_script.specs.declared.command.Step.TheVariants as steps
 use Rattle.dmlw_script.specs.declared.command.WriteOptions.{WriteOptions}
-use Rattle.dmlw_script.specs.declared.disk_name.DiskName.{DiskName}
-use Rattle.dmlw_script.specs.declared.disk_name.DiskName.TheVariants as disks
+use Rattle.dmlw_script.specs.declared.command.DiskName.{DiskName}
+use Rattle.dmlw_script.specs.declared.command.DiskName.TheVariants as disks
 use Rattle.dmlw_script.specs.declared.line.BodyLine.{BodyLine}
 use Rattle.dmlw_script.specs.declared.line.BodyLine.TheVariants as body_lines
 use Rattle.dmlw_script.specs.declared.line.HeadLine.{HeadLine}
@@ -18,16 +18,14 @@ use Rattle.dmlw_script.specs.declared.line.HeadLine.TheVariants as head_lines
 use Rattle.dmlw_script.specs.declared.run_line.RunLine.{RunLine}
 use Rattle.dmlw_script.specs.declared.run_line.RunLine.TheVariants as run_lines
 use Rattle.dmlw_script.specs.declared.script_id.ScriptId.{ScriptId}
-use Rattle.dmlw_script.specs.declared.seat_call.Call.{Call}
-use Rattle.dmlw_script.specs.declared.seat_call.Call.TheVariants as calls
-use Rattle.dmlw_script.specs.Ids.{id_of_word, letters_of}
+use Rattle.dmlw_script.specs.declared.run_line.Call.{Call}
+use Rattle.dmlw_script.specs.declared.run_line.Call.TheVariants as calls
+use Rattle.dmlw_script.specs.Words.{byte_of, byte_text, id_of_word, is_line_text, letters_of}
 use Rattle.dmlw_script.specs.LineMeaning.{LineMeaning}
 use Rattle.dmlw_script.specs.LineMeaning as parsed_lines
-use Rattle.dmlw_script.specs.Lines.{is_line_text}
-use Rattle.dmlw_script.specs.Words.{byte_of, byte_text}
 use Rattle.refusals.specs.Words.{after_byte, before_byte, number_of, words_of}
 use Rattle.layer_table.specs.TableLines.{line_answer}
-use Rattle.layer_table.specs.Texts as table_texts
+use Rattle.layer_table.specs.TableLines as table_texts
 use Rattle.layer_table.specs.declared.layer_spec.LayerSpec.{LayerSpec}
 use Rattle.layer_table.specs.declared.table_error.TableError.{TableError}
 

@@ -3,12 +3,12 @@ use Rattle.std.specs.Prelude.{◌≡◌, ℕ, ◌+◌, ◌<◌, Bool, true, fals
 use Rattle.std.specs.Prelude.{Some, None, Err, Result, Ok, length, nat_le, if◌then◌else◌}
 use Rattle.std.specs.List.{list_any, AllZip}
 use Rattle.bio.specs.Refusals.{bad_bio_refusal}
-use Rattle.bio.specs.Sizes.{bytes_of}
+use Rattle.bio.specs.Requests.{bytes_of}
 use Rattle.refusals.specs.declared.refusal.Refusal.{Refusal}
 use Rattle.refusals.specs.declared.refusal.Refusal.TheVariants.{BadLine, BadId, Memory, OutOfRange}
 use Rattle.bio.specs.declared.request.BadBio.{BadBio}
-use Rattle.refusals.specs.declared.fault.Fault.{Fault}
-use Rattle.dmlw_script.specs.declared.disk_name.DiskName.TheVariants as disks
+use Rattle.refusals.specs.declared.run_error.Fault.{Fault}
+use Rattle.dmlw_script.specs.declared.command.DiskName.TheVariants as disks
 use Rattle.dmlw_script.specs.LineMeaning.{LineMeaning}
 use Rattle.dmlw_script.specs.LineMeaning as parsed_lines
 use Rattle.dmlw_script.specs.declared.line.HeadLine.{HeadLine}
@@ -16,8 +16,7 @@ use Rattle.dmlw_script.specs.declared.line.HeadLine.TheVariants as head_lines
 use Rattle.dmlw_script.specs.declared.line.BodyLine.{BodyLine}
 use Rattle.dmlw_script.specs.declared.line.BodyLine.TheVariants as body_lines
 use Rattle.dmlw_script.specs.Grammar.{ParsesAs, AreLinesOf}
-use Rattle.dmlw_script.specs.Lines.{is_ascii_line, unskipped, lines_of}
-use Rattle.dmlw_script.specs.Ids.{same_name}
+use Rattle.dmlw_script.specs.Words.{same_name, is_ascii_line, unskipped, lines_of}
 use Rattle.dmlw_script.specs.Plans.{disk_of, is_disk_size, is_ended, is_log_disk_size, is_within}
 use Rattle.dmlw_script.specs.Plans.{least_sectors, time_at_step, request_of, step_answer}
 use Rattle.dmlw_script.specs.Plans.{submission_answer, top_of, Disk, IsInTime, ScriptValue}

@@ -1,11 +1,20 @@
--- The grammar of a recorder's scripts, as a relation between texts and scripts.
-use Rattle.std.specs.Prelude.{◌≡◌, ℕ, true, ◌+◌, List, ◌∷◌, ◌++◌, Some, length, slice_get}
+-- The grammars of both kinds of scripts, as relations between texts and scripts, and the canonical
+-- text of a script.
+use Rattle.std.specs.Prelude.{length, slice_get, ◌≡◌, ℕ, true, ◌+◌, List, [], ◌∷◌, ◌++◌, Option}
+use Rattle.std.specs.Prelude.{Some, None, flat_map}
 use Rattle.std.specs.List.{AllByRecursion, AllZip}
-use Rattle.dmlw_script.specs.Fields.{fields_of, IsLineWith}
+use Rattle.dmlw_script.specs.declared.run_line.RunLine.{RunLine}
+use Rattle.dmlw_script.specs.declared.run_line.RunLine.TheVariants as run_lines
+use Rattle.dmlw_script.specs.declared.run_line.SeatCall.{SeatCall}
+use Rattle.dmlw_script.specs.Fields.{run_fields, fields_of, text_of, IsLineWith}
 use Rattle.dmlw_script.specs.LineMeaning.{LineMeaning}
-use Rattle.dmlw_script.specs.Lines.{is_ascii_line, unskipped, lines_of}
-use Rattle.dmlw_script.specs.Plans.{head_count, lines_after_head, lines_of_script, IsPlan}
-use Rattle.dmlw_script.specs.Plans.{ScriptValue}
+use Rattle.dmlw_script.specs.LineMeaning as parsed_lines
+use Rattle.dmlw_script.specs.Words.{is_ascii_line, unskipped, lines_of}
+use Rattle.dmlw_script.specs.Plans.{IsPlan, ScriptValue, head_count, lines_after_head}
+use Rattle.dmlw_script.specs.Plans.{lines_of_script}
+use Rattle.dmlw_script.specs.RunPlans.{lines_of_run, IsRunPlan, RunPlan}
+
+-- The grammar of a recorder's scripts, as a relation between texts and scripts.
 
 -- the line has the words of a line with this meaning
 abbrev pub ParsesAs : List ℕ → LineMeaning → Type 0
@@ -35,3 +44,62 @@ pub record IsLineOf (lines : List (List ℕ)) (plan : ScriptValue) (place number
   pub parsed : LineMeaning
   pub command : slice_get (lines_after_head plan) place ≡ Some parsed
   pub says : ParsesAs line parsed
+
+-- The canonical text of a script.
+
+-- the canonical line with this meaning
+abbrev pub line_text : LineMeaning → List ℕ
+line_text meaning = text_of (fields_of meaning)
+
+-- the canonical line with the meaning `s`, and a line feed
+abbrev pub ended_line : LineMeaning → List ℕ
+ended_line s = line_text s ++ 10 ∷ []
+
+-- the canonical line of the crash that ends a script, with a line feed; empty if no crash ends it
+abbrev pub ending_text : Option (List ℕ) → List ℕ
+ending_text None = []
+ending_text (Some picks) = ended_line (parsed_lines.Crash picks)
+
+-- the canonical text of a script: the canonical line of each of its lines, with a line feed
+abbrev pub canonical_text : ScriptValue → List ℕ
+canonical_text plan = flat_map ended_line (lines_of_script plan)
+
+-- The grammar of the scripts of a run, as a relation between texts and scripts.
+
+-- The line has the words of a line with this meaning. A line of the head that isn't the number of
+-- seats has the words that it has in a recorder's script.
+abbrev pub MeansLine : List ℕ → RunLine → Type 0
+MeansLine line said = IsLineWith line (run_fields said)
+
+-- `lines` are the lines of the run's script `plan`. Each line is ASCII without zero bytes. The
+-- unskipped lines have the meanings of the script's lines, in their order.
+pub record AreRunLines (lines : List (List ℕ)) (plan : RunPlan) : Type 0 where
+  pub plain : AllByRecursion (λ line. is_ascii_line line ≡ true) lines
+  pub says : AllZip MeansLine (unskipped lines) (lines_of_run plan)
+  pub script : IsRunPlan plan
+
+-- the text is a text of the script `plan`
+abbrev pub IsRunText : List ℕ → RunPlan → Type 0
+IsRunText text plan = AreRunLines (lines_of text) plan
+
+-- The canonical text of a run's script.
+
+-- the canonical line with this meaning
+abbrev pub run_line_text : RunLine → List ℕ
+run_line_text said = text_of (run_fields said)
+
+-- the meaning of the line of the number of seats
+abbrev pub seats_line : ℕ → RunLine
+seats_line count = run_lines.Seats count
+
+-- the meaning of the line of a seat's call
+abbrev pub call_line : SeatCall → RunLine
+call_line said = run_lines.Body said
+
+-- the canonical line with this meaning, and a line feed
+abbrev pub ended_run_line : RunLine → List ℕ
+ended_run_line said = run_line_text said ++ 10 ∷ []
+
+-- the canonical text of a run's script: the canonical line of each of its lines, with a line feed
+abbrev pub run_text : RunPlan → List ℕ
+run_text plan = flat_map ended_run_line (lines_of_run plan)

@@ -4,28 +4,26 @@ use Rattle.std.specs.Prelude.{◌≡◌, ℕ, ◌+◌, ◌/◌, ◌^◌, ◌<◌
 use Rattle.std.specs.Prelude.{◌&&◌, List, [], ◌∷◌, ◌++◌, Option, Some, None, is_some, Result, Ok}
 use Rattle.std.specs.Prelude.{length, map, position, slice_index_or, count_by, if◌then◌else◌}
 use Rattle.std.specs.List.{list_any, AllByRecursion, IsDistinct}
-use Rattle.bio.specs.Check.{check_sized_answer}
-use Rattle.bio.specs.Sizes.{bytes_of}
+use Rattle.bio.specs.Requests.{bytes_of, check_sized_answer}
 use Rattle.bio.specs.declared.request.BadBio.{BadBio}
 use Rattle.bio.specs.declared.request.Bio.TheVariants.{Read}
-use Rattle.bio.specs.declared.sector_size.SectorSize.{SectorSize}
+use Rattle.bio.specs.declared.request.SectorSize.{SectorSize}
 use Rattle.dmlw_script.specs.declared.command.Command.{Command}
 use Rattle.dmlw_script.specs.declared.command.Command.TheVariants as commands
 use Rattle.dmlw_script.specs.declared.command.Submission.{Submission}
 use Rattle.dmlw_script.specs.declared.command.Submission.TheVariants as submits
 use Rattle.dmlw_script.specs.declared.command.Step.{Step}
 use Rattle.dmlw_script.specs.declared.command.Step.TheVariants as steps
-use Rattle.dmlw_script.specs.declared.disk_name.DiskName.{DiskName}
-use Rattle.dmlw_script.specs.declared.disk_name.DiskName.TheVariants as disks
+use Rattle.dmlw_script.specs.declared.command.DiskName.{DiskName}
+use Rattle.dmlw_script.specs.declared.command.DiskName.TheVariants as disks
 use Rattle.dmlw_script.specs.declared.script_id.ScriptId.{ScriptId}
 use Rattle.dmlw_script.specs.LineMeaning.{LineMeaning}
 use Rattle.dmlw_script.specs.LineMeaning as parsed_lines
 use Rattle.dmlw_script.specs.declared.line.HeadLine.TheVariants as head_lines
 use Rattle.dmlw_script.specs.declared.line.BodyLine.{BodyLine}
 use Rattle.dmlw_script.specs.declared.line.BodyLine.TheVariants as body_lines
-use Rattle.dmlw_script.specs.Ids.{is_id, script_id, same_name}
-use Rattle.dmlw_script.specs.Lines.{is_line_text}
-use Rattle.layer_table.specs.LayerOrder.{top_sectors, IsAllowed}
+use Rattle.dmlw_script.specs.Words.{is_line_text, is_id, script_id, same_name}
+use Rattle.layer_table.specs.Layers.{top_sectors, IsAllowed}
 use Rattle.layer_table.specs.declared.layer_spec.LayerSpec.{LayerSpec}
 
 -- a disk of a script: its number of sectors, and the layers over it, the lowest first

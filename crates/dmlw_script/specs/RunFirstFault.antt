@@ -2,19 +2,19 @@
 use Rattle.std.specs.Prelude.{◌≡◌, ℕ, ◌+◌, ◌<◌, ◌≤◌, List, [], ◌∷◌, ◌++◌, Option, Some, None}
 use Rattle.std.specs.Prelude.{Result, Ok, Err, length, nat_le, true, if◌then◌else◌}
 use Rattle.std.specs.List.{AllZip}
-use Rattle.bio.specs.Sizes.{bytes_of}
-use Rattle.refusals.specs.declared.fault.Fault.{Fault}
+use Rattle.bio.specs.Requests.{bytes_of}
+use Rattle.refusals.specs.declared.run_error.Fault.{Fault}
 use Rattle.refusals.specs.declared.refusal.Refusal.{Refusal}
 use Rattle.refusals.specs.declared.refusal.Refusal.TheVariants.{BadLine, OutOfRange}
-use Rattle.dmlw_script.specs.declared.disk_name.DiskName.{DiskName}
-use Rattle.dmlw_script.specs.declared.disk_name.DiskName.TheVariants as disks
+use Rattle.dmlw_script.specs.declared.command.DiskName.{DiskName}
+use Rattle.dmlw_script.specs.declared.command.DiskName.TheVariants as disks
 use Rattle.dmlw_script.specs.declared.line.HeadLine.{HeadLine}
 use Rattle.dmlw_script.specs.declared.line.HeadLine.TheVariants as head_lines
-use Rattle.dmlw_script.specs.Lines.{is_ascii_line, lines_of, unskipped}
+use Rattle.dmlw_script.specs.Words.{is_ascii_line, lines_of, unskipped}
 use Rattle.dmlw_script.specs.Plans.{is_disk_size, is_log_disk_size, is_within, least_sectors}
 use Rattle.dmlw_script.specs.Plans.{top_of, Disk}
 use Rattle.dmlw_script.specs.FirstFault.{bare, is_memory, test_refusal, with_layer}
-use Rattle.dmlw_script.specs.RunGrammar.{AreRunLines, MeansLine}
+use Rattle.dmlw_script.specs.Grammar.{AreRunLines, MeansLine}
 use Rattle.dmlw_script.specs.RunPlans.{call_answer, RunPlan}
 use Rattle.dmlw_script.specs.declared.run_line.RunLine.{RunLine}
 use Rattle.dmlw_script.specs.declared.run_line.RunLine.TheVariants as run_lines

@@ -2,16 +2,16 @@
 use Rattle.std.specs.Prelude.{◌≡◌, ℕ, ◌<◌, ◌≤◌, ◌/◌, List, ◌∷◌, ◌++◌, Result, Ok, map, true}
 use Rattle.std.specs.List.{AllByRecursion}
 use Rattle.bio.specs.declared.request.BadBio.{BadBio}
-use Rattle.bio.specs.declared.sector_size.SectorSize.{SectorSize}
-use Rattle.bio.specs.Sizes.{bytes_of}
-use Rattle.dmlw_script.specs.declared.disk_name.DiskName.TheVariants as disks
+use Rattle.bio.specs.declared.request.SectorSize.{SectorSize}
+use Rattle.bio.specs.Requests.{bytes_of}
+use Rattle.dmlw_script.specs.declared.command.DiskName.TheVariants as disks
 use Rattle.dmlw_script.specs.declared.line.HeadLine.TheVariants as head_lines
-use Rattle.dmlw_script.specs.declared.seat_call.Call.{Call}
-use Rattle.dmlw_script.specs.declared.seat_call.Call.TheVariants.{Submit, Mark}
-use Rattle.dmlw_script.specs.declared.seat_call.SeatCall.{SeatCall}
+use Rattle.dmlw_script.specs.declared.run_line.Call.{Call}
+use Rattle.dmlw_script.specs.declared.run_line.Call.TheVariants.{Submit, Mark}
+use Rattle.dmlw_script.specs.declared.run_line.SeatCall.{SeatCall}
 use Rattle.dmlw_script.specs.declared.run_line.RunLine.{RunLine}
 use Rattle.dmlw_script.specs.declared.run_line.RunLine.TheVariants.{Head, Seats, Body}
-use Rattle.dmlw_script.specs.Lines.{is_line_text}
+use Rattle.dmlw_script.specs.Words.{is_line_text}
 use Rattle.dmlw_script.specs.Plans.{submission_answer, top_of, Disk, IsDisk, WritesByte}
 use Rattle.layer_table.specs.declared.layer_spec.LayerSpec.{LayerSpec}
 

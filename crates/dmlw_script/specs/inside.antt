@@ -5,5 +5,3 @@ pub mod Stages
 pub mod Heads
 pub mod Drafts
 pub mod Readers
-pub mod RunLineParser
-pub mod RunReaders

@@ -1,6 +1,14 @@
 //! The commands of a recorder's script, one for each line of its body.
-use crate::disk_name::DiskName;
 use bio::{Bytes, Ms};
+
+/// The name of a disk of a script.
+#[derive(Clone, Copy, Debug, PartialEq, Eq)]
+pub enum DiskName {
+    /// The disk that is recorded.
+    Data,
+    /// The disk that the log is written to.
+    Log,
+}
 
 /// The options of a write.
 #[derive(Clone, Copy, Debug, PartialEq, Eq)]

@@ -52,7 +52,7 @@ impl DiskSpec {
 
     /// Returns the number of sectors at the top: the length of the uppermost layer, or the disk's
     /// number of sectors if it has no layers.
-    #[tactic(auto, using(crate::proofs::DiskLaws::top_is_last))]
+    #[tactic(auto, using(crate::proofs::HeadLaws::top_is_last))]
     pub fn top_sectors(&self) -> u64
         ensures { result ≡ top_of self.now }
     {

@@ -1,7 +1,7 @@
 //! Reads the body of a recorder's script, line by line. It checks that ids are new and that
 //! requests are open when they end.
 ghost use Rattle.std.specs.Prelude.{◌≡◌, ◌<◌, ℕ, [], Ok, OnOk, false, length, option_map};
-ghost use Rattle.bio.specs.Sizes.{bytes_of};
+ghost use Rattle.bio.specs.Requests.{bytes_of};
 ghost use Rattle.dmlw_script.specs.Plans.{time_at, range_test, submission_answer};
 ghost use Rattle.dmlw_script.specs.inside.Drafts.{as_refusal, step_test, Follows};
 

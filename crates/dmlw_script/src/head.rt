@@ -1,7 +1,7 @@
 //! Reads the head of a script, line by line: the disks, the size of the log's sectors, and the
 //! layers.
 ghost use Rattle.std.specs.Prelude.{◌≡◌, List, false, ℕ};
-ghost use Rattle.bio.specs.Sizes.{bytes_of};
+ghost use Rattle.bio.specs.Requests.{bytes_of};
 ghost use Rattle.dmlw_script.specs.Plans.{is_disk_size as is_a_disk_size};
 ghost use Rattle.dmlw_script.specs.Plans.{is_log_disk_size as is_a_log_disk_size};
 ghost use Rattle.dmlw_script.specs.Plans.{is_within as is_within_them};
@@ -9,8 +9,8 @@ ghost use Rattle.dmlw_script.specs.inside.Drafts.{Follows};
 ghost use Rattle.dmlw_script.specs.inside.Heads.{head_step, layer_in, layer_step, stage_of};
 ghost use Rattle.dmlw_script.specs.inside.Stages as heads;
 
+use crate::command::DiskName;
 use crate::disk::DiskSpec;
-use crate::disk_name::DiskName;
 use crate::line::HeadLine;
 use crate::line_error::LineError;
 use bio::{MAX_DEVICE_SECTORS, SectorSize};

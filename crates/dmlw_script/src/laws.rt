@@ -2,22 +2,19 @@
 ghost use Rattle.std.specs.Prelude.{◌≡◌, ◌≢◌, ◌<◌, ◌≤◌, ◌+◌, ◌++◌, ◌∷◌, ◌⊎◌, [], None, Some};
 ghost use Rattle.std.specs.Prelude.{true, ℕ, List};
 ghost use Rattle.std.specs.List.{AllByRecursion};
-ghost use Rattle.bio.specs.Sizes.{bytes_of};
+ghost use Rattle.bio.specs.Requests.{bytes_of};
 ghost use Rattle.refusals.specs.declared.refusal.Refusal.{Refusal};
 ghost use Rattle.dmlw_script.specs.declared.command.Command.{Command};
 ghost use Rattle.dmlw_script.specs.declared.command.Command.TheVariants.{Complete};
+ghost use Rattle.dmlw_script.specs.Grammar.{AreRunLines, IsRunText, run_text, canonical_text};
 ghost use Rattle.dmlw_script.specs.Grammar.{IsLineOf, IsTextOf, AreLinesOf};
-ghost use Rattle.dmlw_script.specs.Lines.{command_line, with_line_feeds, is_ascii_line};
-ghost use Rattle.dmlw_script.specs.Lines.{is_skipped};
-ghost use Rattle.dmlw_script.specs.Lines.{IsUnbroken, lines_of};
+ghost use Rattle.dmlw_script.specs.Words.{IsUnbroken, lines_of, is_skipped, command_line};
+ghost use Rattle.dmlw_script.specs.Words.{with_line_feeds, is_ascii_line};
 ghost use Rattle.dmlw_script.specs.Plans.{IsPlan, CanFollow, ScriptValue, count_after_head};
 ghost use Rattle.dmlw_script.specs.Plans.{head_count, top_of};
 ghost use Rattle.dmlw_script.specs.FirstFault.{IsFirstFault};
-ghost use Rattle.dmlw_script.specs.CanonicalText.{canonical_text};
-ghost use Rattle.dmlw_script.specs.RunGrammar.{AreRunLines, IsRunText};
 ghost use Rattle.dmlw_script.specs.RunPlans.{IsRunPlan, RunPlan};
 ghost use Rattle.dmlw_script.specs.RunFirstFault.{IsFirstRunFault};
-ghost use Rattle.dmlw_script.specs.RunText.{run_text};
 
 /// If no line has a line feed, the text with a line feed after each line has exactly these lines.
 /// So has the text without the last line feed, if the last line isn't empty.
@@ -103,20 +100,20 @@ pub fn texts_have_one_first_fault()
 {}
 
 /// The canonical text of a run's script is a text of the script.
-#[tactic(auto, using(crate::proofs::RunTextLaws::run_text_is))]
+#[tactic(auto, using(crate::proofs::CanonicalTextLaws::run_text_is))]
 pub fn each_run_script_has_a_text()
     ensures { (plan : RunPlan) → IsRunPlan plan → IsRunText (run_text plan) plan }
 {}
 
 /// A text is the text of at most one run's script.
-#[tactic(auto, using(crate::proofs::RunTextLaws::one_run_script_of))]
+#[tactic(auto, using(crate::proofs::CanonicalTextLaws::one_run_script_of))]
 pub fn one_run_script()
     ensures { (text : List ℕ) (plan other : RunPlan) → IsRunText text plan → IsRunText text other
         → plan ≡ other }
 {}
 
 /// If two run's scripts have the same canonical text, they are equal.
-#[tactic(auto, using(crate::proofs::RunTextLaws::same_from_run_text))]
+#[tactic(auto, using(crate::proofs::CanonicalTextLaws::same_from_run_text))]
 pub fn run_scripts_have_own_texts()
     ensures { (plan other : RunPlan) → IsRunPlan plan → IsRunPlan other
         → run_text plan ≡ run_text other → plan ≡ other }

@@ -10,29 +10,26 @@
 //! canonical text of a script. Reading that text gives the same script, unless memory runs out.
 //!
 //! `specs/Fields` defines the words of each kind of line. `specs/Grammar` is the grammar, a
-//! relation between texts and scripts. `specs/Plans` defines the value of a script,
-//! `specs/CanonicalText` its canonical text, and `specs/Texts` the text of an id.
-//! `specs/RunGrammar`, `specs/RunPlans` and `specs/RunText` do the same for a run's script. For a
-//! new kind of line, add a case to `Submission` or `Step`, and to `submission_fields` or
+//! relation between texts and scripts, and has the canonical text of a script. `specs/Plans` defines
+//! the value of a script, `specs/RunPlans` that of a run's script, and `specs/Words` the text of an
+//! id. For a new kind of line, add a case to `Submission` or `Step`, and to `submission_fields` or
 //! `step_fields`. For a new option of a write, add a field to `option_fields`.
 #![tactic(auto)]
 
-pub use command::{Command, Step, Submission, WriteOptions};
+pub use command::{Command, DiskName, Step, Submission, WriteOptions};
 pub use disk::DiskSpec;
-pub use disk_name::DiskName;
 pub use line::{recorder_forms, seat_forms};
 pub use printing::print_script;
 pub use reader::{line_of, read_script};
+pub use run_line::{Call, SeatCall};
 pub use run_printing::print_run_script;
 pub use run_reader::read_run_script;
 pub use run_script::RunScript;
 pub use script::Script;
 pub use script_id::ScriptId;
-pub use seat_call::{Call, SeatCall};
 
 mod command;
 mod disk;
-mod disk_name;
 mod draft;
 mod head;
 pub mod laws;
@@ -49,7 +46,6 @@ mod run_reader;
 mod run_script;
 mod script;
 mod script_id;
-mod seat_call;
 mod steps;
 mod submissions;
 mod values;

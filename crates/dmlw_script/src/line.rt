@@ -2,8 +2,8 @@
 //! before it.
 ghost use Rattle.std.specs.Prelude.{◌≡◌, option_copied, option_map};
 ghost use Rattle.dmlw_script.specs.LineMeaning.{as_meaning};
-ghost use Rattle.dmlw_script.specs.Lines.{is_line_byte as is_a_line_byte};
-ghost use Rattle.dmlw_script.specs.Lines.{is_line_text as is_a_line_text};
+ghost use Rattle.dmlw_script.specs.Words.{is_line_byte as is_a_line_byte};
+ghost use Rattle.dmlw_script.specs.Words.{is_line_text as is_a_line_text};
 ghost use Rattle.dmlw_script.specs.inside.LineParser.{body_words};
 ghost use Rattle.dmlw_script.specs.inside.LineParser.{discard_words as the_discard_words};
 ghost use Rattle.dmlw_script.specs.inside.LineParser.{disk_of_word, head_words as the_head};
@@ -17,8 +17,7 @@ ghost use Rattle.dmlw_script.specs.inside.LineParser.{step, submission_of as the
 ghost use Rattle.dmlw_script.specs.inside.LineParser.{submit_of as the_submit};
 ghost use Rattle.dmlw_script.specs.inside.LineParser.{write_words as the_write_words};
 
-use crate::command::{Step, Submission};
-use crate::disk_name::DiskName;
+use crate::command::{DiskName, Step, Submission};
 use crate::options::options_of;
 use crate::script_id::ScriptId;
 use crate::values::byte_of;

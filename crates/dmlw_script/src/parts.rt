@@ -1,6 +1,6 @@
 //! Prints parts of lines: first words, numbers and ids.
 ghost use Rattle.std.specs.Prelude.{◌≡◌, ◌++◌, ◌∷◌, decimal, OnOk};
-ghost use Rattle.dmlw_script.specs.Ids.{letters_of};
+ghost use Rattle.dmlw_script.specs.Words.{letters_of};
 
 use crate::script_id::ScriptId;
 use refusals::push_number;

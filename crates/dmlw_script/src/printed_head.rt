@@ -1,11 +1,11 @@
 //! Prints the lines of a script's head.
 ghost use Rattle.std.specs.Prelude.{◌≡◌, ◌++◌, flat_map, map, OnOk};
-ghost use Rattle.dmlw_script.specs.CanonicalText.{ended_line, line_text};
+ghost use Rattle.dmlw_script.specs.Grammar.{ended_line, line_text};
 ghost use Rattle.dmlw_script.specs.Plans.{data_line, head_of, layer_line, log_line};
-ghost use Rattle.dmlw_script.specs.declared.disk_name.DiskName.TheVariants as disks;
+ghost use Rattle.dmlw_script.specs.declared.command.DiskName.TheVariants as disks;
 
+use crate::command::DiskName;
 use crate::disk::DiskSpec;
-use crate::disk_name::DiskName;
 use crate::parts::push_value;
 use bio::SectorSize;
 use layer_table::{LayerSpec, push_line};

@@ -1,11 +1,10 @@
 //! Prints a recorder's script: `print_script` returns its canonical text.
 ghost use Rattle.std.specs.Prelude.{◌≡◌, ◌<◌, ◌+◌, ◌^◌, ◌++◌, flat_map, length, IfOk, OnOk};
-ghost use Rattle.dmlw_script.specs.Grammar.{IsTextOf};
+ghost use Rattle.dmlw_script.specs.Grammar.{IsTextOf, canonical_text, ended_line, ending_text};
+ghost use Rattle.dmlw_script.specs.Grammar.{line_text};
 ghost use Rattle.dmlw_script.specs.LineMeaning as parsed_lines;
 ghost use Rattle.dmlw_script.specs.declared.line.BodyLine.TheVariants as body_lines;
 ghost use Rattle.dmlw_script.specs.Plans.{count_after_command, lines_of_body, line_at, HasName};
-ghost use Rattle.dmlw_script.specs.CanonicalText.{ended_line, ending_text, line_text};
-ghost use Rattle.dmlw_script.specs.CanonicalText.{canonical_text};
 
 use crate::command::{Command, Submission};
 use crate::parts::push_name;
@@ -103,7 +102,7 @@ fn push_command(
 }
 
 // Appends the line of a submission, without its line feed.
-#[tactic(auto, using(crate::proofs::FieldLaws::after_field))]
+#[tactic(auto, using(crate::proofs::Spelling::after_field))]
 fn push_submit(out: &mut Vec<u8>, name: ScriptId, submission: Submission) -> Result<(), AllocError>
     ensures { OnOk result (out.new.items
         ≡ out.old.items ++ line_text (parsed_lines.Body (body_lines.Submit name submission))) }

@@ -1,18 +1,35 @@
 //! Parses a line of a run's script. The result depends only on the words of the line.
 ghost use Rattle.std.specs.Prelude.{◌≡◌, IfErr, IfOk, Some, option_copied};
-ghost use Rattle.dmlw_script.specs.inside.RunLineParser.{call_of as the_call, mark_call};
-ghost use Rattle.dmlw_script.specs.inside.RunLineParser.{parse_run_line, run_head_line};
-ghost use Rattle.dmlw_script.specs.inside.RunLineParser.{seat_line};
-ghost use Rattle.dmlw_script.specs.inside.RunLineParser.{seat_of as the_seat};
-ghost use Rattle.dmlw_script.specs.inside.RunLineParser.{IsNoRunLine};
-ghost use Rattle.dmlw_script.specs.inside.RunLineParser.{IsUnread};
+ghost use Rattle.dmlw_script.specs.inside.LineParser.{IsNoRunLine, IsUnread, call_of as the_call};
+ghost use Rattle.dmlw_script.specs.inside.LineParser.{mark_call, parse_run_line, run_head_line};
+ghost use Rattle.dmlw_script.specs.inside.LineParser.{seat_line, seat_of as the_seat};
 
+use crate::command::Submission;
 use crate::line::{HeadLine, head_words, is_line_text, submission_of};
 use crate::line_error::LineError;
 use crate::reader::shared_text;
-use crate::seat_call::{Call, SeatCall};
+use bio::Bytes;
 use refusals::{Refusal, cut, number_of};
 use std::alloc::Global;
+
+/// The call of a seat.
+#[derive(Debug, Drop)]
+pub enum Call {
+    /// Submits a request. In a script its sectors are limited as those of a recorder's script are.
+    Submit(Submission),
+    /// Adds a mark with this text, which may be empty, to the log. In a script each byte is ASCII,
+    /// and neither zero nor a line feed. The bytes are shared: cloning them takes no memory.
+    Mark { text: Bytes },
+}
+
+/// One line of the body of a run's script.
+#[derive(Debug, Drop)]
+pub struct SeatCall {
+    /// The seat, counted from 0. In a script it is below the number of seats.
+    pub seat: u64,
+    /// The call of the seat.
+    pub call: Call,
+}
 
 /// The meaning of a line of a run's script.
 #[derive(Drop)]

@@ -1,14 +1,14 @@
 //! Prints a run's script: `print_run_script` returns its canonical text.
 ghost use Rattle.std.specs.Prelude.{◌≡◌, ◌++◌, flat_map, map, IfOk, OnOk};
-ghost use Rattle.dmlw_script.specs.RunGrammar.{IsRunText};
+ghost use Rattle.dmlw_script.specs.Grammar.{IsRunText, call_line, ended_run_line, run_text};
+ghost use Rattle.dmlw_script.specs.Grammar.{seats_line};
 ghost use Rattle.dmlw_script.specs.RunPlans.{run_head};
 ghost use Rattle.dmlw_script.specs.Fields.{call_fields, text_of};
-ghost use Rattle.dmlw_script.specs.RunText.{call_line, ended_run_line, run_text, seats_line};
 
 use crate::parts::push_value;
 use crate::printed_head::{push_disk_layers, push_disks};
+use crate::run_line::{Call, SeatCall};
 use crate::run_script::RunScript;
-use crate::seat_call::{Call, SeatCall};
 use crate::steps::push_mark;
 use crate::submissions::{push_submission, push_word};
 use std::alloc::{AllocError, Global};
@@ -29,7 +29,7 @@ pub fn print_run_script(alloc: Global, script: &RunScript) -> Result<Vec<u8>, Al
 }
 
 // Appends the lines of a run's head: the disks, the number of seats, and the layers.
-#[tactic(auto, using(crate::proofs::RunSpelling::run_head_written))]
+#[tactic(auto, using(crate::proofs::Spelling::run_head_written))]
 fn push_run_head(out: &mut Vec<u8>, script: &RunScript) -> Result<(), AllocError>
     ensures { OnOk result (out.new.items
         ≡ out.old.items ++ flat_map ended_run_line (run_head script.now)) }

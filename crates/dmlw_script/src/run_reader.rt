@@ -1,22 +1,20 @@
 //! Reads the text of a run's script. `read_run_script` returns the script, or the first line at
 //! fault.
 ghost use Rattle.std.specs.Prelude.{IfErr, IfOk};
-ghost use Rattle.bio.specs.Sizes.{bytes_of};
-ghost use Rattle.dmlw_script.specs.RunGrammar.{IsRunText};
+ghost use Rattle.bio.specs.Requests.{bytes_of};
+ghost use Rattle.dmlw_script.specs.Grammar.{IsRunText};
 ghost use Rattle.dmlw_script.specs.RunPlans.{call_answer, RunPlan};
 ghost use Rattle.dmlw_script.specs.RunFirstFault.{IsReadAsRun, IsRunFaultAt};
 ghost use Rattle.dmlw_script.specs.inside.Drafts.{as_refusal, Follows};
-ghost use Rattle.dmlw_script.specs.inside.Readers.{Reads};
-ghost use Rattle.dmlw_script.specs.inside.RunReaders.{read_run_text};
+ghost use Rattle.dmlw_script.specs.inside.Readers.{Reads, read_run_text};
 
 use crate::draft::check_submission;
 use crate::head::{Head, Part};
 use crate::line::HeadLine;
 use crate::line_error::LineError;
 use crate::reader::{fault_at, is_ascii_line, is_skipped, next_line};
-use crate::run_line::{RunLine, run_line_of};
+use crate::run_line::{Call, RunLine, SeatCall, run_line_of};
 use crate::run_script::RunScript;
-use crate::seat_call::{Call, SeatCall};
 use bio::SectorSize;
 use refusals::{Fault, Refusal};
 use std::alloc::Global;
@@ -37,11 +35,10 @@ struct RunReader {
 impl RunReader {
     ghost use Rattle.std.specs.Prelude.{◌≡◌};
     ghost use Rattle.dmlw_script.specs.RunPlans.{IsRunPlan};
-    ghost use Rattle.dmlw_script.specs.inside.Readers.{Finishes};
-    ghost use Rattle.dmlw_script.specs.inside.RunReaders.{call_line, nothing_read};
-    ghost use Rattle.dmlw_script.specs.inside.RunReaders.{run_finish_step};
-    ghost use Rattle.dmlw_script.specs.inside.RunReaders.{run_head_step, run_line_step};
-    ghost use Rattle.dmlw_script.specs.inside.RunReaders.{run_progress, said_step, seats_line};
+    ghost use Rattle.dmlw_script.specs.inside.Readers.{Finishes, call_line, nothing_read};
+    ghost use Rattle.dmlw_script.specs.inside.Readers.{run_finish_step, run_head_step};
+    ghost use Rattle.dmlw_script.specs.inside.Readers.{run_line_step, run_progress, said_step};
+    ghost use Rattle.dmlw_script.specs.inside.Readers.{seats_line};
 
     fn new(alloc: Global) -> RunReader
         ensures { run_progress result ≡ nothing_read }

@@ -2,7 +2,7 @@
 ghost use Rattle.std.specs.Prelude.{◌≡◌, ◌/◌, ◌≤◌};
 
 use crate::disk::DiskSpec;
-use crate::seat_call::SeatCall;
+use crate::run_line::SeatCall;
 use bio::SectorSize;
 use std::marker::Model;
 
@@ -41,7 +41,7 @@ impl Model for RunScript {
 }
 
 impl RunScript {
-    ghost use Rattle.bio.specs.Sizes.{bytes_of};
+    ghost use Rattle.bio.specs.Requests.{bytes_of};
     ghost use Rattle.dmlw_script.specs.Plans.{top_of};
     ghost use Rattle.dmlw_script.specs.RunPlans.{IsRunPlan};
 

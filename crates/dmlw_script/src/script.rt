@@ -47,7 +47,7 @@ impl Model for Script {
 }
 
 impl Script {
-    ghost use Rattle.bio.specs.Sizes.{bytes_of};
+    ghost use Rattle.bio.specs.Requests.{bytes_of};
     ghost use Rattle.dmlw_script.specs.Plans.{head_count, top_of, IsPlan};
 
     /// Makes the script with these parts.

@@ -1,10 +1,8 @@
 //! The id by which the lines of a recorder's script name a request.
 ghost use Rattle.std.specs.Prelude.{◌≡◌, ◌≤◌, Some, length};
 ghost use Rattle.std.specs.List.{list_all};
-ghost use Rattle.dmlw_script.specs.Ids.{is_name_byte as is_id_byte, is_id as is_an_id};
-ghost use Rattle.dmlw_script.specs.Ids.{letters_of};
-ghost use Rattle.dmlw_script.specs.Ids.{id_of_word, script_id};
-ghost use Rattle.dmlw_script.specs.Texts.{id_text};
+ghost use Rattle.dmlw_script.specs.Words.{id_text, is_name_byte as is_id_byte, is_id as is_an_id};
+ghost use Rattle.dmlw_script.specs.Words.{id_of_word, script_id, letters_of};
 
 use refusals::cut;
 use std::fmt;

@@ -2,8 +2,7 @@
 ghost use Rattle.std.specs.Prelude.{◌≡◌, ◌++◌, ◌∷◌, codes, decimal, OnOk};
 ghost use Rattle.dmlw_script.specs.Fields.{step_fields, text_of};
 
-use crate::command::Step;
-use crate::disk_name::DiskName;
+use crate::command::{DiskName, Step};
 use crate::parts::{push_sectors, push_value};
 use std::alloc::AllocError;
 

@@ -9,24 +9,19 @@ use Rattle.std.proofs.lemmas.Nat.{le-div}
 use Rattle.std.proofs.Math.Nat.{div-mul-le_self, lt-div-mul-add, mul-le-mul_right}
 use Rattle.std.specs.Prelude.{Result, nat_le, nat_lt, if◌then◌else◌}
 use Rattle.bio.specs.declared.outcome.DevError.{DevError}
-use Rattle.blockdev.specs.Calls.{Call, Discards, Flushes, Reads, Writes}
+use Rattle.blockdev.specs.View.{Call, Discards, Flushes, Reads, View, Writes}
 use Rattle.blockdev.specs.JoinLaws.{goes_cut, goes_next, goes_none, lands_all}
 use Rattle.blockdev.specs.JoinLaws.{lands_first, lands_next, no_lie_parts}
 use Rattle.blockdev.specs.Law.{DeviceFrame, WriteDone, NoLie}
-use Rattle.blockdev.specs.View.{View}
-use Rattle.bio.specs.Content.{HasNoneBelow}
-use Rattle.bio.specs.ContentLaws.{over-after, over-below}
+use Rattle.bio.specs.Content.{HasNoneBelow, HasNoneFrom, SameValues, below, between}
+use Rattle.bio.specs.ContentLaws.{discards-between, over-after, over-below, writes-between}
 use Rattle.bio.specs.PlaceLaws.{last_or_below}
-use Rattle.bio.specs.PartLaws.{discards-between, writes-between}
-use Rattle.bio.specs.Parts.{HasNoneFrom, SameValues, below, between}
 use Rattle.dust_layer.specs.declared.parts.Change.{Change}
 use Rattle.dust_layer.specs.declared.parts.Change.TheVariants as changes
-use Rattle.dust_layer.specs.BadBlocks.{Bad, IsList, left_at, with_entry, without}
-use Rattle.dust_layer.specs.Change.{call_of, fua_of}
-use Rattle.dust_layer.specs.Walk.{FailsBelow, Passes, begin_of}
-use Rattle.dust_layer.specs.Walk.{block_behind, blocks_of, count_of, first_of}
-use Rattle.dust_layer.specs.Walk.{list_passed, KeepsRest, part_of, part_within}
-use Rattle.dust_layer.specs.Walk.{patch_of, reach, stops}
+use Rattle.dust_layer.specs.Walk.{blocks_of, call_of, count_of, first_of, fua_of, part_within}
+use Rattle.dust_layer.specs.Walk.{FailsBelow, Passes, begin_of, block_behind, patch_of, reach}
+use Rattle.dust_layer.specs.Walk.{stops, list_passed, KeepsRest, part_of, Bad, IsList, left_at}
+use Rattle.dust_layer.specs.Walk.{with_entry, without}
 
 -- ---- blocks
 

@@ -2,7 +2,5 @@
 mod BlockWalk
 mod ReadParts
 mod OrderLaws
-mod OnlyGood
 mod ListLaws
 mod Examples
-mod Counterexamples

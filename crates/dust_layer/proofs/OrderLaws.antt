@@ -17,8 +17,8 @@ use Rattle.refusals.specs.Words.{after_byte, before_byte, is_number, number_of, 
 use Rattle.dust_layer.specs.declared.order.Order.{Order}
 use Rattle.dust_layer.specs.declared.order.Order.TheVariants as orders
 use Rattle.dust_layer.specs.Orders.{spaced, AsksFor, IsCount}
-use Rattle.dust_layer.specs.inside.OrderParser.{add_of, count_of, in_byte, lone_order, order_of}
-use Rattle.dust_layer.specs.inside.OrderParser.{order_parts, order_with}
+use Rattle.dust_layer.specs.inside.{add_of, count_of, in_byte, lone_order, order_of, order_parts}
+use Rattle.dust_layer.specs.inside.{order_with}
 
 -- ---- choices
 

@@ -10,18 +10,13 @@ use Rattle.std.proofs.lemmas.Nat.{le-div}
 use Rattle.std.proofs.Math.Nat.{div-mul-le_self}
 use Rattle.std.specs.Prelude.{Result, is_some}
 use Rattle.bio.specs.declared.outcome.DevError.{DevError}
-use Rattle.blockdev.specs.Calls.{Call, Reads}
+use Rattle.blockdev.specs.View.{Call, Reads, View}
 use Rattle.blockdev.specs.JoinLaws.{goes_both}
 use Rattle.blockdev.specs.JoinLaws.{stays_both}
 use Rattle.blockdev.specs.Law.{DeviceFrame, CrashSetKept}
-use Rattle.blockdev.specs.View.{View}
 use Rattle.bio.specs.Content.{Content, gather, nothing}
-use Rattle.bio.specs.SectorLaws.{gather-ext}
-use Rattle.bio.specs.PartLaws.{patched-none}
-use Rattle.dust_layer.specs.BadBlocks.{Bad}
-use Rattle.dust_layer.specs.Walk.{DoesParts, FailsBelow}
-use Rattle.dust_layer.specs.Walk.{bytes_within}
-use Rattle.dust_layer.specs.Walk.{part_of, part_within}
+use Rattle.bio.specs.ContentLaws.{gather-ext, patched-none}
+use Rattle.dust_layer.specs.Walk.{Bad, DoesParts, FailsBelow, bytes_within, part_of, part_within}
 use Rattle.dust_layer.specs.Walk.{reach}
 use Rattle.dust_layer.proofs.BlockWalk.{times-le, reach_last, HasPassed, passed_next}
 use Rattle.dust_layer.proofs.BlockWalk.{IsNextPart, next_part_from}

@@ -3,14 +3,13 @@
 use Rattle.std.proofs.Common.{ℕ, zero, suc, ◌+◌, Ok, Err, ap, subst, sym}
 use Rattle.std.specs.Prelude.{Result}
 use Rattle.bio.specs.declared.outcome.DevError.{DevError}
-use Rattle.blockdev.specs.Calls.{Call, Discards, Flushes, Reads, Writes}
+use Rattle.blockdev.specs.View.{Call, Discards, Flushes, Reads, Writes}
 use Rattle.dust_layer.specs.declared.mode.Mode.{Mode}
 use Rattle.dust_layer.specs.declared.mode.Mode.TheVariants.{Bypass, FailReadOnBadBlock}
 use Rattle.dust_layer.specs.declared.parts.Stop.{Stop}
 use Rattle.dust_layer.specs.declared.parts.Stop.TheVariants.{Below, Struck}
-use Rattle.dust_layer.specs.BadBlocks.{Bad}
+use Rattle.dust_layer.specs.Walk.{begin_of, blocks_of, part_of, ByBlock, DoesParts, Passes, Bad}
 use Rattle.dust_layer.specs.DustRule.{Held, IsChecked, IsDoneBy, IsPassed}
-use Rattle.dust_layer.specs.Walk.{begin_of, blocks_of, part_of, ByBlock, DoesParts, Passes}
 
 -- whether a call can change a device so: device before, call, time, result, device after
 abbrev pub Doing : Type 0 → Type 1

@@ -1,14 +1,18 @@
 -- The orders that a device with bad blocks takes as messages. For each order: the words that ask
 -- for it, the answers, and the state after it.
-use Rattle.std.specs.Prelude.{◌≡◌, ℕ, ◌*◌, ◌<◌, ◌≤◌, Bool, true, false, List, [], ◌∷◌, Some, None}
-use Rattle.std.specs.Prelude.{Result, Ok, Err, codes, is_some}
+use Rattle.std.proofs.Common.{refl, arith}
+use Rattle.std.specs.Prelude.{Result, Ok, Err, codes, is_some, ◌≡◌, ℕ, ◌*◌, ◌<◌, ◌≤◌, Bool, true}
+use Rattle.std.specs.Prelude.{false, List, [], ◌∷◌, Some, None}
+use Rattle.std.specs.Int.{is_power_of_two}
 use Rattle.std.specs.List.{join_with_byte}
 use Rattle.refusals.specs.Words.{IsNumber}
 use Rattle.blockdev.specs.declared.message.MessageError.{MessageError}
 use Rattle.blockdev.specs.declared.message.MessageError.TheVariants as errors
+use Rattle.dust_layer.specs.Walk.{Bad, IsList, with_entry}
+use Rattle.dust_layer.specs.declared.mode.Mode.{Mode}
+use Rattle.dust_layer.specs.declared.mode.Mode.TheVariants.{Bypass, FailReadOnBadBlock}
 use Rattle.dust_layer.specs.declared.order.Order.{Order}
 use Rattle.dust_layer.specs.declared.order.Order.TheVariants as orders
-use Rattle.dust_layer.specs.BadBlocks.{Bad, IsList, with_entry}
 
 -- ---- words
 
@@ -112,3 +116,30 @@ IsAnswered size sectors order (Ok done) old was new enabled =
     × (enabled ≡ mode_ordered order was)
 IsAnswered size sectors order (Err error) old was new enabled =
     IsRefused size sectors order old error × IsList new old × (enabled ≡ was)
+
+-- The sizes of blocks, and the words for the two modes.
+
+-- the bytes of a dust device's block: a power of two, from 512 to 1,073,741,824
+pub record IsBlockSize (bytes : ℕ) : Type 0 where
+  pub power : is_power_of_two bytes ≡ true
+  pub some : 512 ≤ bytes
+  pub few : bytes ≤ 1073741824
+
+-- the sectors of a block: at least one, and at most 2,097,152
+pub record IsBlock (sectors : ℕ) : Type 0 where
+  pub some : 0 < sectors
+  pub few : sectors ≤ 2097152
+
+-- a mode's word
+abbrev pub mode_text : Mode → List ℕ
+mode_text Bypass = codes "bypass"
+mode_text FailReadOnBadBlock = codes "fail_read_on_bad_block"
+
+-- blocks may have 512 bytes, and 1,024 bytes
+pub of_512 : IsBlockSize 512
+unfolding lib.Count.ones
+of_512 = record { power = refl; some = omega arith; few = omega arith }
+
+pub of_1024 : IsBlockSize 1024
+unfolding lib.Count.ones
+of_1024 = record { power = refl; some = omega arith; few = omega arith }

@@ -1,15 +1,50 @@
--- How a call goes over a device block by block.
-use Rattle.std.specs.Prelude.{◌≡◌, ℕ, zero, suc, ◌+◌, ◌-◌, ◌*◌, ◌/◌, ◌<◌, ◌≤◌, min, max, Bool, true}
-use Rattle.std.specs.Prelude.{false, List, length, take, drop, Some, is_some, nat_lt, Ok, Err}
-use Rattle.std.specs.Prelude.{Result}
-use Rattle.bio.specs.declared.outcome.DevError.{DevError}
-use Rattle.blockdev.specs.Calls.{Call, Discards, Flushes, Reads, Writes}
-use Rattle.blockdev.specs.Law.{HasCause}
-use Rattle.blockdev.specs.View.{View}
+-- The list of bad blocks, and how a call goes over a device block by block.
+use Rattle.std.specs.Prelude.{if◌then◌else◌, true, Err, ◌≡◌, ℕ, ◌==◌, ◌&&◌, nat_le, zero, suc, ◌+◌}
+use Rattle.std.specs.Prelude.{◌-◌, ◌*◌, ◌/◌, ◌<◌, ◌≤◌, min, max, Bool, Result, false, List, length}
+use Rattle.std.specs.Prelude.{take, drop, Some, is_some, nat_lt, Option, None, unwrap_or, Ok}
+use Rattle.std.specs.BTreeMap.{get}
+use Rattle.std.specs.Ordering.{nat_cmp}
 use Rattle.bio.specs.Content.{Patch, discards, nothing, writes}
+use Rattle.bio.specs.declared.outcome.DevError.{DevError}
+use Rattle.blockdev.specs.Law.{HasCause}
+use Rattle.blockdev.specs.View.{Call, Discards, Flushes, Reads, View, Writes}
+use Rattle.dust_layer.specs.declared.bad_blocks.BadBlocks.{BadBlocks}
+use Rattle.dust_layer.specs.declared.parts.Change.{Change}
+use Rattle.dust_layer.specs.declared.parts.Change.TheVariants as changes
 use Rattle.dust_layer.specs.declared.parts.Stop.{Stop}
 use Rattle.dust_layer.specs.declared.parts.Stop.TheVariants.{Below, Struck}
-use Rattle.dust_layer.specs.BadBlocks.{Bad, IsList, left_at, with_entry, without}
+
+-- The list of bad blocks, and how a call changes it.
+
+-- the count of each listed block: how many writes and discards it still fails
+abbrev pub Bad : Type 0
+Bad = ℕ → Option ℕ
+
+-- the counts of the blocks that `blocks` lists
+abbrev pub listed : BadBlocks → Bad
+listed blocks = get nat_cmp blocks.counts
+
+-- both list the same blocks, with the same counts
+abbrev pub IsList : Bad → Bad → Type 0
+IsList new old = (block : ℕ) → new block ≡ old block
+
+-- no block is listed
+abbrev pub IsNoList : Bad → Type 0
+IsNoList bad = (block : ℕ) → bad block ≡ None
+
+-- the count that a block has left: 0 if it isn't listed
+abbrev pub left_at : Bad → ℕ → ℕ
+left_at bad block = unwrap_or (bad block) 0
+
+-- the list `bad`, but with `entry` as the entry of block `place`
+abbrev pub with_entry : ℕ → Option ℕ → Bad → Bad
+with_entry place entry bad block = if place == block then entry else bad block
+
+-- the list `bad` without the blocks from `from` to before `to`
+abbrev pub without : ℕ → ℕ → Bad → Bad
+without from to bad block = if nat_le from block && nat_lt block to then None else bad block
+
+-- How a call goes over a device block by block.
 
 -- the first sector of a call, and its number of sectors
 abbrev pub first_of : Call → ℕ
@@ -180,3 +215,15 @@ HasCauseBelow now v w (Err (Below error)) = HasCause now v w (Err error)
 pub record IsTouched (block first count place : ℕ) : Type 0 where
   pub low : block_of_first block first ≤ place
   pub high : place < block_behind block first count
+
+-- The call that a `Change` asks for, and whether it is durable.
+
+-- the write from `first` on, or the discard of `count` sectors from `first` on
+abbrev pub call_of : ℕ → ℕ → Change → Call
+call_of first count (changes.Write bytes fua) = Writes first bytes.now fua
+call_of first count changes.Discard = Discards first count
+
+-- whether the change is durable when it ends
+abbrev pub fua_of : Change → Bool
+fua_of (changes.Write bytes fua) = fua
+fua_of changes.Discard = false

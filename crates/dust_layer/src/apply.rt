@@ -1,7 +1,7 @@
 //! Does what a message to a device with bad blocks asks for, or refuses it.
 //! `Dust` calls `apply` for each order that `order_of` parses.
 ghost use Rattle.std.specs.Prelude.{◌<◌, ◌↔◌, IsTrue};
-ghost use Rattle.dust_layer.specs.BadBlocks.{listed};
+ghost use Rattle.dust_layer.specs.Walk.{listed};
 ghost use Rattle.dust_layer.specs.Orders.{IsAnswered, IsWithin};
 
 use crate::bad_blocks::BadBlocks;

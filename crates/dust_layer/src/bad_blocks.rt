@@ -4,7 +4,7 @@ ghost use Rattle.std.specs.Prelude.{◌≡◌, ◌-◌, IfErr, Err, Ok, OnErr, O
 ghost use Rattle.std.specs.Prelude.{is_some, nat_lt, true};
 ghost use Rattle.blockdev.specs.declared.message.MessageError.TheVariants.{AlreadyBad, Memory};
 ghost use Rattle.blockdev.specs.declared.message.MessageError.TheVariants.{NotBad};
-ghost use Rattle.dust_layer.specs.BadBlocks.{IsList, IsNoList, left_at, listed, with_entry};
+ghost use Rattle.dust_layer.specs.Walk.{IsList, IsNoList, left_at, listed, with_entry};
 
 use blockdev::MessageError;
 use std::alloc::{AllocError, Global};

@@ -1,12 +1,11 @@
 //! Does writes, discards and reads block by block, up to the first part that isn't done. `Dust`
 //! uses these functions in the mode in which bad blocks fail calls.
 ghost use Rattle.std.specs.Prelude.{◌≡◌, ◌<◌, ◌≤◌, ◌/◌, OnOk, length};
-ghost use Rattle.blockdev.specs.Calls.{IsByteRange, IsRange, Reads};
+ghost use Rattle.blockdev.specs.View.{IsByteRange, IsRange, Reads};
 ghost use Rattle.blockdev.specs.Law.{DeviceFrame, WriteDone, NoLie, CrashSetKept};
 ghost use Rattle.bio.specs.Content.{gather, nothing};
-ghost use Rattle.dust_layer.specs.BadBlocks.{listed};
-ghost use Rattle.dust_layer.specs.Change.{call_of, fua_of};
-ghost use Rattle.dust_layer.specs.Walk.{ByBlock, HasCauseBelow, count_of, patch_of};
+ghost use Rattle.dust_layer.specs.Walk.{ByBlock, HasCauseBelow, call_of, count_of, fua_of, listed};
+ghost use Rattle.dust_layer.specs.Walk.{patch_of};
 
 use crate::bad_blocks::BadBlocks;
 use crate::parts::{Change, Stop, change_part, reach, read_part};

@@ -1,7 +1,7 @@
 //! `Dust`: the layer with bad blocks, like Linux's dm-dust. In bypass it passes every call. In the
 //! other mode it does reads, writes and discards block by block.
 ghost use Rattle.std.proofs.Props.{props};
-ghost use Rattle.dust_layer.specs.Sizes.{IsBlock, IsBlockSize};
+ghost use Rattle.dust_layer.specs.Orders.{IsBlock, IsBlockSize};
 
 use crate::apply::apply;
 use crate::bad_blocks::BadBlocks;
@@ -28,7 +28,7 @@ pub struct Dust<D: Drop> {
 
 impl<D: BlockDev + Drop> Dust<D> {
     ghost use Rattle.std.specs.Prelude.{◌≡◌, ◌/◌};
-    ghost use Rattle.dust_layer.specs.BadBlocks.{IsNoList, listed};
+    ghost use Rattle.dust_layer.specs.Walk.{IsNoList, listed};
     ghost use Rattle.dust_layer.specs.DustRule.{answer_of, faults_after};
     ghost use Rattle.dust_layer.specs.declared.mode.Mode.TheVariants.{Bypass};
 
@@ -184,7 +184,7 @@ impl<D: Message + Drop> Dust<D> {
 
 impl<D: BlockDev + Drop> Message for Dust<D> {
     ghost use Rattle.std.specs.Prelude.{◌≡◌};
-    ghost use Rattle.dust_layer.specs.MessageRule.{IsMessageDone};
+    ghost use Rattle.dust_layer.specs.DustRule.{IsMessageDone};
 
     ghost answers = { λ old layer text result new. IsMessageDone
         (D.shown old.lower).size layer text result old new };

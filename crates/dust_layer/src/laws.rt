@@ -1,18 +1,17 @@
 //! A law of the device with bad blocks. The function does nothing, and its `ensures` clauses are
 //! the law.
 ghost use Rattle.std.specs.Prelude.{◌≡◌, ◌/◌, Bool, List, None, Ok, length, ℕ};
-ghost use Rattle.blockdev.specs.Calls.{Discards, Reads, Writes};
+ghost use Rattle.blockdev.specs.View.{Discards, Reads, Writes};
 ghost use Rattle.dust_layer.specs.declared.dust.Dust.{Dust};
 ghost use Rattle.dust_layer.specs.declared.mode.Mode.TheVariants.{FailReadOnBadBlock};
-ghost use Rattle.dust_layer.specs.BadBlocks.{left_at, listed};
+ghost use Rattle.dust_layer.specs.Walk.{IsTouched, left_at, listed};
 ghost use Rattle.dust_layer.specs.DustRule.{IsDusted};
-ghost use Rattle.dust_layer.specs.Walk.{IsTouched};
 
 use blockdev::BlockDev;
 
 /// If bad blocks fail calls, a write or a discard that ends Ok touched no block that had a count
 /// above 0. A read that ends Ok touched no listed block.
-#[tactic(auto, using(crate::proofs::OnlyGood::good_writes, crate::proofs::OnlyGood::good_discards, crate::proofs::OnlyGood::good_reads))]
+#[tactic(auto, using(crate::proofs::ListLaws::good_writes, crate::proofs::ListLaws::good_discards, crate::proofs::ListLaws::good_reads))]
 pub fn only_good_blocks_are_passed<D: BlockDev + Drop>()
     ensures writes { (old new : Dust D) (first : ℕ) (bytes : List ℕ) (fua : Bool)
         (now end block : ℕ) →

@@ -1,7 +1,7 @@
 //! The two modes of a device with bad blocks, and dm-dust's words for them.
 //! The messages `enable` and `disable` change the mode of a `Dust`.
-ghost use Rattle.dust_layer.specs.MessageRule.{is_enabled};
-ghost use Rattle.dust_layer.specs.Sizes.{mode_text};
+ghost use Rattle.dust_layer.specs.DustRule.{is_enabled};
+ghost use Rattle.dust_layer.specs.Orders.{mode_text};
 
 /// What a device does with calls at its bad blocks.
 #[derive(Clone, Copy, Debug, PartialEq, Eq)]

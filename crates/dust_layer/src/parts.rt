@@ -2,11 +2,11 @@
 //! discard or a read by such parts, one for each block.
 ghost use Rattle.std.specs.Prelude.{◌≡◌, ◌<◌, ◌≤◌, ◌+◌, ◌-◌, ◌*◌, ◌/◌, OnOk, drop, length};
 ghost use Rattle.std.specs.Prelude.{take};
-ghost use Rattle.blockdev.specs.Calls.{IsByteRange, IsRange, Reads};
+ghost use Rattle.blockdev.specs.View.{IsByteRange, IsRange, Reads};
 ghost use Rattle.blockdev.specs.Law.{DeviceFrame, HasCause, WriteDone, NoLie, CrashSetKept};
 ghost use Rattle.bio.specs.Content.{gather, nothing};
-ghost use Rattle.dust_layer.specs.Change.{call_of, fua_of};
-ghost use Rattle.dust_layer.specs.Walk.{bytes_within, count_of, part_within, patch_of, reach};
+ghost use Rattle.dust_layer.specs.Walk.{bytes_within, call_of, count_of, fua_of, part_within};
+ghost use Rattle.dust_layer.specs.Walk.{patch_of, reach};
 
 use bio::{DevError, Ms, SECTOR_BYTES};
 use blockdev::BlockDev;

@@ -1,4 +1,3 @@
 -- The lemmas of `fault_layers`. The proof of a function is in the folder named after its source
 -- file.
 pub mod Examples
-mod Counterexamples

@@ -3,8 +3,8 @@ use Rattle.std.specs.Prelude.{◌≡◌, ◌≤◌, ℕ, Err, Ok, Result}
 use Rattle.bio.specs.declared.outcome.DevError.{DevError}
 use Rattle.bio.specs.declared.outcome.DevError.TheVariants.{Io}
 use Rattle.bio.specs.Moments.{later_by}
-use Rattle.blockdev.specs.Calls as calls
-use Rattle.blockdev.specs.Calls.{Call}
+use Rattle.blockdev.specs.View as calls
+use Rattle.blockdev.specs.View.{Call}
 use Rattle.blockdev.specs.OwnCounts.{one_more}
 use Rattle.fault_layers.specs.declared.gate.Kind.{Kind}
 use Rattle.fault_layers.specs.declared.gate.Kind.TheVariants.{Discard, Flush, Read, Write}

@@ -1,11 +1,11 @@
 -- Which calls a gate never drops, and when a delayed call of a disk in memory ends.
 use Rattle.std.proofs.Common.{◌≡◌, ◌∙◌, ℕ, Bool, Ok, zero, suc, true, false, true≢false, refl, sym}
 use Rattle.bio.specs.Moments.{later_by}
-use Rattle.blockdev.specs.Calls.{Call, Discards, Flushes, Reads, Writes}
+use Rattle.blockdev.specs.View.{Call, Discards, Flushes, Reads, Writes}
 use Rattle.sector_disk.specs.DiskView.{Does}
 use Rattle.sector_disk.specs.declared.disk.SectorDisk.{SectorDisk}
-use Rattle.fault_layers.specs.declared.feature.Feature.{Feature}
-use Rattle.fault_layers.specs.declared.feature.Feature.TheVariants as features
+use Rattle.fault_layers.specs.declared.target.Feature.{Feature}
+use Rattle.fault_layers.specs.declared.target.Feature.TheVariants as features
 use Rattle.fault_layers.specs.declared.gated.Gated.{Gated}
 use Rattle.fault_layers.specs.declared.gate.Kind.{Kind}
 use Rattle.fault_layers.specs.declared.gate.Kind.TheVariants.{Discard, Flush, Read, Write}

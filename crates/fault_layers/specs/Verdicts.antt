@@ -1,11 +1,11 @@
 -- The verdict about a call by a layer's target, and the target after the call.
 use Rattle.std.specs.Prelude.{ℕ, zero, suc, ◌+◌, ◌-◌, ◌*◌, ◌%◌, ◌≤◌, Bool, true, false, nat_lt}
-use Rattle.fault_layers.specs.declared.feature.Feature.{Feature}
-use Rattle.fault_layers.specs.declared.feature.Feature.TheVariants as features
 use Rattle.fault_layers.specs.declared.gate.Kind.{Kind}
 use Rattle.fault_layers.specs.declared.gate.Kind.TheVariants.{Discard, Flush, Read, Write}
 use Rattle.fault_layers.specs.declared.gate.Verdict.{Verdict}
 use Rattle.fault_layers.specs.declared.gate.Verdict.TheVariants.{Delay, Drop, Fail, Pass}
+use Rattle.fault_layers.specs.declared.target.Feature.{Feature}
+use Rattle.fault_layers.specs.declared.target.Feature.TheVariants as features
 use Rattle.fault_layers.specs.declared.target.Target.{Target}
 use Rattle.fault_layers.specs.declared.target.Target.TheVariants as targets
 

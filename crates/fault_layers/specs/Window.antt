@@ -1,7 +1,6 @@
 -- The view and the calls of a device that is a range of another device's sectors.
 use Rattle.std.specs.Prelude.{◌≡◌, ℕ, ◌+◌}
-use Rattle.blockdev.specs.Calls.{Call, Discards, Flushes, Reads, Writes}
-use Rattle.blockdev.specs.View.{View}
+use Rattle.blockdev.specs.View.{Call, Discards, Flushes, Reads, View, Writes}
 use Rattle.bio.specs.Content.{Content, moved}
 
 -- the same call, shifted by `offset` sectors

@@ -1,8 +1,7 @@
 -- A range of a lawful device is lawful, and the device law holds for the range's calls.
 use Rattle.std.proofs.Common.{◌≡◌, ℕ, ◌+◌, Bool, List, length, refl, ap, ◌∙◌, inl, inr, arith}
 use Rattle.std.specs.Prelude.{◌/◌, Option, replicate, unwrap_or}
-use Rattle.blockdev.specs.Calls.{IsRange}
-use Rattle.blockdev.specs.View.{IsLawful, Place, View}
+use Rattle.blockdev.specs.View.{IsLawful, IsRange, Place, View}
 use Rattle.blockdev.specs.Law.{AfterPatch, DeviceFrame, WriteDone, NoLie}
 use Rattle.blockdev.specs.Messages.{Unchanged}
 use Rattle.bio.specs.Content.{Content, Patch, Patched, discards, moved, nothing, put}

@@ -2,10 +2,9 @@
 //! holds the layer's target.
 ghost use Rattle.fault_layers.specs.declared.target.Target.TheVariants as targets;
 
-use crate::feature::Feature;
 use crate::gate::Gate;
 use crate::gated::Gated;
-use crate::target::Target;
+use crate::target::{Feature, Target};
 use bio::Ms;
 use blockdev::BlockDev;
 

@@ -3,8 +3,7 @@
 ghost use Rattle.std.specs.Prelude.{◌≡◌};
 ghost use Rattle.fault_layers.specs.Verdicts.{delay_of, flakey_verdict, IsCycle};
 
-use crate::feature::Feature;
-use crate::target::Target;
+use crate::target::{Feature, Target};
 use bio::Ms;
 use std::marker::Model;
 

@@ -1,7 +1,7 @@
 //! Laws of the layers. Each function does nothing, and its `ensures` clauses are the law.
 ghost use Rattle.std.specs.Prelude.{◌≡◌, false, Ok, ℕ};
 ghost use Rattle.bio.specs.Moments.{later_by};
-ghost use Rattle.blockdev.specs.Calls.{Call};
+ghost use Rattle.blockdev.specs.View.{Call};
 ghost use Rattle.fault_layers.specs.Decision.{IsDecided, kind_of};
 ghost use Rattle.fault_layers.specs.declared.gate.Kind.{Kind};
 ghost use Rattle.fault_layers.specs.declared.gate.Kind.TheVariants.{Read};

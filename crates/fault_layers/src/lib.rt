@@ -5,14 +5,12 @@
 #![tactic(auto)]
 
 pub use devices::{AsDelay, AsError, AsFlakey, AsFuse, Delay, ErrorDev, Flakey, Fuse};
-pub use feature::Feature;
 pub use gate::{Gate, Kind, Verdict};
 pub use gated::Gated;
 pub use linear::Linear;
-pub use target::Target;
+pub use target::{Feature, Target};
 
 mod devices;
-mod feature;
 mod gate;
 mod gated;
 pub mod laws;

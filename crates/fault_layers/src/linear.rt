@@ -1,7 +1,7 @@
 //! The linear layer: a range of another device's sectors as a device of its own. `layer_table` puts
 //! a `Linear` below each layer that it makes.
 ghost use Rattle.std.proofs.Props.{props};
-ghost use Rattle.blockdev.specs.Calls.{IsRange};
+ghost use Rattle.blockdev.specs.View.{IsRange};
 
 use bio::{DevError, Ms};
 use blockdev::{BlockDev, Message, MessageError};

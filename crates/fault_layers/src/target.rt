@@ -1,6 +1,18 @@
 //! `Target`: what a layer does, as a table line asks for it. Each layer has a variant. The rules
 //! are in specs/Verdicts and in `Gate::decide`; for `Dust`, in the crate `dust_layer`.
-use crate::feature::Feature;
+
+/// What a flakey device does while it is down.
+#[derive(Clone, Copy, Debug, PartialEq, Eq)]
+pub enum Feature {
+    /// It answers Io to every call.
+    None,
+    /// It answers Io to reads, and passes the other calls.
+    ErrorReads,
+    /// It answers Io to writes, discards and flushes, and passes reads.
+    ErrorWrites,
+    /// It drops writes, discards and flushes, and reports them as done at once. It passes reads.
+    DropWrites,
+}
 
 /// The target of a layer, with its parameters.
 #[derive(Clone, Copy, Debug, PartialEq, Eq)]

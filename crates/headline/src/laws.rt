@@ -4,11 +4,10 @@ ghost use Rattle.std.specs.Prelude.{◌≡◌, ◌≤◌, ℕ, List, length};
 ghost use Rattle.bio.specs.Content.{AgreeBelow, Content};
 ghost use Rattle.bio.specs.declared.event.CoreEvent.{CoreEvent};
 ghost use Rattle.headline.specs.Headline.{HoldsLogOf};
-ghost use Rattle.pending.specs.Prefixes.{BelongsTo};
-ghost use Rattle.pending.specs.CompletionList.{completion_list, dm_log_writes};
-ghost use Rattle.pending.specs.Moments.{last_moment};
+ghost use Rattle.pending.specs.CompletionList.{BelongsTo, completion_list, dm_log_writes};
+ghost use Rattle.pending.specs.CompletionList.{last_moment};
 ghost use Rattle.recorder.specs.PlainCrash.{LeavesPlainLog};
-ghost use Rattle.recorder.specs.Fields.{core_of, recorder_view};
+ghost use Rattle.recorder.specs.Calls.{core_of, recorder_view};
 ghost use Rattle.recorder.specs.declared.recorder.Recorder.{Recorder};
 
 use blockdev::BlockDev;

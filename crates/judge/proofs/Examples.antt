@@ -12,13 +12,12 @@ use Rattle.bio.specs.declared.event.CoreEvent.TheVariants.{Submit, Complete}
 use Rattle.bio.specs.declared.request.Bio.TheVariants.{Write, Flush}
 use Rattle.bio.specs.Events.{end_of, is_flush_submit}
 use Rattle.bio.specs.Possible.{PossibleAt, ended_ok, is_kept}
-use Rattle.judge.specs.Latest.{IsLastFlush}
+use Rattle.judge.specs.Accounts.{IsAccount, IsFirstOf, IsLastFlush, first_bytes, is_held_from}
+use Rattle.judge.specs.Accounts.{last_below, place_at}
 use Rattle.judge.specs.Verdicts.{FailsAt, IsLastKept, IsRuledOutBy}
 use Rattle.judge.specs.declared.accounts.Account.{Account}
-use Rattle.judge.specs.Accounts.{IsAccount, is_held_from, last_below, place_at}
-use Rattle.judge.specs.declared.first.First.{First}
-use Rattle.judge.specs.declared.first.First.TheVariants.{Zeroes}
-use Rattle.judge.specs.Firsts.{IsFirstOf, first_bytes}
+use Rattle.judge.specs.declared.accounts.First.{First}
+use Rattle.judge.specs.declared.accounts.First.TheVariants.{Zeroes}
 
 -- the writes have the bytes 1 and 2; the flush is submitted
 -- at the fourth moment and has ended at the sixth

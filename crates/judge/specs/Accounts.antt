@@ -1,12 +1,15 @@
 -- An `Account` of a list of events and an image, from which the verdict follows.
-use Rattle.std.specs.Prelude.{◌≡◌, ℕ, zero, suc, ◌<◌, Bool, false, not, ◌&&◌, Option, Some, None}
-use Rattle.std.specs.Prelude.{List, length, get_or, slice_get, if◌then◌else◌}
+use Rattle.std.specs.Prelude.{zero, suc, ◌<◌, Bool, false, not, ◌&&◌, Option, Some, None, List}
+use Rattle.std.specs.Prelude.{length, replicate, get_or, slice_get, if◌then◌else◌, ◌≡◌, ℕ, ◌≤◌}
+use Rattle.std.specs.Prelude.{true}
 use Rattle.std.specs.Str.{bytes_eq}
-use Rattle.bio.specs.Content.{Content}
+use Rattle.bio.specs.Content.{Content, sector_of}
 use Rattle.bio.specs.declared.event.CoreEvent.{CoreEvent}
-use Rattle.bio.specs.Events.{end_of}
-use Rattle.bio.specs.Possible.{is_kept, is_replaced, values_at}
+use Rattle.bio.specs.Events.{end_of, is_flush_submit}
+use Rattle.bio.specs.Possible.{ended_ok, is_kept, is_replaced, values_at}
 use Rattle.judge.specs.declared.accounts.Account.{Account}
+use Rattle.judge.specs.declared.accounts.First.{First}
+use Rattle.judge.specs.declared.accounts.First.TheVariants.{Zeroes, Image}
 
 -- the last index below `n` that passes `test`
 abbrev pub last_below : (ℕ → Bool) → ℕ → Option ℕ
@@ -41,3 +44,27 @@ pub record IsAccount (events : List CoreEvent) (now : Content) (sectors : ℕ)
       ≡ last_below (is_kept events sector) (length events)
   pub held : (sector : ℕ) → sector < sectors → place_at account.held.items sector
       ≡ last_below (is_held_from events now sector) (length events)
+
+-- The flush that decides which requests are durable.
+
+-- `id` is the last submitted flush that ended with success
+pub record IsLastFlush (events : List CoreEvent) (id : ℕ) : Type 0 where
+  pub flush : is_flush_submit (slice_get events id) ≡ true
+  pub ended : ended_ok events id ≡ true
+  pub last : (later : ℕ) → is_flush_submit (slice_get events later) ≡ true → ended_ok events later
+      ≡ true → later ≤ id
+
+-- The content of a device before the first event.
+
+-- the bytes of `first`: of the image, or `count` zeroes
+abbrev pub first_bytes : First → ℕ → List ℕ
+first_bytes Zeroes count = replicate count 0
+first_bytes (Image bytes) count = bytes.now
+
+-- the content with the bytes of `first`
+abbrev pub first_on : First → ℕ → Content
+first_on first count = sector_of (first_bytes first count)
+
+-- `first` has `count` bytes, the size of the device
+abbrev pub IsFirstOf : ℕ → First → Type 0
+IsFirstOf count first = length (first_bytes first count) ≡ count

@@ -1,5 +1,6 @@
 -- What a verdict on an image means.
-use Rattle.std.specs.Prelude.{◌≡◌, ℕ, ◌<◌, ◌≤◌, true, false, Option, Some, None, List}
+use Rattle.std.specs.Prelude.{◌≡◌, ℕ, ◌<◌, ◌≤◌, true, false, Option, Some, None, codes, List, ◌++◌}
+use Rattle.std.specs.Fmt.{decimal}
 use Rattle.bio.specs.Content.{Content}
 use Rattle.bio.specs.declared.event.CoreEvent.{CoreEvent}
 use Rattle.bio.specs.Possible.{Possible, PossibleAt, has_kept, is_kept}
@@ -30,3 +31,16 @@ pub record FailsAt (events : List CoreEvent) (first now : Content) (sectors sect
 abbrev pub IsVerdict : ℕ → List CoreEvent → Content → Content → Verdict → Type 0
 IsVerdict sectors events first now Yes = Possible events first now
 IsVerdict sectors events first now (No sector by) = FailsAt events first now sectors sector by
+
+-- How a verdict is printed.
+
+-- why the sector fails: a durable request rules its value out, or no submitted request has its
+-- value
+abbrev pub reason_text : Option ℕ → List ℕ
+reason_text None = codes "holds no submitted value"
+reason_text (Some id) = codes "ruled out by event " ++ decimal id
+
+-- yes, or no with the lowest sector that fails and the reason
+abbrev pub verdict_text : Verdict → List ℕ
+verdict_text Yes = codes "yes"
+verdict_text (No sector by) = codes "no sector " ++ decimal sector ++ codes " " ++ reason_text by

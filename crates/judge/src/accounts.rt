@@ -2,21 +2,28 @@
 //! makes an account, then asks for the verdict.
 ghost use Rattle.std.specs.Prelude.{◌≡◌, ◌/◌, ◌%◌, ◌<◌, IfOk, List, length, true};
 ghost use Rattle.bio.specs.declared.event.CoreEvent.{CoreEvent};
-ghost use Rattle.bio.specs.Lawful.{is_lawful};
+ghost use Rattle.bio.specs.Events.{is_lawful};
 ghost use Rattle.bio.specs.Content.{sector_of};
 ghost use Rattle.std.specs.Str.{bytes_eq};
-ghost use Rattle.judge.specs.Accounts.{IsAccount, place_at};
-ghost use Rattle.judge.specs.Firsts.{IsFirstOf, first_on};
+ghost use Rattle.judge.specs.Accounts.{IsAccount, IsFirstOf, first_on, place_at};
 ghost use Rattle.judge.specs.Verdicts.{IsVerdict};
-ghost use Rattle.judge.specs.inside.Accounts.{IsFound, is_at_first, could_hold_value};
+ghost use Rattle.judge.specs.inside.{IsFound, is_at_first, could_hold_value};
 
 use crate::ends::{end_at, ends_of};
-use crate::first::First;
 use crate::held::{SECTOR, held_values, sector_bytes};
 use crate::kept::last_kept;
 use crate::verdict::Verdict;
 use bio::{CoreEvent, Id};
 use std::alloc::{AllocError, Global};
+
+/// The content of a device before the first event.
+#[derive(Clone, Copy, Debug)]
+pub enum First<'a> {
+    /// Zeroes in each sector.
+    Zeroes,
+    /// The content of this image: whole sectors of 512 bytes, as many as the device has.
+    Image(&'a [u8]),
+}
 
 /// The account of a list of events and an image. An event is named by its index, from 0.
 #[derive(Debug, Drop)]
@@ -82,7 +89,7 @@ impl Account {
 }
 
 // Returns whether the image has the value of `first` in the sector.
-#[tactic(auto, using(crate::proofs::Values::zero_sector))]
+#[tactic(auto, using(crate::proofs::HeldValues::zero_sector))]
 fn has_first(first: First, image: &[u8], sector: usize) -> bool
     requires within { sector < length image.now / 512 }
     requires same { IsFirstOf (length image.now) first }

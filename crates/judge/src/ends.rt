@@ -5,7 +5,7 @@ ghost use Rattle.bio.specs.Events.{is_end_of};
 ghost use Rattle.bio.specs.Possible.{ended_ok, is_success};
 ghost use Rattle.bio.specs.Places.{or_here};
 ghost use Rattle.judge.specs.Accounts.{place_at};
-ghost use Rattle.judge.specs.inside.Last.{AreEnds, is_below_last};
+ghost use Rattle.judge.specs.inside.{AreEnds, is_below_last};
 
 use bio::CoreEvent;
 use std::alloc::{AllocError, Global};

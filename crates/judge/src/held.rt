@@ -6,8 +6,7 @@ ghost use Rattle.std.specs.Prelude.{ℕ};
 ghost use Rattle.bio.specs.declared.event.CoreEvent.TheVariants.{Submit};
 ghost use Rattle.bio.specs.Possible.{values_at, values_of};
 ghost use Rattle.bio.specs.Content.{discards, sector_of, writes};
-ghost use Rattle.judge.specs.inside.Accounts.{AreFit, AreHeld, has_value_of};
-ghost use Rattle.judge.specs.inside.Last.{AreEnds, AreLastKept};
+ghost use Rattle.judge.specs.inside.{AreEnds, AreFit, AreHeld, AreLastKept, has_value_of};
 ghost use Rattle.judge.specs.Accounts.{is_value, place_at};
 
 use crate::ends::{end_at, is_before};
@@ -19,7 +18,7 @@ use std::alloc::{AllocError, Global};
 pub const SECTOR: usize = SECTOR_BYTES as usize;
 
 /// Returns the bytes of a sector of an image.
-#[tactic(auto, using(crate::proofs::Values::part_is_sector))]
+#[tactic(auto, using(crate::proofs::HeldValues::part_is_sector))]
 pub fn sector_bytes(image: &[u8], sector: usize) -> &[u8]
     requires { sector < length image.now / 512 }
     ensures { result.now ≡ sector_of image.now sector }
@@ -42,7 +41,7 @@ pub fn place_in(first: u64, count: u64, sector: usize) -> Option<usize>
 }
 
 // Returns whether a write puts exactly the bytes `value` in the sector.
-#[tactic(auto, using(crate::proofs::Values::no_value, crate::proofs::Values::some_value))]
+#[tactic(auto, using(crate::proofs::HeldValues::no_value, crate::proofs::HeldValues::some_value))]
 fn writes_value(first: u64, bytes: &[u8], sector: usize, value: &[u8]) -> bool
     ensures { result ≡ is_value (writes first bytes.now sector) value.now }
 {
@@ -53,7 +52,7 @@ fn writes_value(first: u64, bytes: &[u8], sector: usize, value: &[u8]) -> bool
 }
 
 // Returns whether a discard covers the sector, and `value` is zeroes.
-#[tactic(auto, using(crate::proofs::Values::no_value, crate::proofs::Values::some_value))]
+#[tactic(auto, using(crate::proofs::HeldValues::no_value, crate::proofs::HeldValues::some_value))]
 fn discards_value(first: u64, count: u64, sector: usize, value: &[u8]) -> bool
     ensures { result ≡ is_value (discards first count sector) value.now }
 {

@@ -1,12 +1,11 @@
 //! Judges an image: could a device have held it, had power failed after some events?
 ghost use Rattle.std.specs.Prelude.{◌≡◌, ◌/◌, ◌%◌, IfOk, length, take, true};
-ghost use Rattle.bio.specs.Lawful.{is_lawful};
+ghost use Rattle.bio.specs.Events.{is_lawful};
 ghost use Rattle.bio.specs.Content.{sector_of};
-ghost use Rattle.judge.specs.Firsts.{IsFirstOf, first_on};
+ghost use Rattle.judge.specs.Accounts.{IsFirstOf, first_on};
 ghost use Rattle.judge.specs.Verdicts.{IsVerdict};
 
-use crate::accounts::Account;
-use crate::first::First;
+use crate::accounts::{Account, First};
 use crate::verdict::Verdict;
 use bio::CoreEvent;
 use std::alloc::{AllocError, Global};

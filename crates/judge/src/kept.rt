@@ -5,7 +5,7 @@ ghost use Rattle.std.specs.Prelude.{slice_get, ℕ};
 ghost use Rattle.bio.specs.declared.event.CoreEvent.TheVariants.{Submit};
 ghost use Rattle.bio.specs.Possible.{covers_at, is_durable};
 ghost use Rattle.judge.specs.Accounts.{last_below, place_at};
-ghost use Rattle.judge.specs.inside.Last.{AreCovered, AreEnds, AreLastKept, ArePut, is_sure_flush};
+ghost use Rattle.judge.specs.inside.{AreCovered, AreEnds, AreLastKept, ArePut, is_sure_flush};
 
 use crate::ends::{end_at, ended_ok, is_before};
 use bio::{Bio, CoreEvent};
@@ -28,7 +28,7 @@ fn last_flush(events: &[CoreEvent], ends: &[Option<usize>]) -> Option<usize>
 
 // Returns whether the request that the event submits is durable. It ended with success, and it has
 // FUA or ended before the submission of `flush`, the last submitted flush that ended with success.
-#[tactic(auto, using(crate::proofs::Last::flushed_last))]
+#[tactic(auto, using(crate::proofs::HeldValues::flushed_last))]
 fn is_durable(
     events: &[CoreEvent],
     ends: &[Option<usize>],
@@ -68,7 +68,7 @@ fn covered_by(bio: &Bio, sectors: usize) -> (usize, usize)
 }
 
 /// Returns, for each sector, the durable request over it that was submitted last.
-#[tactic(auto, using(crate::proofs::Last::last_kept_durable, crate::proofs::Last::last_kept_other))]
+#[tactic(auto, using(crate::proofs::HeldValues::last_kept_durable, crate::proofs::HeldValues::last_kept_other))]
 pub fn last_kept(
     alloc: Global,
     events: &[CoreEvent],
@@ -89,7 +89,7 @@ pub fn last_kept(
 }
 
 // Sets the entries of `last` to `place`, for the sectors that the event's request covers.
-#[tactic(auto, using(crate::proofs::Last::covered_in, crate::proofs::Last::covered_out))]
+#[tactic(auto, using(crate::proofs::HeldValues::covered_in, crate::proofs::HeldValues::covered_out))]
 fn note_kept(last: &mut Vec<Option<usize>>, event: &CoreEvent, place: usize)
     ensures size { length last.new.items ≡ length last.old.items }
     ensures covered { (sector : ℕ) → sector < length last.old.items

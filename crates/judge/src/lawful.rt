@@ -1,8 +1,8 @@
 //! Decides whether a recorder may have recorded a list of events. `could_hold` requires this.
 ghost use Rattle.std.specs.Prelude.{◌≡◌, ◌<◌, Some, is_none, length, slice_get};
-ghost use Rattle.bio.specs.Events.{end_of, is_close, is_end_of, is_open_at, is_request, is_stop};
-ghost use Rattle.bio.specs.Lawful.{can_follow, has_no_close, has_no_stop, is_lawful, is_recording};
-ghost use Rattle.bio.specs.Lawful.{is_text, is_well_formed, is_within, none_open};
+ghost use Rattle.bio.specs.Events.{can_follow, end_of, has_no_close, has_no_stop, is_close};
+ghost use Rattle.bio.specs.Events.{is_end_of, is_lawful, is_open_at, is_recording, is_request};
+ghost use Rattle.bio.specs.Events.{is_stop, is_text, is_well_formed, is_within, none_open};
 ghost use Rattle.bio.specs.Places.{all_below};
 
 use bio::{CoreEvent, check};

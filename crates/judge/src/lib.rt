@@ -7,8 +7,7 @@
 //! `is_lawful` returns whether a recorder may have recorded a list of events.
 #![tactic(auto)]
 
-pub use accounts::Account;
-pub use first::First;
+pub use accounts::{Account, First};
 pub use held::{SECTOR, place_in, sector_bytes};
 pub use images::{beginning, could_hold};
 pub use lawful::is_lawful;
@@ -16,7 +15,6 @@ pub use verdict::Verdict;
 
 mod accounts;
 mod ends;
-mod first;
 mod held;
 mod images;
 mod kept;

@@ -1,7 +1,7 @@
 //! The answer of `could_hold`, and its text: `yes`, or the lowest sector that fails and what rules
 //! its value out.
 ghost use Rattle.std.specs.Prelude.{Some};
-ghost use Rattle.judge.specs.Texts.{reason_text, verdict_text};
+ghost use Rattle.judge.specs.Verdicts.{reason_text, verdict_text};
 
 use bio::Id;
 use std::fmt;

@@ -1,7 +1,4 @@
 -- The lemmas of `layer_table`. The proof of a function is in the folder named after its source
 -- file.
 mod Examples
-mod LineExamples
 mod StackLayers
-mod LayerKept
-mod Counterexamples

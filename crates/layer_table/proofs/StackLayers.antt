@@ -1,20 +1,30 @@
--- Layers that are put over a stack, one after another: the lemmas for `Stack::under`.
-use Rattle.std.proofs.Common.{◌≡◌, ℕ, Bool, false, ◌+◌, ◌<◌, ◌≤◌, List, [], ◌∷◌, ◌++◌, length, refl}
-use Rattle.std.proofs.Common.{ap, subst, sym, ◌∙◌, inl, inr, arith}
-use Rattle.std.proofs.Math.Bool.{or-false}
+-- Layers that are put over a stack, and what a message keeps of a stack.
+use Rattle.std.proofs.Common.{ap, subst, sym, ◌∙◌, inl, inr, arith, ◌≡◌, ℕ, Bool, false, ◌+◌, ◌<◌}
+use Rattle.std.proofs.Common.{◌≤◌, List, [], ◌∷◌, ◌++◌, length, refl}
+use Rattle.std.specs.Prelude.{◌↔◌, ◌⊎◌, ◌||◌, Err, IfErr, IsErrAnd, Ok, Result}
 use Rattle.std.proofs.lemmas.Bool.{or_parts}
 use Rattle.std.proofs.lemmas.List.{append_assoc}
-use Rattle.std.specs.Prelude.{◌⊎◌, ◌||◌, Err, IfErr, IsErrAnd, Ok, Result}
+use Rattle.std.proofs.Math.Bool.{or-false}
 use Rattle.std.specs.List.{AllByRecursion}
-use Rattle.blockdev.specs.View.{Place}
-use Rattle.layer_table.specs.declared.layer_spec.LayerSpec.{LayerSpec}
+use Rattle.bio.specs.Content.{Content}
+use Rattle.blockdev.specs.declared.device.BlockDev.{Ghosts}
+use Rattle.blockdev.specs.declared.message.MessageError.{MessageError}
+use Rattle.blockdev.specs.View.{Place, View}
 use Rattle.fault_layers.specs.Verdicts.{drops_writes}
-use Rattle.layer_table.specs.Ranges.{IsLayerSpec}
-use Rattle.layer_table.specs.LayerOrder.{some_drops, top_origin, top_sectors}
-use Rattle.layer_table.specs.LayerOrder.{IsAllowed}
+use Rattle.fault_layers.specs.Window.{SeenFrom}
+use Rattle.layer_table.specs.declared.layer_spec.LayerSpec.{LayerSpec}
+use Rattle.layer_table.specs.declared.slot.Slot.{Slot}
+use Rattle.layer_table.specs.declared.slot.Slot.TheVariants as slots
 use Rattle.layer_table.specs.declared.stack.Stack.{Stack}
-use Rattle.layer_table.specs.Layers.{disk_of, layer_asked, layers_of, layers_under, stack_shown}
-use Rattle.layer_table.specs.Layers.{AreOver, IsPartlyUnder, IsPut, Layer}
+use Rattle.layer_table.specs.Layers.{layers_with, AreOver, IsAllowed, IsPartlyUnder, IsPut, Layer}
+use Rattle.layer_table.specs.Layers.{disk_of, layer_asked, layers_of, layers_under, some_drops}
+use Rattle.layer_table.specs.Layers.{stack_shown, top_origin, top_sectors}
+use Rattle.layer_table.specs.TableLines.{IsLayerSpec}
+use Rattle.layer_table.specs.Slots.{AnswersBelow, AnswersItself, IsNoMessage}
+use Rattle.layer_table.specs.StackMessages.{StackAnswers}
+use Rattle.layer_table.specs.ThreeLevel.{three_answers}
+
+-- Layers that are put over a stack, one after another: the lemmas for `Stack::under`.
 
 -- The layers `specs` without `rest` are put over `old`; the result is `stack`.
 pub record AreUnder (specs rest : List LayerSpec) (load : ℕ) (old stack : Stack) : Type 0 where
@@ -171,3 +181,63 @@ pub of_error : {T E : Type 0} {Q P : E → Type 0} (r : Result T E) → IsErrAnd
     → ((e : E) → Q e → P e) → IfErr r P
 of_error (Ok value) is each = absurd is
 of_error (Err error) is each = each error is
+
+-- What a message keeps of a stack, by `StackAnswers`. What a new layer shows, by `IsPut`.
+
+-- ---- messages
+
+-- There is no layer 0, and no layer 5.
+no-layer-0 : (old new : Stack) (text : List ℕ) (result : Result (Unit {0}) MessageError)
+    → StackAnswers old 0 text result new → IsNoMessage result old new
+no-layer-0 old new text result is = is.outside (inl refl)
+
+no-layer-5 : (old new : Stack) (text : List ℕ) (result : Result (Unit {0}) MessageError)
+    → StackAnswers old 5 text result new → IsNoMessage result old new
+no-layer-5 old new text result is = is.outside (inr (omega arith))
+
+-- Layer 4 is the top slot, and layer 3 is the slot below it.
+layer-4 : (old new : Stack) (text : List ℕ) (result : Result (Unit {0}) MessageError)
+    → StackAnswers old 4 text result new
+    → AnswersItself old.top text result new.top
+layer-4 old new text result is = (is.within (omega arith) (omega arith)).own refl
+
+layer-3 : (old new : Stack) (text : List ℕ) (result : Result (Unit {0}) MessageError)
+    → StackAnswers old 3 text result new
+    → AnswersBelow three_answers old.top 1 text result new.top
+layer-3 old new text result is = (is.within (omega arith) (omega arith)).others (omega arith)
+
+-- A message to the device below keeps the slot's own layer.
+abbrev alone : {D : Type 0} {g : Ghosts D} → Slot D g → List Layer
+alone slot = layers_with (λ device. []) slot
+
+layer-stays : {D : Type 0} {g : Ghosts D}
+    (below : D → ℕ → List ℕ → Result (Unit {0}) MessageError → D → Type 0) (slot : Slot D g)
+    (layer : ℕ) (text : List ℕ)
+    (result : Result (Unit {0}) MessageError) (after : Slot D g)
+    → AnswersBelow below slot layer text result after → alone after ≡ alone slot
+layer-stays below (slots.Bare it) layer text result (slots.Bare after) is = refl
+layer-stays below (slots.Bare it) layer text result (slots.Decided after) is = absurd is
+layer-stays below (slots.Bare it) layer text result (slots.Dusted after) is = absurd is
+layer-stays below (slots.Decided it) layer text result (slots.Bare after) is = absurd is
+layer-stays below (slots.Decided it) layer text result (slots.Decided after) is =
+    rw (is.0.1, is.0.2, is.1, is.2, is.3) refl
+layer-stays below (slots.Decided it) layer text result (slots.Dusted after) is = absurd is
+layer-stays below (slots.Dusted it) layer text result (slots.Bare after) is = absurd is
+layer-stays below (slots.Dusted it) layer text result (slots.Decided after) is = absurd is
+layer-stays below (slots.Dusted it) layer text result (slots.Dusted after) is =
+    rw (is.0.1, is.0.2, is.1, is.2, is.3, is.4) refl
+
+-- ---- layers
+
+-- A new layer shows the device below from its offset on, now, after a crash, and since any reading.
+put-shows : (spec : LayerSpec) (v w : View) → IsPut spec v w → (sector : ℕ)
+    → w.content sector ≡ v.content (spec.offset + sector)
+put-shows spec v w put = put.content
+
+put-crash : (spec : LayerSpec) (v w : View) → IsPut spec v w → (left : Content)
+    → w.crash left ↔ SeenFrom spec.offset v.crash left
+put-crash spec v w put = put.crash
+
+put-since : (spec : LayerSpec) (v w : View) → IsPut spec v w → (moment : ℕ) (left : Content)
+    → w.since moment left ↔ SeenFrom spec.offset (v.since moment) left
+put-since spec v w put = put.since

@@ -1,29 +1,29 @@
 -- The layers of a stack, and the disk below them.
-use Rattle.std.specs.Prelude.{◌≡◌, ◌↔◌, ℕ, zero, suc, length, ◌⊎◌, ◌+◌, ◌/◌, ◌<◌, ◌≤◌, ◌||◌, false}
-use Rattle.std.specs.Prelude.{List, [], ◌∷◌, ◌++◌, None, Result, Err, Ok}
+-- Layers over a device, each over the one before it, from the lowest up.
+use Rattle.std.specs.Prelude.{List, [], ◌∷◌, ◌++◌, None, Result, Err, Ok, ◌≡◌, ◌↔◌, ℕ, zero, suc}
+use Rattle.std.specs.Prelude.{length, ◌⊎◌, ◌+◌, ◌/◌, ◌<◌, ◌≤◌, Bool, ◌||◌, false}
+use Rattle.std.specs.List.{list_any}
+use Rattle.bio.specs.Content.{Content}
 use Rattle.bio.specs.declared.outcome.DevError.{DevError}
 use Rattle.bio.specs.declared.outcome.DevError.TheVariants.{Io}
 use Rattle.bio.specs.Moments.{later_by}
+use Rattle.blockdev.specs.View.{Call, View}
 use Rattle.blockdev.specs.declared.device.BlockDev.{Ghosts}
-use Rattle.blockdev.specs.Calls.{Call}
 use Rattle.blockdev.specs.OwnCounts.{counted, one_more}
-use Rattle.blockdev.specs.View.{View}
-use Rattle.dust_layer.specs.declared.mode.Mode.{Mode}
-use Rattle.dust_layer.specs.declared.mode.Mode.TheVariants.{Bypass}
-use Rattle.dust_layer.specs.BadBlocks.{Bad, listed}
-use Rattle.dust_layer.specs.DustRule.{IsDoneBy}
-use Rattle.fault_layers.specs.declared.gate.Verdict.{Verdict}
-use Rattle.fault_layers.specs.declared.gate.Verdict.TheVariants.{Delay, Drop, Fail, Pass}
-use Rattle.bio.specs.Content.{Content}
-use Rattle.fault_layers.specs.Window.{call_from, window, SeenFrom}
-use Rattle.fault_layers.specs.Decision.{kind_of, KeepsBuffer}
 use Rattle.sector_disk.specs.declared.disk.SectorDisk.{SectorDisk}
 use Rattle.sector_disk.specs.DiskView.{Does}
-use Rattle.layer_table.specs.declared.layer_spec.LayerSpec.{LayerSpec}
-use Rattle.fault_layers.specs.Verdicts.{drops_writes, loaded_after, verdict_of, Loaded}
-use Rattle.layer_table.specs.LayerOrder.{some_drops, top_origin, top_sectors}
+use Rattle.fault_layers.specs.Decision.{kind_of, KeepsBuffer}
+use Rattle.fault_layers.specs.declared.gate.Verdict.{Verdict}
+use Rattle.fault_layers.specs.declared.gate.Verdict.TheVariants.{Delay, Drop, Fail, Pass}
 use Rattle.fault_layers.specs.declared.target.Target.{Target}
 use Rattle.fault_layers.specs.declared.target.Target.TheVariants as targets
+use Rattle.fault_layers.specs.Verdicts.{drops_writes, loaded_after, verdict_of, Loaded}
+use Rattle.fault_layers.specs.Window.{call_from, window, SeenFrom}
+use Rattle.dust_layer.specs.Walk.{Bad, listed}
+use Rattle.dust_layer.specs.declared.mode.Mode.{Mode}
+use Rattle.dust_layer.specs.declared.mode.Mode.TheVariants.{Bypass}
+use Rattle.dust_layer.specs.DustRule.{IsDoneBy}
+use Rattle.layer_table.specs.declared.layer_spec.LayerSpec.{LayerSpec}
 use Rattle.layer_table.specs.declared.levels.one.One.{One}
 use Rattle.layer_table.specs.declared.levels.three.Three.{Three}
 use Rattle.layer_table.specs.declared.levels.two.Two.{Two}
@@ -31,7 +31,30 @@ use Rattle.layer_table.specs.declared.slot.Slot.{Slot}
 use Rattle.layer_table.specs.declared.slot.Slot.TheVariants as slots
 use Rattle.layer_table.specs.declared.stack.Stack.{Stack}
 use Rattle.layer_table.specs.Levels.{disk_three}
+use Rattle.layer_table.specs.TableLines.{IsLayerSpec}
 use Rattle.layer_table.specs.Slots.{device_of, slot_does, slot_shown}
+
+-- the number of sectors of the top layer, or `sectors` if there is no layer
+abbrev pub top_sectors : ℕ → List LayerSpec → ℕ
+top_sectors sectors [] = sectors
+top_sectors sectors (layer ∷ layers) = top_sectors layer.length layers
+
+-- the disk's sector that is the top layer's first sector, if the device below the layers begins at
+-- the disk's sector `origin`
+abbrev pub top_origin : ℕ → List LayerSpec → ℕ
+top_origin origin [] = origin
+top_origin origin (layer ∷ layers) = top_origin (origin + layer.offset) layers
+
+-- The layers can be put over a device of `sectors` sectors. The values of each layer are in their
+-- ranges, and each layer is within the device or the layer below it.
+abbrev pub IsAllowed : ℕ → List LayerSpec → Type 0
+IsAllowed sectors [] = Unit {0}
+IsAllowed sectors (layer ∷ layers) =
+    IsLayerSpec layer × (layer.offset + layer.length ≤ sectors) × IsAllowed layer.length layers
+
+-- whether one of the layers may drop writes, discards and flushes and report them as done
+abbrev pub some_drops : List LayerSpec → Bool
+some_drops = list_any (λ layer. drops_writes layer.target)
 
 -- The rule of a layer for its calls. `Deciding`: a gate decides about each call. `Dusting`: calls
 -- go by the list `bad` of blocks of `block` sectors, and by the mode.

@@ -9,9 +9,9 @@ use Rattle.std.proofs.lemmas.Bool.{and_parts, eq-eqb, eqb-true, le-leb}
 use Rattle.std.proofs.lemmas.List.{append-nil}
 use Rattle.refusals.specs.Words.{is_word, number_of, words_of}
 use Rattle.refusals.specs.WordLaws.{decimal_number, number_again, number_low, number_read}
-use Rattle.refusals.specs.SplitLaws.{number_word, words_of_joined}
-use Rattle.fault_layers.specs.declared.feature.Feature.{Feature}
-use Rattle.fault_layers.specs.declared.feature.Feature.TheVariants as features
+use Rattle.refusals.specs.WordLaws.{number_word, words_of_joined}
+use Rattle.fault_layers.specs.declared.target.Feature.{Feature}
+use Rattle.fault_layers.specs.declared.target.Feature.TheVariants as features
 use Rattle.layer_table.specs.declared.layer_spec.LayerSpec.{LayerSpec}
 use Rattle.fault_layers.specs.declared.target.Target.{Target}
 use Rattle.fault_layers.specs.declared.target.Target.TheVariants as targets
@@ -19,13 +19,12 @@ use Rattle.layer_table.specs.declared.parsing.Name.{Name}
 use Rattle.layer_table.specs.declared.parsing.Name.TheVariants as names
 use Rattle.layer_table.specs.declared.table_error.TableError.{TableError}
 use Rattle.layer_table.specs.declared.table_error.TableError.TheVariants as errors
-use Rattle.layer_table.specs.Ranges.{are_delays, is_in_range, is_length, is_target, AreDelays}
-use Rattle.layer_table.specs.Ranges.{IsLayerSpec, IsLength, IsTargetInRange}
-use Rattle.layer_table.specs.TableLines.{delay_in, feature_in, line_answer, named, offset_in, row}
-use Rattle.layer_table.specs.TableLines.{◌>>=◌, has_count, has_numbers, has_ranges, if_holds}
-use Rattle.layer_table.specs.TableLines.{layer_of, value_in, word_in}
-use Rattle.layer_table.specs.Texts.{behind_spaces, feature_words, line_text, line_words, set_words}
-use Rattle.layer_table.specs.Texts.{target_words}
+use Rattle.layer_table.specs.TableLines.{feature_in, line_answer, named, offset_in, row, has_count}
+use Rattle.layer_table.specs.TableLines.{has_numbers, has_ranges, if_holds, delay_in, line_words}
+use Rattle.layer_table.specs.TableLines.{set_words, layer_of, value_in, word_in, ◌>>=◌}
+use Rattle.layer_table.specs.TableLines.{target_words, behind_spaces, feature_words, line_text}
+use Rattle.layer_table.specs.TableLines.{IsLayerSpec, IsLength, IsTargetInRange, are_delays}
+use Rattle.layer_table.specs.TableLines.{is_in_range, is_length, is_target, AreDelays}
 
 -- ---- what is asked for is in its ranges
 

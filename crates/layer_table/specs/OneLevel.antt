@@ -3,14 +3,12 @@ use Rattle.std.specs.Prelude.{◌≡◌, ℕ, Err, List, Result}
 use Rattle.bio.specs.declared.outcome.DevError.{DevError}
 use Rattle.blockdev.specs.declared.message.MessageError.{MessageError}
 use Rattle.blockdev.specs.declared.message.MessageError.TheVariants.{BadMessage}
-use Rattle.blockdev.specs.Calls.{Call}
-use Rattle.blockdev.specs.View.{IsLawful, View}
+use Rattle.blockdev.specs.View.{Call, IsLawful, View}
 use Rattle.sector_disk.specs.declared.disk.SectorDisk.{SectorDisk}
-use Rattle.sector_disk.specs.DiskViewLaws.{disk_lawful}
+use Rattle.sector_disk.specs.CandidateLaws.{disk_lawful}
 use Rattle.layer_table.specs.declared.levels.one.One.{One}
 use Rattle.layer_table.specs.SlotLaws.{slot_lawful}
-use Rattle.layer_table.specs.SlotMessages.{SlotAnswers}
-use Rattle.layer_table.specs.Slots.{slot_does, slot_shown}
+use Rattle.layer_table.specs.Slots.{SlotAnswers, slot_does, slot_shown}
 
 -- the view of the lowest slot
 abbrev pub one_shown : One → View

@@ -4,9 +4,8 @@ use Rattle.std.proofs.Common.{◌≡◌, ℕ, Bool, false, List, ◌∷◌, Resu
 use Rattle.bio.specs.declared.outcome.DevError.{DevError}
 use Rattle.bio.specs.Moments.{later_by}
 use Rattle.blockdev.specs.declared.device.BlockDev.{Ghosts}
-use Rattle.blockdev.specs.Calls.{Call}
+use Rattle.blockdev.specs.View.{Call, IsLawful}
 use Rattle.blockdev.specs.OwnCounts.{lawful_counted}
-use Rattle.blockdev.specs.View.{IsLawful}
 use Rattle.fault_layers.specs.declared.gate.Verdict.{Verdict}
 use Rattle.fault_layers.specs.declared.gate.Verdict.TheVariants.{Delay, Drop, Fail, Pass}
 use Rattle.fault_layers.specs.declared.gated.Gated.{Gated}

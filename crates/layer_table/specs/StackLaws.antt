@@ -1,29 +1,389 @@
--- Laws of stacks.
-use Rattle.std.proofs.Common.{◌≡◌, ℕ, ◌<◌, Bool, true, false, [], ◌∷◌, length, Result, refl, ap}
-use Rattle.std.proofs.Common.{subst, sym, ◌∙◌, arith}
-use Rattle.blockdev.specs.declared.device.BlockDev.{Ghosts}
+-- Laws of layers and stacks: their view, their calls, their parts, and the rule of the top layer.
+use Rattle.std.proofs.Common.{subst, sym, ◌∙◌, arith, ◌≡◌, ℕ, ◌+◌, suc, ◌<◌, Bool, true, false}
+use Rattle.std.proofs.Common.{List, [], ◌∷◌, length, Result, refl, ap}
+use Rattle.bio.specs.Content.{moved}
 use Rattle.bio.specs.declared.outcome.DevError.{DevError}
-use Rattle.blockdev.specs.Calls.{Call}
-use Rattle.blockdev.specs.View.{IsLawful, View}
+use Rattle.bio.specs.Moments.{later_by}
+use Rattle.blockdev.specs.View.{Call, IsLawful, IsRange, View}
+use Rattle.blockdev.specs.declared.device.BlockDev.{Ghosts}
+use Rattle.blockdev.specs.OwnCounts.{counted}
 use Rattle.sector_disk.specs.declared.disk.SectorDisk.{SectorDisk}
 use Rattle.sector_disk.specs.DiskView.{shown_of, Does}
+use Rattle.fault_layers.specs.Decision.{kind_of}
+use Rattle.fault_layers.specs.declared.linear.Linear.{Linear}
+use Rattle.fault_layers.specs.Verdicts.{loaded_after, drops_writes, verdict_of, Loaded}
+use Rattle.fault_layers.specs.Window.{call_from, window}
+use Rattle.dust_layer.specs.Walk.{Bad, listed}
+use Rattle.dust_layer.specs.CarryLaws.{done_carried}
+use Rattle.dust_layer.specs.declared.dust.Dust.{Dust}
+use Rattle.dust_layer.specs.declared.mode.Mode.{Mode}
+use Rattle.dust_layer.specs.DustRule.{held}
 use Rattle.layer_table.specs.declared.levels.one.One.{One}
 use Rattle.layer_table.specs.declared.levels.three.Three.{Three}
 use Rattle.layer_table.specs.declared.levels.two.Two.{Two}
+use Rattle.layer_table.specs.declared.slot.Slot.{Slot}
+use Rattle.layer_table.specs.declared.slot.Slot.TheVariants as slots
 use Rattle.layer_table.specs.declared.stack.Stack.{Stack}
-use Rattle.layer_table.specs.Layers.{disk_of, layers_of, layers_one, layers_over, layers_three}
+use Rattle.layer_table.specs.Layers.{CountedLayersDo, Under, FollowsBlocks, Layer, layers_with}
+use Rattle.layer_table.specs.Layers.{shifted, Deciding, DoesAt, Dusting, Follows, LayersDo, Rule}
 use Rattle.layer_table.specs.Layers.{layers_two, stack_does, stack_shown, IsPartOf, IsSeenAs}
-use Rattle.layer_table.specs.Layers.{LayersDo}
-use Rattle.layer_table.specs.LayerLaws.{count_kept, count_with, counted_with, does_with, none_kept}
-use Rattle.layer_table.specs.LayerLaws.{shown_with}
+use Rattle.layer_table.specs.Layers.{disk_of, layers_of, layers_one, layers_over, layers_three}
 use Rattle.layer_table.specs.Levels.{disk_one, disk_three, disk_two, shape_of, shape_one}
 use Rattle.layer_table.specs.Levels.{shape_three, shape_two}
 use Rattle.layer_table.specs.OneLevel.{one_does, one_shown}
-use Rattle.layer_table.specs.Slots.{device_of, has_layer, has_no_gap, slot_does}
+use Rattle.layer_table.specs.SlotLaws.{decided_keeps, dusted_keeps, slot_kept, shape_kept}
+use Rattle.layer_table.specs.SlotLaws.{slot_lawful, IsKept}
+use Rattle.layer_table.specs.Slots.{device_of, has_layer, has_no_gap, slot_does, slot_shown}
+use Rattle.layer_table.specs.Slots.{IsShifted}
 use Rattle.layer_table.specs.ThreeLevel.{three_does, three_lawful, three_shown}
 use Rattle.layer_table.specs.TwoLevel.{two_does, two_shown}
-use Rattle.layer_table.specs.PartLaws.{disk_part, part_with}
-use Rattle.layer_table.specs.SlotLaws.{shape_kept, slot_lawful, IsKept}
+
+-- Laws of layers: the view and the calls of a slot, parts of a disk, and calls by the rule of the
+-- top layer.
+
+-- The view and the calls of a slot, in terms of its layers.
+
+-- ---- views
+
+-- The view of a slot is the view of its layers over the base's view, given the same for the device
+-- below.
+pub shown_with : {D : Type 0} {g : Ghosts D} (layers : D → List Layer) (base : D → View)
+    → ((device : D) → g.shown device ≡ layers_over (layers device) (base device))
+    → (slot : Slot D g) → slot_shown slot
+    ≡ layers_over (layers_with layers slot) (base (device_of slot))
+shown_with {D} {g} layers base same (slots.Bare device) = same device
+shown_with {D} {g} layers base same (slots.Decided layer) =
+    ap (λ (v : View). counted (window v layer.lower.offset layer.lower.length) layer.faults
+    layer.lies (drops_writes layer.gate.target)) (same layer.lower.lower)
+shown_with {D} {g} layers base same (slots.Dusted layer) =
+    ap (λ (v : View). counted (window v layer.lower.offset layer.lower.length) layer.faults 0 false)
+    (same layer.lower.lower)
+
+-- ---- what calls do
+
+-- the layers of a device, and the disk below them
+abbrev pub under_of : {D : Type 0} → (D → List Layer) → (D → SectorDisk) → D → Under
+under_of layers disk device = record { layers = layers device; disk = disk device }
+
+-- rules with equal parts are equal
+same_dust : {D : Type 0} (layer after : Dust D) → after.block ≡ layer.block
+    → after.mode ≡ layer.mode
+    → Dusting after.block (listed after.bad) after.mode
+    ≡ Dusting layer.block (listed after.bad) layer.mode
+same_dust layer after block mode = rw (block, mode) refl
+
+-- If a slot does a call, the layers of the slot do it (`LayersDo`), given the same for the device
+-- below. No call of that device may change its number of layers.
+pub does_with : {D : Type 0} {g : Ghosts D} (layers : D → List Layer) (disk : D → SectorDisk)
+    → IsKept g (λ device. length (layers device))
+    → ((device : D) (call : Call) (now : ℕ) (result : Result ℕ DevError) (after : D)
+    → g.does device call now result after
+    → LayersDo (layers device) (disk device) call now result (layers after) (disk after))
+    → (slot : Slot D g) (call : Call) (now : ℕ) (result : Result ℕ DevError) (after : Slot D g)
+    → slot_does slot call now result after
+    → LayersDo (layers_with layers slot) (disk (device_of slot)) call now result
+    (layers_with layers after) (disk (device_of after))
+does_with {D} {g} layers disk kept below (slots.Bare device) call now result
+    (slots.Bare after) does =
+    below device call now result after does
+does_with {D} {g} layers disk kept below (slots.Bare device) call now result (slots.Decided after)
+    does = absurd does
+does_with {D} {g} layers disk kept below (slots.Bare device) call now result (slots.Dusted after)
+    does = absurd does
+does_with {D} {g} layers disk kept below (slots.Decided layer) call now result (slots.Bare after)
+    does = absurd does
+does_with {D} {g} layers disk kept below (slots.Decided layer) call now result
+    (slots.Decided after) does =
+    let verdict = verdict_of layer.gate (kind_of call) now in (
+      (
+        record {
+          passes = λ is.
+              let done = does.0.passes is in (
+                below layer.lower.lower
+                    (call_from layer.lower.offset call) now result after.lower.lower done.0.0,
+                done.1,
+                done.2,
+              );
+          delays = λ by is.
+              let done = does.0.delays by is in (
+                below layer.lower.lower (call_from layer.lower.offset call)
+                    (later_by now by) result after.lower.lower done.0.0,
+                done.1,
+                done.2,
+                done.3,
+              );
+          fails = λ is.
+              let done = does.0.fails is in (
+                done.0,
+                done.1,
+                done.2,
+                ap (λ (range : Linear D g). under_of layers disk range.lower) done.3,
+                done.4,
+              );
+          drops = λ is.
+              let done = does.0.drops is in (
+                done.0,
+                done.1,
+                done.2,
+                ap (λ (range : Linear D g). under_of layers disk range.lower) done.3,
+              );
+        },
+        ap Deciding does.1,
+      ),
+      decided_keeps (λ (range : Linear D g). range.offset) verdict _ call now result layer after
+          does.0 (λ begun did. did.1),
+      decided_keeps (λ (range : Linear D g). range.length) verdict _ call now result layer after
+          does.0 (λ begun did. did.2),
+    )
+does_with {D} {g} layers disk kept below (slots.Decided layer) call now result (slots.Dusted after)
+    does = absurd does
+does_with {D} {g} layers disk kept below (slots.Dusted layer) call now result (slots.Bare after)
+    does = absurd does
+does_with {D} {g} layers disk kept below (slots.Dusted layer) call now result (slots.Decided after)
+    does = absurd does
+does_with {D} {g} layers disk kept below (slots.Dusted layer) call now result
+    (slots.Dusted after) does = (
+      record {
+        list = listed after.bad;
+        rule = same_dust layer after does.block does.mode;
+        done =
+            (done_carried IsShifted (shifted
+            (CountedLayersDo (length (layers layer.lower.lower))) layer.lower.offset)
+            (λ range. (length (layers range.lower) ≡ length (layers layer.lower.lower))
+            × (range.offset ≡ layer.lower.offset))
+            (λ range. under_of layers disk range.lower)
+            (λ range call now result next holds did. (
+              subst (λ (offset : ℕ). CountedLayersDo (length (layers layer.lower.lower))
+                  (under_of layers disk range.lower) (call_from offset call) now result
+                  (under_of layers disk next.lower)) holds.1
+                  (subst (λ (count : ℕ). CountedLayersDo count (under_of layers disk range.lower)
+                  (call_from range.offset call) now result
+                  (under_of layers disk next.lower)) holds.0
+                  (below range.lower (call_from range.offset call) now result next.lower did.0)),
+              (
+                kept range.lower (call_from range.offset call) now result next.lower
+                    did.0 ∙ holds.0,
+                did.1 ∙ holds.1,
+              ),
+            ))
+            layer.mode layer.block call now result (held layer) (held after)
+            (refl, refl) does.done).0;
+        lies = refl;
+      },
+      dusted_keeps (λ (range : Linear D g). range.offset)
+          (λ range call now result next did. did.1) call now result layer after does,
+      dusted_keeps (λ (range : Linear D g). range.length)
+          (λ range call now result next did. did.2) call now result layer after does,
+    )
+
+-- `count`, plus one if the slot has a layer
+abbrev pub count_with : Bool → ℕ → ℕ
+count_with true count = suc count
+count_with false count = count
+
+pub counted_with : {D : Type 0} {g : Ghosts D} (layers : D → List Layer) (slot : Slot D g)
+    → length (layers_with layers slot)
+    ≡ count_with (has_layer slot) (length (layers (device_of slot)))
+counted_with {D} {g} layers (slots.Bare device) = refl
+counted_with {D} {g} layers (slots.Decided layer) = refl
+counted_with {D} {g} layers (slots.Dusted layer) = refl
+
+-- a device without layers keeps their number 0
+pub none_kept : {D : Type 0} (g : Ghosts D) → IsKept g (λ device. length {A = Layer} [])
+none_kept g device call now result after did = refl
+
+-- a slot's call keeps the number of layers
+pub count_kept : {D : Type 0} {g : Ghosts D} (layers : D → List Layer)
+    → IsKept g (λ device. length (layers device))
+    → (slot : Slot D g) (call : Call) (now : ℕ) (result : Result ℕ DevError) (after : Slot D g)
+    → slot_does slot call now result after
+    → length (layers_with layers after) ≡ length (layers_with layers slot)
+count_kept {D} {g} layers kept slot call now result after does =
+    let same = slot_kept (λ device. length (layers device)) kept slot call now result after does in
+    counted_with layers after ∙ ap (λ (count : ℕ). count_with (has_layer after) count) same.0
+    ∙ ap (λ (has : Bool). count_with has (length (layers (device_of slot)))) same.1
+    ∙ sym (counted_with layers slot)
+
+-- A stack of layers over a disk is a part of the disk.
+
+-- a disk is a part of itself
+pub disk_part : (disk : SectorDisk) → IsPartOf (shown_of disk) (shown_of disk)
+disk_part disk = record {
+  disk = refl;
+  within = omega arith;
+  content = λ sector. ap (shown_of disk).content (omega arith);
+  crash = λ left may. (left, may, λ sector. ap left (omega arith));
+  moment = refl;
+  since = λ moment left may. (left, may, λ sector. ap left (omega arith));
+  only = λ moment left may. (left, may, λ sector. ap left (omega arith));
+}
+
+-- a range of a part is a part
+window_part : (v w : View) (offset length : ℕ) → IsRange w.size offset length → IsPartOf v w
+    → IsPartOf v (window w offset length)
+window_part v w offset length fits is = record {
+  disk = is.disk;
+  within = let a = fits.within in let b = is.within in omega arith;
+  content = λ sector. is.content (offset + sector) ∙ ap v.content (omega arith);
+  crash = λ left may.
+      let below = is.crash left may in (
+        moved offset below.0,
+        (below.0, below.1, λ sector. refl),
+        λ sector. below.2 (offset + sector) ∙ ap left (omega arith),
+      );
+  moment = is.moment;
+  since = λ moment left may.
+      let below = is.since moment left may in (
+        moved offset below.0,
+        (below.0, below.1, λ sector. refl),
+        λ sector. below.2 (offset + sector) ∙ ap left (omega arith),
+      );
+  only = λ moment seen may.
+      let below = is.only moment may.0 may.1 in (
+        below.0,
+        below.1,
+        λ sector. may.2 sector ∙ (below.2 (offset + sector) ∙ ap below.0 (omega arith)),
+      );
+}
+
+-- a slot is a part of the disk if the device below is one
+pub part_with : {D : Type 0} {g : Ghosts D} (disk : D → View)
+    → ((device : D) → IsPartOf (disk device) (g.shown device))
+    → (slot : Slot D g) → IsPartOf (disk (device_of slot)) (slot_shown slot)
+part_with {D} {g} disk below (slots.Bare device) = below device
+part_with {D} {g} disk below (slots.Dusted layer) =
+    let is =
+    window_part (disk layer.lower.lower)
+    (g.shown layer.lower.lower) layer.lower.offset layer.lower.length layer.lower.fits
+    (below layer.lower.lower) in
+    record {
+      disk = is.disk;
+      within = is.within;
+      content = is.content;
+      crash = is.crash;
+      moment = is.moment;
+      since = is.since;
+      only = is.only;
+    }
+part_with {D} {g} disk below (slots.Decided layer) =
+    let is =
+    window_part (disk layer.lower.lower)
+    (g.shown layer.lower.lower) layer.lower.offset layer.lower.length layer.lower.fits
+    (below layer.lower.lower) in
+    record {
+      disk = is.disk;
+      within = is.within;
+      content = is.content;
+      crash = is.crash;
+      moment = is.moment;
+      since = is.since;
+      only = is.only;
+    }
+
+-- The effect of a call on layers over a disk, by the rule of the top layer.
+
+-- layers with equal fields are equal
+same_values : (o p l m : ℕ) (g h : Rule) (f e i k : ℕ) → o ≡ p → l ≡ m → g ≡ h → f ≡ e → i ≡ k
+    → ◌≡◌ {A = Layer} (record { offset = o; length = l; rule = g; faults = f; lies = i })
+    (record { offset = p; length = m; rule = h; faults = e; lies = k })
+same_values o p l m g h f e i k offset length rule faults lies =
+    rw (offset, length, rule, faults, lies) refl
+
+same_layer : (a b : Layer) → a.offset ≡ b.offset → a.length ≡ b.length → a.rule ≡ b.rule
+    → a.faults ≡ b.faults → a.lies ≡ b.lies → a ≡ b
+same_layer a b offset length rule faults lies =
+    same_values a.offset b.offset a.length b.length a.rule b.rule a.faults b.faults a.lies b.lies
+    offset length rule faults lies
+
+-- lists with equal tops and equal rests are equal
+same_top : (a b : Layer) (layers others : List Layer) → a ≡ b → layers ≡ others
+    → a ∷ layers ≡ b ∷ others
+same_top a b layers others top rest =
+    ap (λ (layer : Layer). layer ∷ layers) top ∙ ap (λ (xs : List Layer). b ∷ xs) rest
+
+-- a call at the top has the effect of the top's rule
+at_top : (layer : Layer) (layers : List Layer) (old : SectorDisk) (call : Call) (now : ℕ)
+    (result : Result ℕ DevError) (top : Layer)
+    (others : List Layer) (new : SectorDisk) (rule : Rule) → layer.rule ≡ rule
+    → LayersDo (layer ∷ layers) old call now result (top ∷ others) new
+    → DoesAt (CountedLayersDo (length layers)) rule
+    (record { layers = layers; disk = old }) call now result
+    (record { layers = others; disk = new }) layer top
+at_top layer layers old call now result top others new rule is does =
+    subst (λ (it : Rule). DoesAt (CountedLayersDo (length layers)) it
+    (record { layers = layers; disk = old }) call now result
+    (record { layers = others; disk = new }) layer top)
+    is does.0
+
+-- If the top layer has a gate, it does what the gate's verdict says (`Follows`).
+pub gate_top : (layer : Layer) (layers : List Layer) (old : SectorDisk) (call : Call) (now : ℕ)
+    (result : Result ℕ DevError) (after : List Layer)
+    (new : SectorDisk)
+    (gate : Loaded) → layer.rule ≡ Deciding gate
+    → LayersDo (layer ∷ layers) old call now result after new
+    → Follows (verdict_of gate (kind_of call) now)
+    (record layer {
+      rule = Deciding
+          (loaded_after gate (kind_of call) now);
+    }) layers old call now result after new
+gate_top layer layers old call now result [] new gate is does = absurd does
+gate_top layer layers old call now result (top ∷ others) new gate is does =
+    let done = at_top layer layers old call now result top others new (Deciding gate) is does in
+    record {
+      passes = λ pass.
+          let did = done.0.passes pass in (
+            others,
+            same_top top _ others others
+                (same_layer top _ does.1 does.2 done.1 did.1 did.2) refl,
+            did.0,
+          );
+      delays = λ by delay.
+          let did = done.0.delays by delay in (
+            others,
+            same_top top _ others others
+                (same_layer top _ does.1 does.2 done.1 did.1 did.2) refl,
+            did.0,
+            did.3,
+          );
+      fails = λ fail.
+          let did = done.0.fails fail in (
+            did.0,
+            same_top top _ others layers (same_layer top _ does.1 does.2 done.1 did.1 did.2)
+                (ap (λ (it : Under). it.layers) did.3),
+            ap (λ (it : Under). it.disk) did.3,
+            did.4,
+          );
+      drops = λ drop.
+          let did = done.0.drops drop in (
+            did.0,
+            same_top top _ others layers (same_layer top _ does.1 does.2 done.1 did.1 did.2)
+                (ap (λ (it : Under). it.layers) did.3),
+            ap (λ (it : Under). it.disk) did.3,
+          );
+    }
+
+-- If the top layer is a dust layer, a call goes by its list and its mode (`FollowsBlocks`).
+pub dust_top : (layer : Layer) (layers : List Layer) (old : SectorDisk) (call : Call) (now : ℕ)
+    (result : Result ℕ DevError) (after : List Layer)
+    (new : SectorDisk)
+    (block : ℕ) (bad : Bad) (mode : Mode) → layer.rule ≡ Dusting block bad mode
+    → LayersDo (layer ∷ layers) old call now result after new
+    → FollowsBlocks block bad mode layer layers old call now result after new
+dust_top layer layers old call now result [] new block bad mode is does = absurd does
+dust_top layer layers old call now result (top ∷ others) new block bad mode is does =
+    let done = at_top layer layers old call now result top others new
+    (Dusting block bad mode) is does in
+    record {
+      others = others;
+      list = done.list;
+      faults = top.faults;
+      stays =
+          same_top top _ others others
+          (same_layer top _ does.1 does.2 done.rule refl done.lies) refl;
+      done = done.done;
+    }
+
+-- Laws of stacks.
 
 -- a stack keeps the law of a device
 pub stack_lawful : (stack : Stack) → IsLawful (stack_shown stack)

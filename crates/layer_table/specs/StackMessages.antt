@@ -10,7 +10,7 @@ use Rattle.layer_table.specs.declared.slot.Slot.TheVariants as slots
 use Rattle.layer_table.specs.declared.stack.Stack.{Stack}
 use Rattle.layer_table.specs.Levels.{shape_of, shape_one, shape_three, shape_two}
 use Rattle.layer_table.specs.OneLevel.{one_answers, DiskAnswers}
-use Rattle.layer_table.specs.SlotMessages.{AnswersBelow, AnswersItself, IsNoMessage, SlotAnswers}
+use Rattle.layer_table.specs.Slots.{AnswersBelow, AnswersItself, IsNoMessage, SlotAnswers}
 use Rattle.layer_table.specs.Slots.{device_of, has_layer, has_no_gap, shape_with}
 use Rattle.layer_table.specs.ThreeLevel.{three_answers}
 use Rattle.layer_table.specs.TwoLevel.{two_answers}

@@ -1,23 +1,87 @@
 -- What the words of a table line ask for: `row` has a row for each target, and `line_answer` tests
 -- the words by these rows.
-use Rattle.std.specs.Prelude.{ℕ, ◌+◌, Bool, true, false, ◌&&◌, ◌||◌, List, [], ◌∷◌, Option, Some}
-use Rattle.std.specs.Prelude.{None, Result, Ok, Err, codes, is_none, is_some, length, nat_eq, nat_le}
-use Rattle.std.specs.Prelude.{ok_or, option_map, slice_get, unwrap_or, if◌then◌else◌}
-use Rattle.std.specs.List.{list_all, list_any}
+-- The ranges of a layer's values.
+use Rattle.std.specs.Prelude.{Option, Some, nat_le, ℕ, ◌+◌, ◌<◌, ◌≤◌, ◌^◌, ◌≡◌, Bool, true, false}
+use Rattle.std.specs.Prelude.{◌&&◌, ◌||◌, List, [], ◌∷◌, ◌++◌, Ok, Err, codes, decimal, flat_map}
+use Rattle.std.specs.Prelude.{is_none, is_some, length, nat_eq, ok_or, option_map, slice_get}
+use Rattle.std.specs.Prelude.{unwrap_or, if◌then◌else◌, None, Result}
+use Rattle.std.specs.Int.{is_power_of_two}
+use Rattle.std.specs.List.{join_with_byte, list_all, list_any}
 use Rattle.std.specs.Str.{bytes_eq}
 use Rattle.refusals.specs.declared.refusal.Refusal.{Refusal}
 use Rattle.refusals.specs.declared.refusal.Refusal.TheVariants as refusals
 use Rattle.refusals.specs.Words.{number_of}
-use Rattle.fault_layers.specs.declared.feature.Feature.{Feature}
-use Rattle.fault_layers.specs.declared.feature.Feature.TheVariants as features
-use Rattle.layer_table.specs.declared.layer_spec.LayerSpec.{LayerSpec}
+use Rattle.fault_layers.specs.declared.target.Feature.{Feature}
+use Rattle.fault_layers.specs.declared.target.Feature.TheVariants as features
 use Rattle.fault_layers.specs.declared.target.Target.{Target}
 use Rattle.fault_layers.specs.declared.target.Target.TheVariants as targets
+use Rattle.fault_layers.specs.Verdicts.{HasCycle, IsCycle}
+use Rattle.dust_layer.specs.Orders.{IsBlockSize}
+use Rattle.layer_table.specs.declared.layer_spec.LayerSpec.{LayerSpec}
 use Rattle.layer_table.specs.declared.parsing.Name.{Name}
 use Rattle.layer_table.specs.declared.parsing.Name.TheVariants as names
 use Rattle.layer_table.specs.declared.table_error.TableError.{TableError}
 use Rattle.layer_table.specs.declared.table_error.TableError.TheVariants as errors
-use Rattle.layer_table.specs.Ranges.{is_in_range}
+
+-- the delays of a delay target, in milliseconds: each is at most 4294967295
+pub record AreDelays (read write flush : ℕ) : Type 0 where
+  pub reads : read ≤ 4294967295
+  pub writes : write ≤ 4294967295
+  pub flushes : flush ≤ 4294967295
+
+-- a layer has 1 to 1,048,576 sectors
+pub record IsLength (length : ℕ) : Type 0 where
+  pub some : 1 ≤ length
+  pub few : length ≤ 1048576
+
+-- the target's values are in their ranges; an error target has offset 0
+abbrev pub IsTargetInRange : ℕ → Target → Type 0
+IsTargetInRange offset targets.Linear = Unit {0}
+IsTargetInRange offset targets.Error = offset ≡ 0
+IsTargetInRange offset (targets.Flakey up down feature) = IsCycle up down
+IsTargetInRange offset (targets.Fuse calls) = calls < 2 ^ 64
+IsTargetInRange offset (targets.Dust bytes) = IsBlockSize bytes
+IsTargetInRange offset (targets.Delay read write flush) = AreDelays read write flush
+
+-- the layer's values are in their ranges
+pub record IsLayerSpec (spec : LayerSpec) : Type 0 where
+  pub sectors : IsLength spec.length
+  pub place : spec.offset < 2 ^ 64
+  pub has : IsTargetInRange spec.offset spec.target
+
+-- the ranges as tests of a parsed line's values
+abbrev pub is_cycle : ℕ → ℕ → Bool
+is_cycle up down = nat_le 1 (up + down) && nat_le (up + down) 4294967295
+
+abbrev pub is_block_size : ℕ → Bool
+is_block_size bytes = is_power_of_two bytes && (nat_le 512 bytes && nat_le bytes 1073741824)
+
+abbrev pub are_delays : ℕ → ℕ → ℕ → Bool
+are_delays read write flush =
+    nat_le read 4294967295 && (nat_le write 4294967295 && nat_le flush 4294967295)
+
+abbrev pub is_target : Target → Bool
+is_target targets.Linear = true
+is_target targets.Error = true
+is_target (targets.Flakey up down feature) = is_cycle up down
+is_target (targets.Fuse calls) = true
+is_target (targets.Dust bytes) = is_block_size bytes
+is_target (targets.Delay read write flush) = are_delays read write flush
+
+abbrev pub is_length : ℕ → Bool
+is_length length = nat_le 1 length && nat_le length 1048576
+
+abbrev pub is_in_range : LayerSpec → Bool
+is_in_range spec = is_length spec.length && is_target spec.target
+
+-- If a target's values are in their ranges, a gate can have the target.
+pub has_cycle : (offset : ℕ) (target : Target) → IsTargetInRange offset target → HasCycle target
+has_cycle offset targets.Linear has = tt
+has_cycle offset targets.Error has = tt
+has_cycle offset (targets.Flakey up down feature) has = has
+has_cycle offset (targets.Fuse calls) has = tt
+has_cycle offset (targets.Dust bytes) has = tt
+has_cycle offset (targets.Delay read write flush) has = tt
 
 -- ---- the words of a line by their places, which are counted from 0
 
@@ -206,3 +270,49 @@ table_refusal errors.WrongCount = refusals.WrongCount
 table_refusal errors.BadNumber = refusals.BadNumber
 table_refusal errors.OutOfRange = refusals.OutOfRange
 table_refusal errors.BadFeature = refusals.BadFeature
+
+-- The canonical text of a layer.
+
+-- the words of a feature: the count 1 and a name, or nothing if there is no feature
+abbrev pub feature_words : Feature → List (List ℕ)
+feature_words features.None = []
+feature_words features.ErrorReads = codes "1" ∷ codes "error_reads" ∷ []
+feature_words features.ErrorWrites = codes "1" ∷ codes "error_writes" ∷ []
+feature_words features.DropWrites = codes "1" ∷ codes "drop_writes" ∷ []
+
+-- a group of a delay target: the device's name, the offset on it, and the delay
+abbrev pub set_words : ℕ → ℕ → List (List ℕ)
+set_words offset delay = codes "disk" ∷ decimal offset ∷ decimal delay ∷ []
+
+-- The groups after the first: none if all delays are equal, one if only the write and flush delays
+-- are equal, and otherwise two.
+abbrev pub later_sets : ℕ → ℕ → ℕ → ℕ → List (List ℕ)
+later_sets offset read write flush =
+    if nat_eq read write && nat_eq write flush then []
+    else set_words offset write ++ (if nat_eq write flush then [] else set_words offset flush)
+
+-- the words of a target: its name, the device's name, the offset on it, and the target's values
+abbrev pub target_words : ℕ → Target → List (List ℕ)
+target_words offset targets.Linear = codes "linear" ∷ codes "disk" ∷ decimal offset ∷ []
+target_words offset targets.Error = codes "error" ∷ []
+target_words offset (targets.Flakey up down feature) =
+    codes "flakey" ∷ codes "disk" ∷ decimal offset ∷ decimal up ∷ decimal down ∷ feature_words
+    feature
+target_words offset (targets.Fuse calls) =
+    codes "fuse" ∷ codes "disk" ∷ decimal offset ∷ decimal calls ∷ []
+target_words offset (targets.Dust bytes) =
+    codes "dust" ∷ codes "disk" ∷ decimal offset ∷ decimal bytes ∷ []
+target_words offset (targets.Delay read write flush) =
+    codes "delay" ∷ (set_words offset read ++ later_sets offset read write flush)
+
+-- the words of a layer, with no leading zeroes
+abbrev pub line_words : LayerSpec → List (List ℕ)
+line_words spec = codes "0" ∷ decimal spec.length ∷ target_words spec.offset spec.target
+
+-- the canonical text of a layer: its words, with a space between each two
+abbrev pub line_text : LayerSpec → List ℕ
+line_text spec = join_with_byte 32 (line_words spec)
+
+-- the words, each after a space
+abbrev pub behind_spaces : List (List ℕ) → List ℕ
+behind_spaces words = flat_map (λ word. 32 ∷ word) words

@@ -2,13 +2,11 @@
 use Rattle.std.specs.Prelude.{ℕ, List, Result}
 use Rattle.bio.specs.declared.outcome.DevError.{DevError}
 use Rattle.blockdev.specs.declared.message.MessageError.{MessageError}
-use Rattle.blockdev.specs.Calls.{Call}
-use Rattle.blockdev.specs.View.{IsLawful, View}
+use Rattle.blockdev.specs.View.{Call, IsLawful, View}
 use Rattle.layer_table.specs.declared.levels.three.Three.{Three}
 use Rattle.layer_table.specs.TwoLevel.{two_answers, two_lawful}
 use Rattle.layer_table.specs.SlotLaws.{slot_lawful}
-use Rattle.layer_table.specs.SlotMessages.{SlotAnswers}
-use Rattle.layer_table.specs.Slots.{slot_does, slot_shown}
+use Rattle.layer_table.specs.Slots.{SlotAnswers, slot_does, slot_shown}
 
 -- the view of the third slot
 abbrev pub three_shown : Three → View

@@ -2,13 +2,11 @@
 use Rattle.std.specs.Prelude.{ℕ, List, Result}
 use Rattle.bio.specs.declared.outcome.DevError.{DevError}
 use Rattle.blockdev.specs.declared.message.MessageError.{MessageError}
-use Rattle.blockdev.specs.Calls.{Call}
-use Rattle.blockdev.specs.View.{IsLawful, View}
+use Rattle.blockdev.specs.View.{Call, IsLawful, View}
 use Rattle.layer_table.specs.declared.levels.two.Two.{Two}
 use Rattle.layer_table.specs.OneLevel.{one_answers, one_lawful}
 use Rattle.layer_table.specs.SlotLaws.{slot_lawful}
-use Rattle.layer_table.specs.SlotMessages.{SlotAnswers}
-use Rattle.layer_table.specs.Slots.{slot_does, slot_shown}
+use Rattle.layer_table.specs.Slots.{SlotAnswers, slot_does, slot_shown}
 
 -- the view of the second slot
 abbrev pub two_shown : Two → View

@@ -1,9 +1,9 @@
 //! Laws of stacks. Each function does nothing, and its `ensures` clause is the law.
 ghost use Rattle.std.specs.Prelude.{◌≡◌, ◌∷◌, ℕ, List, Result};
 ghost use Rattle.bio.specs.declared.outcome.DevError.{DevError};
-ghost use Rattle.blockdev.specs.Calls.{Call};
+ghost use Rattle.blockdev.specs.View.{Call};
 ghost use Rattle.dust_layer.specs.declared.mode.Mode.{Mode};
-ghost use Rattle.dust_layer.specs.BadBlocks.{Bad};
+ghost use Rattle.dust_layer.specs.Walk.{Bad};
 ghost use Rattle.fault_layers.specs.Decision.{kind_of};
 ghost use Rattle.fault_layers.specs.Verdicts.{loaded_after, verdict_of, Loaded};
 ghost use Rattle.sector_disk.specs.declared.disk.SectorDisk.{SectorDisk};
@@ -37,7 +37,7 @@ pub fn stacks_do_what_their_layers_do()
 
 /// If the top layer has a gate, it does what the gate's verdict says. Then it has the gate after
 /// the call; only a fuse's gate changes.
-#[tactic(auto, using(crate::specs::TopLaws::gate_top))]
+#[tactic(auto, using(crate::specs::StackLaws::gate_top))]
 pub fn gates_decide()
     ensures { (layer : Layer) (layers : List Layer) (old : SectorDisk) (call : Call) (now : ℕ)
         (result : Result ℕ DevError) (after : List Layer)
@@ -49,7 +49,7 @@ pub fn gates_decide()
 {}
 
 /// If the top layer is a dust layer, a call goes by the layer's list of bad blocks and its mode.
-#[tactic(auto, using(crate::specs::TopLaws::dust_top))]
+#[tactic(auto, using(crate::specs::StackLaws::dust_top))]
 pub fn dust_layers_go_by_blocks()
     ensures { (layer : Layer) (layers : List Layer) (old : SectorDisk) (call : Call) (now : ℕ)
         (result : Result ℕ DevError) (after : List Layer)

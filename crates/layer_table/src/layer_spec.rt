@@ -1,8 +1,8 @@
 //! `LayerSpec`: the layer that a table line asks for. `parse_line` parses the line, `push_line`
 //! prints it, and a script has the `LayerSpec`s of its disks.
 ghost use Rattle.std.specs.Prelude.{◌≡◌};
-ghost use Rattle.layer_table.specs.Ranges.{are_delays, is_block_size, is_cycle};
-ghost use Rattle.layer_table.specs.Ranges.{is_in_range as is_within};
+ghost use Rattle.layer_table.specs.TableLines.{are_delays, is_block_size, is_cycle};
+ghost use Rattle.layer_table.specs.TableLines.{is_in_range as is_within};
 
 use bio::MAX_DEVICE_SECTORS;
 use fault_layers::Target;

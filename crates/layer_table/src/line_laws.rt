@@ -2,9 +2,7 @@
 ghost use Rattle.std.specs.Prelude.{◌≡◌, Ok, ℕ, List};
 ghost use Rattle.refusals.specs.Words.{words_of};
 ghost use Rattle.layer_table.specs.declared.layer_spec.LayerSpec.{LayerSpec};
-ghost use Rattle.layer_table.specs.Ranges.{IsLayerSpec};
-ghost use Rattle.layer_table.specs.TableLines.{line_answer};
-ghost use Rattle.layer_table.specs.Texts.{line_text};
+ghost use Rattle.layer_table.specs.TableLines.{IsLayerSpec, line_answer, line_text};
 
 /// If words ask for a layer, the layer's values are in their ranges.
 pub fn layers_asked_for_are_in_range()

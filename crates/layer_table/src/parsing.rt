@@ -3,11 +3,10 @@
 ghost use Rattle.std.specs.Prelude.{◌≡◌, ◌<◌, ◌^◌, nat_eq, IfOk};
 ghost use Rattle.std.specs.List.{list_all, list_any};
 ghost use Rattle.refusals.specs.Words.{words_of};
-ghost use Rattle.layer_table.specs.Ranges.{IsLayerSpec};
+ghost use Rattle.layer_table.specs.TableLines.{word_in, line_answer, named, offset_in, row};
+ghost use Rattle.layer_table.specs.TableLines.{value_in, has_one_place, is_same_place, later_delay};
 ghost use Rattle.layer_table.specs.TableLines.{feature_in, delay_in, feature_named, has_number};
-ghost use Rattle.layer_table.specs.TableLines.{has_one_place, is_same_place, later_delay};
-ghost use Rattle.layer_table.specs.TableLines.{line_answer, named, offset_in, row, value_in};
-ghost use Rattle.layer_table.specs.TableLines.{word_in};
+ghost use Rattle.layer_table.specs.TableLines.{IsLayerSpec};
 
 use crate::layer_spec::{LayerSpec, is_in_range};
 use crate::table_error::TableError;

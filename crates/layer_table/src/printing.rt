@@ -1,7 +1,7 @@
 //! Prints a layer as its table line: `push_line`. The printer of scripts calls it.
 ghost use Rattle.std.specs.Prelude.{◌≡◌, ◌++◌, ◌∷◌, [], decimal, OnOk};
-ghost use Rattle.layer_table.specs.Texts.{behind_spaces, feature_words, later_sets, line_text};
-ghost use Rattle.layer_table.specs.Texts.{set_words, target_words};
+ghost use Rattle.layer_table.specs.TableLines.{behind_spaces, feature_words, later_sets, line_text};
+ghost use Rattle.layer_table.specs.TableLines.{set_words, target_words};
 
 use crate::layer_spec::LayerSpec;
 use fault_layers::{Feature, Target};

@@ -86,8 +86,7 @@ impl<D: BlockDev + Drop> BlockDev for Slot<D> {
 impl<D: BlockDev + Drop> Slot<D> {
     ghost use Rattle.std.specs.Prelude.{◌≡◌};
     ghost use Rattle.blockdev.specs.Messages.{Unchanged};
-    ghost use Rattle.layer_table.specs.SlotMessages.{AnswersItself};
-    ghost use Rattle.layer_table.specs.Slots.{device_of, has_layer, slot_shown};
+    ghost use Rattle.layer_table.specs.Slots.{AnswersItself, device_of, has_layer, slot_shown};
 
     /// Returns the device below.
     pub fn into_device(self) -> D
@@ -122,8 +121,7 @@ impl<D: BlockDev + Drop> Slot<D> {
 
 impl<D: Message + Drop> Slot<D> {
     ghost use Rattle.blockdev.specs.Messages.{Unchanged};
-    ghost use Rattle.layer_table.specs.SlotMessages.{AnswersBelow};
-    ghost use Rattle.layer_table.specs.Slots.{slot_shown};
+    ghost use Rattle.layer_table.specs.Slots.{AnswersBelow, slot_shown};
 
     // Passes a message to the device below. `layer` counts from 1, the top layer of that device.
     fn message_below(&mut self, layer: u64, text: &str) -> Result<(), MessageError>
@@ -139,7 +137,7 @@ impl<D: Message + Drop> Slot<D> {
 }
 
 impl<D: Message + Drop> Message for Slot<D> {
-    ghost use Rattle.layer_table.specs.SlotMessages.{SlotAnswers};
+    ghost use Rattle.layer_table.specs.Slots.{SlotAnswers};
 
     // The slot's own layer is layer 1. The layers of the device below are numbered from 2 on.
     ghost answers = { λ old layer text result new. SlotAnswers D.answers old layer text result

@@ -1,17 +1,49 @@
--- Each step keeps the rule of a keeper and its holders.
-use Rattle.std.proofs.Common.{◌≡◌, ◌≢◌, ◌⊎◌, ℕ, zero, suc, ◌<◌, List, [], ◌∷◌, ◌++◌, length, set}
-use Rattle.std.proofs.Common.{Option, Some, None, true, false, true≢false, refl, sym, ap, ◌∙◌}
-use Rattle.std.proofs.Common.{subst, inl, inr, ⊎_elim, arith, cond, eqb, eq-eqb, ne_eqb}
+-- Each step keeps the rule of a keeper and its holders. Also what a keeper of causes knows of its
+-- holders.
+use Rattle.std.proofs.Common.{◌⊎◌, ℕ, zero, suc, ◌<◌, List, [], ◌∷◌, ◌++◌, length, set, Some, None}
+use Rattle.std.proofs.Common.{true, false, true≢false, refl, sym, ap, ◌∙◌, ◌≡◌, ◌≢◌, subst, inl}
+use Rattle.std.proofs.Common.{inr, ⊎_elim, arith, cond, eqb, eq-eqb, ne_eqb, Option}
 use Rattle.std.specs.Prelude.{slice_get, slice_set}
-use Rattle.std.proofs.lemmas.Option.{slice_get_within}
-use mathlib.Core.Option.{some, some-ne-none, some-injective}
-use lib.ListN.{get_elem?}
-use Rattle.atomic_table.specs.Table.{State, Me, keeps, Allows, Splits, Joins}
 use Rattle.atomic_table.proofs.Lists.{at_set, set_again}
+use Rattle.atomic_table.specs.Table.{State, Me, keeps, Allows, Splits, Joins}
+use Rattle.std.proofs.lemmas.Option.{slice_get_within}
+use lib.ListN.{get_elem?}
+use mathlib.Core.Option.{some, some-ne-none, some-injective}
+use Rattle.refusals.specs.declared.run_error.End.{End}
+use Rattle.refusals.specs.declared.run_error.End.TheVariants.{Full, Device, Memory}
+use Rattle.lock_state.proofs.Lists.{get_push}
 use Rattle.lock_state.specs.declared.holders.rule.Knows.{Knows}
-use Rattle.lock_state.specs.HolderRules.{keeper_of, holder_of, both_of, nobody, without, part_of, beside}
-use Rattle.lock_state.specs.HolderRules.{Agree, Sets, Fits, IsKept}
-use Rattle.lock_state.proofs.HolderLists.{get_set_same, get_set_else, get_front, get_pushed}
+use Rattle.lock_state.specs.FirstStop.{IsShown, end_number, shown_stop}
+use Rattle.lock_state.specs.HolderRules.{nobody, without, part_of, beside, Agree, Sets, Fits}
+use Rattle.lock_state.specs.HolderRules.{IsKept, keeper_of, holder_of, both_of}
+
+-- Each step keeps the rule of a keeper and its holders.
+-- What `slice_get` finds in a list after one item was changed or appended.
+
+module _ {A : Type 0} where
+  pub get_set_same : (xs : List A) (k : ℕ) (x y : A) → slice_get xs k ≡ Some x
+      → slice_get (set xs k y) k ≡ Some y
+  get_set_same [] k x y e = absurd (cc)
+  get_set_same (z ∷ zs) zero x y e = refl
+  get_set_same (z ∷ zs) (suc k) x y e = get_set_same zs k x y e
+
+  pub get_set_else : (xs : List A) (k j : ℕ) (y : A) → j ≢ k
+      → slice_get (set xs k y) j ≡ slice_get xs j
+  get_set_else [] k j y apart = refl
+  get_set_else (z ∷ zs) zero zero y apart = absurd (apart refl)
+  get_set_else (z ∷ zs) zero (suc j) y apart = refl
+  get_set_else (z ∷ zs) (suc k) zero y apart = refl
+  get_set_else (z ∷ zs) (suc k) (suc j) y apart = get_set_else zs k j y (λ e. apart (ap suc e))
+
+  pub get_front : (xs ys : List A) (k : ℕ) (x : A) → slice_get xs k ≡ Some x
+      → slice_get (xs ++ ys) k ≡ Some x
+  get_front [] ys k x e = absurd (cc)
+  get_front (z ∷ zs) ys zero x e = e
+  get_front (z ∷ zs) ys (suc k) x e = get_front zs ys k x e
+
+  pub get_pushed : (xs : List A) (x : A) → slice_get (xs ++ x ∷ []) (length xs) ≡ Some x
+  get_pushed [] x = refl
+  get_pushed (z ∷ zs) x = get_pushed zs x
 
 off : false ≡ true → ⊥
 off e = true≢false (sym e)
@@ -315,3 +347,60 @@ pub enrolled_is : (before after : Me (Unit {0}) Knows) (all : List (Option ℕ))
     → after ≡ (both_of (before.0.all ++ None ∷ []) (length before.0.all) None, [])
     → after ≡ (both_of (all ++ None ∷ []) (length all) None, [])
 enrolled_is before after all is told = grind arith
+
+-- What a keeper of causes knows of its holders.
+
+-- one holder more, that holds nothing
+pub shown_enrolled : (shown : Option End) (held : List (Option ℕ)) → IsShown shown held
+    → IsShown shown (held ++ None ∷ [])
+shown_enrolled shown held each number one there =
+    ⊎_elim (λ (was : slice_get held number ≡ Some one). each number one was)
+    (λ new. inl (sym new.1)) (get_push held None one number there)
+
+-- a holder is shown the one cause
+pub shown_begun : (cause : End) (held : List (Option ℕ)) (number : ℕ) → IsShown (Some cause) held
+    → IsShown (Some cause) (slice_set held number (Some (end_number cause)))
+shown_begun cause [] number each other one there = each other one there
+shown_begun cause (x ∷ held) zero each zero one there = inr (cc)
+shown_begun cause (x ∷ held) zero each (suc other) one there = each (suc other) one there
+shown_begun cause (x ∷ held) (suc number) each zero one there = each zero one there
+shown_begun cause (x ∷ held) (suc number) each (suc other) one there =
+    shown_begun cause held number (λ k. each (suc k)) other one there
+
+-- before there is a cause no holder holds one
+pub shown_first : (before after : Option End) (held : List (Option ℕ)) → before ≡ None
+    → IsShown before held → IsShown after held
+shown_first before after held none each number one there =
+    ⊎_elim (λ (is : one ≡ None). inl is)
+    (λ (is : one ≡ shown_stop before). inl (is ∙ ap shown_stop none)) (each number one there)
+
+-- a cause stays
+pub shown_later : (before after : Option End) (held : List (Option ℕ))
+    → ((cause : End) → before ≡ Some cause → after ≡ Some cause) → IsShown before held
+    → IsShown after held
+shown_later None after held stays each = shown_first None after held refl each
+shown_later (Some cause) after held stays each =
+    rw (stays cause refl) each
+
+-- no two causes have one number
+same_number : (shown : Option End) (cause : End) → shown_stop shown ≡ Some (end_number cause)
+    → shown ≡ Some cause
+same_number None cause same = absurd (cc)
+same_number (Some Full) Full same = refl
+same_number (Some Full) Device same = absurd (cc)
+same_number (Some Full) Memory same = absurd (cc)
+same_number (Some Device) Full same = absurd (cc)
+same_number (Some Device) Device same = refl
+same_number (Some Device) Memory same = absurd (cc)
+same_number (Some Memory) Full same = absurd (cc)
+same_number (Some Memory) Device same = absurd (cc)
+same_number (Some Memory) Memory same = refl
+
+-- what a holder holds is the one cause
+pub shown_is : (shown : Option End) (held : List (Option ℕ)) (number : ℕ) (cause : End)
+    → IsShown shown held → slice_get held number ≡ Some (Some (end_number cause))
+    → shown ≡ Some cause
+shown_is shown held number cause each there =
+    ⊎_elim (λ (none : Some (end_number cause) ≡ None). absurd (cc))
+    (λ is. same_number shown cause (sym is))
+    (each number (Some (end_number cause)) there)

@@ -1,9 +1,7 @@
 -- The definitions that the contracts of `lock_state` are written in.
 pub mod Calls
-pub mod Close
 pub mod Comparison
 pub mod FirstStop
 pub mod History
-pub mod LegalHistory
 pub mod PlacedItems
 pub mod HolderRules

@@ -1,12 +1,10 @@
 // The recorded device, and the requests that were passed to it.
 ghost use Rattle.std.specs.Prelude.{◌≡◌, ◌⊎◌, ℕ, ◌≤◌, ◌/◌, [], ◌∷◌, ◌++◌, length, Ok, Err};
 ghost use Rattle.std.specs.Prelude.{OnOk, IfErr, true, false};
-ghost use Rattle.bio.specs.Check.{check_answer};
+ghost use Rattle.bio.specs.Requests.{check_answer, is_tracked};
 ghost use Rattle.bio.specs.Possible.{values_of};
-ghost use Rattle.bio.specs.Requests.{is_tracked};
 ghost use Rattle.bio.specs.declared.outcome.DevError.TheVariants.{Memory};
-ghost use Rattle.blockdev.specs.Calls.{Flushes, IsByteRange, Writes};
-ghost use Rattle.blockdev.specs.InTurn.{DoesInTurn};
+ghost use Rattle.blockdev.specs.View.{DoesInTurn, Flushes, IsByteRange, Writes};
 ghost use Rattle.bio.specs.Content.{Patched, gather, put, writes};
 ghost use Rattle.lock_state.specs.Calls.{Data, Holds, IsRead, calls_of, done_call};
 

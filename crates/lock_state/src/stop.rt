@@ -1,7 +1,7 @@
 // The first stop, and the causes that the queue and the log show each other.
 ghost use Rattle.std.specs.Prelude.{◌≡◌, ◌⊎◌, [], Option, false, true, None, Some, IfSome};
-ghost use Rattle.refusals.specs.declared.end.End.{End as Cause};
-ghost use Rattle.refusals.specs.declared.end.End.TheVariants.{Memory};
+ghost use Rattle.refusals.specs.declared.run_error.End.{End as Cause};
+ghost use Rattle.refusals.specs.declared.run_error.End.TheVariants.{Memory};
 ghost use Rattle.lock_state.specs.History.{first_cause};
 ghost use Rattle.lock_state.specs.FirstStop.{HasStopCause, IsShown, end_number};
 
@@ -20,7 +20,7 @@ pub struct Shown<W: Whose> {
 
 impl<W: Whose> Model for Shown<W> {
     ghost use Rattle.std.specs.Prelude.{◌≡◌, Some};
-    ghost use Rattle.refusals.specs.declared.end.End.{End};
+    ghost use Rattle.refusals.specs.declared.run_error.End.{End};
     ghost use Rattle.lock_state.specs.FirstStop.{end_number};
 
     ghost Value = { End };
@@ -82,7 +82,7 @@ pub struct FirstStop<R: Run> {
 
 impl<R: Run> Model for FirstStop<R> {
     ghost use Rattle.std.specs.Prelude.{Option};
-    ghost use Rattle.refusals.specs.declared.end.End.{End};
+    ghost use Rattle.refusals.specs.declared.run_error.End.{End};
     ghost use Rattle.lock_state.specs.FirstStop.{HasStopCause, IsShown};
 
     ghost Value = { Option End };

@@ -9,20 +9,17 @@ use Rattle.std.specs.Prelude.{slice_get, OnSome, Bool, true, false, not, is_some
 use Rattle.std.proofs.lemmas.Bool.{ne_eqb}
 use Rattle.pending.specs.declared.chains.links.Links.{Links}
 use Rattle.pending.specs.declared.chains.walk.Walk.{Walk}
-use Rattle.pending.specs.Edits.{chain_in, lengthened, preceded, shortened}
-use Rattle.pending.specs.ChainsView.{count_in, new_rows_room}
-use Rattle.pending.specs.inside.Rings.{after, last_in, times, Holds}
-use Rattle.pending.specs.inside.ChainSteps.{Changes, IsLoose}
-use Rattle.pending.specs.inside.Tables.{chains_of, seen_chains, seen_lasts, value_at, values_of}
-use Rattle.pending.specs.inside.Tables.{shown_of, walked_in, IsOpen, IsSound, IsTable, IsWalk}
-use Rattle.pending.proofs.ListLaws.{in-put, in-other, there}
-use Rattle.pending.proofs.RingLaws.{times-same}
+use Rattle.pending.specs.ChainsView.{chain_in, count_in, lengthened, new_rows_room, preceded}
+use Rattle.pending.specs.ChainsView.{shortened}
+use Rattle.pending.specs.inside.Tables.{Changes, IsLoose, after, last_in, times, Holds, chains_of}
+use Rattle.pending.specs.inside.Tables.{seen_chains, seen_lasts, value_at, values_of, shown_of}
+use Rattle.pending.specs.inside.Tables.{walked_in, IsOpen, IsSound, IsTable, IsWalk}
+use Rattle.pending.proofs.RingLaws.{chain-map, value-there, values-first, times-same, in-put}
+use Rattle.pending.proofs.RingLaws.{in-other, there}
 use Rattle.pending.proofs.HoldsLaws.{none-at, chain-at, default-grown, first-of, holds-more}
 use Rattle.pending.proofs.HoldsLaws.{holds-same, is-row, ring-at}
-use Rattle.pending.proofs.ValueLaws.{chain-map, value-there, values-first}
-use Rattle.pending.proofs.TableLaws.{table-rest}
-use Rattle.pending.proofs.OpenLaws.{chain-full, chain-length, closed-filled, closed-free, free-none}
-use Rattle.pending.proofs.OpenLaws.{nothing-cut, open-taken}
+use Rattle.pending.proofs.TableLaws.{chain-full, chain-length, closed-filled, closed-free}
+use Rattle.pending.proofs.TableLaws.{free-none, nothing-cut, open-taken, table-rest}
 
 -- If P holds, it holds whether or not a value was found.
 pub on-some : {A : Type 0} (found : Option A) (P : Type 0) → P → OnSome found P

@@ -1,11 +1,10 @@
 -- Examples of chains and links, by computation.
 use Rattle.std.proofs.Common.{◌≡◌, ◌≢◌, ℕ, List, [], ◌∷◌, Option, Some, None, refl, arith}
-use Rattle.pending.specs.Edits.{chain_in, fronted, joined, lengthened, lifted, shortened, turned}
-use Rattle.pending.specs.Edits.{with_first}
-use Rattle.pending.specs.Lends.{with_value}
 use Rattle.pending.specs.ChainsView.{count_in, new_rows_room, ChangesFew, KeepsRoom, Shown}
-use Rattle.pending.specs.inside.Rings.{times_in}
-use Rattle.pending.specs.inside.Tables.{chains_of, seen_lasts, values_of}
+use Rattle.pending.specs.ChainsView.{chain_in, fronted, joined, lengthened, lifted, shortened}
+use Rattle.pending.specs.ChainsView.{turned, with_first}
+use Rattle.pending.specs.Lends.{with_value}
+use Rattle.pending.specs.inside.Tables.{chains_of, seen_lasts, times_in, values_of}
 
 -- chain 1 has two values and chain 2 has one
 three : List (List ℕ)

@@ -10,22 +10,21 @@ use Rattle.std.specs.Prelude.{◌⊎◌, slice_get, nat_lt, if◌then◌else◌}
 use Rattle.bio.specs.declared.request.Bio.{Bio}
 use Rattle.bio.specs.declared.event.CoreEvent.{CoreEvent}
 use Rattle.bio.specs.declared.event.CoreEvent.TheVariants.{Submit}
-use Rattle.bio.specs.PlaceLaws.{bool_cases, option_cases, first_below-found, first_below-none}
+use Rattle.bio.specs.PlaceLaws.{length-prefix, bool_cases, option_cases, first_below-found}
+use Rattle.bio.specs.PlaceLaws.{first_below-none}
 use Rattle.bio.specs.Requests.{covers, has_flush, has_fua, overlaps}
-use Rattle.bio.specs.Events.{end_of, first_place, is_flush_submit, is_stop}
-use Rattle.bio.specs.Lawful.{is_well_formed}
-use Rattle.bio.specs.EventLaws.{length-prefix}
+use Rattle.bio.specs.Events.{end_of, first_place, is_flush_submit, is_stop, is_well_formed}
 use Rattle.log_format.specs.declared.entry.Entry.{Entry}
 use Rattle.pending.specs.QueueEvent.{first_need, is_at, is_needed_by, queue_event, queue_of}
 use Rattle.pending.specs.QueueEvent.{log_writes_order, unless_stopped}
 use Rattle.pending.specs.CompletionList.{IsListedAt, Item, completion_list, dm_log_writes, entry_at}
 use Rattle.pending.specs.CompletionList.{own_end}
-use Rattle.pending.proofs.Ends.{ends-there, flush_submit-some, open-queue_event, own-queue_event}
-use Rattle.pending.proofs.Ends.{plain-queue_event, queued-within}
+use Rattle.pending.proofs.Order.{ends-there, flush_submit-some, listed-queued, listed-sorted}
+use Rattle.pending.proofs.Order.{open-queue_event, own-queue_event, plain-queue_event}
+use Rattle.pending.proofs.Order.{queued-listed, queued-within, unstopped}
 use Rattle.pending.proofs.LinkChains.{linked-here, needed-flush, needed-linked, needing-recorded}
 use Rattle.pending.proofs.LinkChains.{recorded-earlier}
 use Rattle.pending.proofs.OneStep.{is_at-some}
-use Rattle.pending.proofs.Order.{listed-queued, listed-sorted, queued-listed, unstopped}
 use Rattle.pending.proofs.Prefix.{queue_event_same, recorded_stable}
 
 -- A moment up to which logging goes on.

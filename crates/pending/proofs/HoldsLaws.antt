@@ -7,13 +7,13 @@ use Rattle.std.specs.Prelude.{IfSome}
 use Rattle.std.proofs.lemmas.Bool.{cases_eq, cases_lt}
 use Rattle.std.proofs.lemmas.List.{get_or-set_same, get_or-set_other, get_or_past, set-set}
 use Rattle.std.proofs.lemmas.List.{set-get_or, append-nil, append_assoc}
-use Rattle.pending.specs.Edits.{chain_in, fronted, joined, lengthened, preceded, shortened}
-use Rattle.pending.specs.inside.Rings.{after, last_in, times, times_in, Leads, IsRing, IsChain}
-use Rattle.pending.specs.inside.Rings.{Holds}
-use Rattle.pending.proofs.ListLaws.{one-of, two-of, sum-put, in-put, in-other}
-use Rattle.pending.proofs.RingLaws.{SameBut, times-same, times-other, times-append, leads-append}
-use Rattle.pending.proofs.RingLaws.{leads-kept, leads-end, same-but-one, same-but-two, chain-kept}
+use Rattle.pending.specs.ChainsView.{chain_in, fronted, joined, lengthened, preceded, shortened}
+use Rattle.pending.specs.inside.Tables.{Holds, after, last_in, times, times_in, Leads, IsRing}
+use Rattle.pending.specs.inside.Tables.{IsChain}
 use Rattle.pending.proofs.RingLaws.{ring-parts, ring-turned, sources-none, sources-end, last-counts}
+use Rattle.pending.proofs.RingLaws.{leads-kept, leads-end, same-but-one, same-but-two, chain-kept}
+use Rattle.pending.proofs.RingLaws.{SameBut, times-same, times-other, times-append, leads-append}
+use Rattle.pending.proofs.RingLaws.{one-of, two-of, sum-put, in-put, in-other}
 
 -- Appending the default to a list doesn't change what is read of the list.
 pub default-grown : {X : Type 0} (xs : List X) (i : ℕ) (d : X)

@@ -6,20 +6,18 @@ use Rattle.std.specs.Prelude.{◌⊎◌}
 use Rattle.byteorder.specs.Endian.{little_bytes}
 use Rattle.bio.specs.declared.event.CoreEvent.{CoreEvent}
 use Rattle.bio.specs.declared.event.CoreEvent.TheVariants.{Submit, Complete, Stop, Close}
-use Rattle.refusals.specs.declared.end.End.TheVariants.{Full}
+use Rattle.refusals.specs.declared.run_error.End.TheVariants.{Full}
 use Rattle.bio.specs.declared.request.Bio.{Bio}
 use Rattle.bio.specs.declared.request.Bio.TheVariants.{Write, Flush}
 use Rattle.bio.specs.Content.{Content, over, sector_of}
 use Rattle.log_format.specs.Replay.{replay}
-use Rattle.pending.specs.PlainLists.{entries_at}
+use Rattle.pending.specs.CompletionList.{entries_at}
 use Rattle.pending.specs.Plain.{AClose, AMark, AtClose, AtEnd, AtFlush, AtFua, Belongs, Chain}
 use Rattle.pending.specs.Plain.{CouldHold, Covers, Direct, Durable, Ends, Flushed, GoesOn, HasLog}
 use Rattle.pending.specs.Plain.{IsCompletionList, Kept, Later, Need, Overlap, Puts, Queued, Queues}
 use Rattle.pending.specs.Plain.{Replays, Submits, Through, bytes_of, entries_bytes, entry}
-use Rattle.pending.proofs.PlainHeld.{plain-durable, plain-kept}
-use Rattle.pending.proofs.PlainMoments.{belongs-plain, last-plain}
-use Rattle.pending.proofs.PlainOnly.{list-is, plain-list}
-use Rattle.pending.proofs.PlainReplays.{plain-replay, replay-plain}
+use Rattle.pending.proofs.PlainHeld.{plain-durable, plain-kept, plain-replay, replay-plain}
+use Rattle.pending.proofs.PlainMoments.{belongs-plain, last-plain, list-is, plain-list}
 
 -- a sector of one byte over and over, and a disk of zeroes
 abbrev full : ℕ → List ℕ

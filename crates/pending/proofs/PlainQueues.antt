@@ -1,28 +1,29 @@
 -- The plain definitions of what is queued agree with those of the contracts.
-use Rattle.std.proofs.Common.{◌≡◌, ℕ, zero, suc, ◌<◌, Bool, true, false, not, ◌&&◌, ◌||◌, Option, Some, None, List}
+use Rattle.std.proofs.Common.{◌≡◌, ℕ, zero, suc, ◌<◌, Bool, true, false, not, ◌&&◌, ◌||◌, Option}
+use Rattle.std.proofs.Common.{Some, None, List}
 use Rattle.std.proofs.Common.{[], ◌∷◌, length, refl, ap, sym, subst, ◌∙◌, inl, inr, arith}
 use Rattle.std.proofs.Math.Nat.{eq-or-lt_of_le}
 use Rattle.std.proofs.lemmas.Bool.{and_parts, cases_lt, le-ltb, lt-ltb, ltb-true}
 use Rattle.std.specs.Prelude.{◌⊎◌, slice_get, nat_lt}
 use Rattle.bio.specs.declared.request.Bio.{Bio}
-use Rattle.refusals.specs.declared.end.End.{End}
+use Rattle.refusals.specs.declared.run_error.End.{End}
 use Rattle.bio.specs.declared.event.CoreEvent.{CoreEvent}
 use Rattle.bio.specs.declared.event.CoreEvent.TheVariants.{Submit, Complete, Mark, Stop, Close}
-use Rattle.bio.specs.PlaceLaws.{bool_cases, first_below-found, first_below-none, option_cases, slice_get-within}
-use Rattle.bio.specs.PossibleLaws.{covered_value, value_covers}
-use Rattle.bio.specs.RequestLaws.{overlaps-common}
-use Rattle.bio.specs.EventLaws.{well_formed-end}
-use Rattle.bio.specs.Events.{end_of, first_place, is_stop}
-use Rattle.bio.specs.Lawful.{is_well_formed}
+use Rattle.bio.specs.PlaceLaws.{bool_cases, first_below-found, first_below-none, option_cases}
+use Rattle.bio.specs.PlaceLaws.{slice_get-within, well_formed-end}
+use Rattle.bio.specs.RequestLaws.{covered_value, overlaps-common, value_covers}
+use Rattle.bio.specs.Events.{end_of, first_place, is_stop, is_well_formed}
 use Rattle.bio.specs.Requests.{covers, has_flush, has_fua, overlaps}
-use Rattle.pending.specs.Chains as old
+use Rattle.pending.specs.QueueEvent as old
 use Rattle.pending.specs.QueueEvent.{first_need, log_writes_order, queue_of, unless_stopped}
-use Rattle.pending.specs.CompletionList.{IsQueued, IsQueuedBefore, Item, completion_list, dm_log_writes, entry_at, own_end}
-use Rattle.pending.specs.PlainLists.{ids_of}
-use Rattle.pending.specs.Plain.{AClose, AMark, AtClose, AtEnd, AtFlush, AtFua, Chain, Covers, Direct}
-use Rattle.pending.specs.Plain.{GoesOn, IsCompletionList, Later, Need, Overlap, Queued, Queues, Submits, Through}
-use Rattle.pending.proofs.Ends.{ends-there, own-queue_event, plain-queue_event}
-use Rattle.pending.proofs.Order.{listed-queued, listed-sorted, queued-listed, unstopped}
+use Rattle.pending.specs.CompletionList.{IsQueued, IsQueuedBefore, Item, completion_list}
+use Rattle.pending.specs.CompletionList.{dm_log_writes, entry_at, ids_of, own_end}
+use Rattle.pending.specs.Plain.{AClose, AMark, AtClose, AtEnd, AtFlush, AtFua, Chain, Covers}
+use Rattle.pending.specs.Plain.{Direct}
+use Rattle.pending.specs.Plain.{GoesOn, IsCompletionList, Later, Need, Overlap, Queued, Queues}
+use Rattle.pending.specs.Plain.{Submits, Through}
+use Rattle.pending.proofs.Order.{ends-there, listed-queued, listed-sorted, own-queue_event}
+use Rattle.pending.proofs.Order.{plain-queue_event, queued-listed, unstopped}
 use Rattle.pending.proofs.PlainHeld.{and_holds, puts-values, values-puts}
 use Rattle.pending.proofs.Words.{first-need-queues, need-recorded, recorded-need}
 

@@ -1,10 +1,18 @@
--- Laws of rows in lists, and of links that lead over them.
-use Rattle.std.proofs.Common.{◌≡◌, ◌≢◌, ℕ, ◌+◌, ◌<◌, ◌≤◌, List, [], ◌∷◌, ◌++◌, set, Option, Some}
-use Rattle.std.proofs.Common.{None, refl, ap, arith, length-append}
-use Rattle.std.proofs.lemmas.Bool.{eq-eqb, ne_eqb}
-use Rattle.std.proofs.lemmas.List.{get_or-set_other}
+-- Laws of rows in lists, of links that lead over them, and of the values in the rows.
+use Rattle.std.proofs.Common.{◌<◌, ◌≤◌, List, [], ◌∷◌, length, map, get_or, ◌++◌, set, Option, Some}
+use Rattle.std.proofs.Common.{None, refl, ap, sym, ◌∙◌, arith, length-append, ◌≡◌, ◌≢◌, ℕ, zero}
+use Rattle.std.proofs.Common.{suc, ◌+◌}
 use Rattle.std.specs.Prelude.{is_some, IfSome, true, false}
-use Rattle.pending.specs.inside.Rings.{after, times, Leads, IsRing, IsChain}
+use Rattle.std.proofs.lemmas.Bool.{cases_lt, eq-eqb, ne_eqb}
+use Rattle.std.proofs.lemmas.List.{get_or-set_same, get_or-set_other, get_or_append_left, map-set}
+use Rattle.std.proofs.lemmas.List.{get_or_past}
+use Rattle.std.proofs.lemmas.List.Sums.{sum_by-cons, sum_by-set}
+use Rattle.std.specs.List.{sum_by}
+use Rattle.pending.specs.ChainsView.{chain_in, fronted, joined}
+use Rattle.pending.specs.inside.Tables.{filled, after, times, value_at, values_of, with_value}
+use Rattle.pending.specs.inside.Tables.{Leads, IsRing, IsChain}
+
+-- Laws of rows in lists, and of links that lead over them.
 
 -- If a list begins with a row, this row is in it once more than in the rest.
 pub times-same : (row other : ℕ) (rows : List ℕ) → other ≡ row
@@ -158,3 +166,151 @@ some-of None row there same = cc
 pub none-of : (found : Option ℕ) → is_some found ≡ false → found ≡ None
 none-of (Some other) there = cc
 none-of None there = refl
+
+-- Laws of lists of lists: what a chain has after a write, and sums over all chains.
+
+-- If a chain has an element, it exists.
+pub there : {X : Type 0} (chains : List (List X)) (chain : ℕ) → 0 < length (chain_in chains chain)
+    → chain < length chains
+there chains chain some = grind (arith, cases_lt, get_or_past)
+
+-- A term is at most the sum.
+pub one-of : {X : Type 0} (f : X → ℕ) (xs : List X) (i : ℕ) (d : X) → f d ≡ 0
+    → f (get_or xs i d) ≤ sum_by f xs
+one-of f [] i d none = omega arith
+one-of f (x ∷ xs) zero d none = omega (arith, sum_by-cons f x xs)
+one-of f (x ∷ xs) (suc i) d none = omega (arith, sum_by-cons f x xs, one-of f xs i d none)
+
+-- Two different terms are together at most the sum.
+pub two-of : {X : Type 0} (f : X → ℕ) (xs : List X) (i j : ℕ) (d : X) → f d ≡ 0 → i ≢ j
+    → f (get_or xs i d) + f (get_or xs j d) ≤ sum_by f xs
+two-of f [] i j d none apart = omega arith
+two-of f (x ∷ xs) zero zero d none apart = absurd (apart refl)
+two-of f (x ∷ xs) zero (suc j) d none apart =
+    omega (arith, sum_by-cons f x xs, one-of f xs j d none)
+two-of f (x ∷ xs) (suc i) zero d none apart =
+    omega (arith, sum_by-cons f x xs, one-of f xs i d none)
+two-of f (x ∷ xs) (suc i) (suc j) d none apart =
+    omega (arith, sum_by-cons f x xs, two-of f xs i j d none (λ e. apart (ap suc e)))
+
+-- If one chain is replaced by another list, the sum changes by the difference of both.
+pub sum-put : {X : Type 0} (f : List X → ℕ) (chains : List (List X)) (chain : ℕ) (xs : List X)
+    → chain < length chains
+    → sum_by f (set chains chain xs) + f (chain_in chains chain) ≡ sum_by f chains + f xs
+sum-put f chains chain xs less = sum_by-set f chains chain xs [] less
+
+-- The chain that was written has what was written.
+pub in-put : {X : Type 0} (chains : List (List X)) (chain : ℕ) (xs : List X) → chain < length chains
+    → chain_in (set chains chain xs) chain ≡ xs
+in-put chains chain xs less = get_or-set_same chains chain xs [] less
+
+-- A chain that wasn't written doesn't change.
+pub in-other : {X : Type 0} (chains : List (List X)) (chain other : ℕ) (xs : List X) → other ≢ chain
+    → chain_in (set chains chain xs) other ≡ chain_in chains other
+in-other chains chain other xs apart = get_or-set_other chains chain other xs [] apart
+
+-- The values in the rows of chains.
+
+-- If each chain is mapped by f, a chain has f of what it had.
+pub chain-map : {X Y : Type 0} (f : List X → List Y) (chains : List (List X)) (chain : ℕ)
+    → f [] ≡ []
+    → chain_in (map f chains) chain ≡ f (chain_in chains chain)
+chain-map f [] chain none = sym none
+chain-map f (xs ∷ chains) zero none = refl
+chain-map f (xs ∷ chains) (suc chain) none = chain-map f chains chain none
+
+-- A value in front of two lists is in front of the first.
+pub with-append : {T : Type 0} (found : Option T) (xs ys : List T)
+    → with_value found (xs ++ ys) ≡ with_value found xs ++ ys
+with-append None xs ys = refl
+with-append (Some value) xs ys = refl
+
+-- The values of two lists of rows, one after the other, are the values of both.
+pub values-append : {T : Type 0} (rows : List (Option T)) (xs ys : List ℕ)
+    → values_of rows (xs ++ ys) ≡ values_of rows xs ++ values_of rows ys
+values-append rows [] ys = refl
+values-append rows (x ∷ xs) ys = grind (arith, values-append rows xs ys, with-append)
+
+-- Writing a value to a row that isn't in a chain doesn't change the chain's values.
+pub values-kept : {T : Type 0} (rows : List (Option T)) (row : ℕ) (value : Option T)
+    (chain : List ℕ) → times row chain ≡ 0
+    → values_of (set rows row value) chain ≡ values_of rows chain
+values-kept rows row value [] none = refl
+values-kept rows row value (other ∷ chain) none =
+    let apart : other ≢ row = not-first row other chain none in
+    ap (λ found. with_value found (values_of (set rows row value) chain))
+    (get_or-set_other rows row other value None apart)
+    ∙ ap (λ vs. with_value (value_at rows other) vs)
+    (values-kept rows row value chain (omega (arith, times-other row other chain apart)))
+
+-- Adding a row doesn't change a chain's values.
+pub values-grown : {T : Type 0} (rows more : List (Option T)) (chain : List ℕ)
+    → ((row : ℕ) → 0 < times row chain → row < length rows)
+    → values_of (rows ++ more) chain ≡ values_of rows chain
+values-grown rows more [] within = refl
+values-grown rows more (row ∷ chain) within =
+    rw (
+      get_or_append_left rows more None row (within row (omega (
+        arith,
+        times-same row row chain
+            refl,
+      ))),
+      values-grown rows more chain (λ r some. within r (omega arith)),
+    )
+
+-- If each row of a chain has a value, there are as many values as rows.
+pub values-full : {T : Type 0} (rows : List (Option T)) (chain : List ℕ)
+    → ((row : ℕ) → 0 < times row chain → filled (value_at rows row) ≡ 1)
+    → length (values_of rows chain) ≡ length chain
+values-full {T} rows [] full = refl
+values-full {T} rows (row ∷ chain) full =
+    by_value (value_at rows row) (full row (omega (arith, times-same row row chain refl)))
+    (values-full rows chain (λ r some. full r (omega arith)))
+  where
+    by_value : (found : Option T) → filled found ≡ 1 → length (values_of rows chain) ≡ length chain
+        → length (with_value found (values_of rows chain)) ≡ suc (length chain)
+    by_value None not_there rest = absurd (omega arith)
+    by_value (Some value) there rest = ap suc rest
+
+-- If no row of a chain has a value, the chain has no values.
+pub values-none : {T : Type 0} (rows : List (Option T)) (chain : List ℕ)
+    → ((row : ℕ) → 0 < times row chain → filled (value_at rows row) ≡ 0)
+    → values_of rows chain ≡ []
+values-none {T} rows [] none = refl
+values-none {T} rows (row ∷ chain) none =
+    by_value (value_at rows row) (none row (omega (arith, times-same row row chain refl)))
+    (values-none rows chain (λ r some. none r (omega arith)))
+  where
+    by_value : (found : Option T) → filled found ≡ 0 → values_of rows chain ≡ []
+        → with_value found (values_of rows chain) ≡ []
+    by_value None not_there rest = rest
+    by_value (Some value) some rest = absurd (omega arith)
+
+-- If the first row has a value, this is the first of the values.
+pub values-first : {T : Type 0} (rows : List (Option T)) (row : ℕ) (rest : List ℕ) (value : T)
+    → value_at rows row ≡ Some value
+    → values_of rows (row ∷ rest) ≡ value ∷ values_of rows rest
+values-first rows row rest value is = grind arith
+
+-- A row that counts as filled has a value.
+pub value-there : {T : Type 0} (found : Option T) → filled found ≡ 1
+    → (value : T) × (found ≡ Some value)
+value-there None not_there = absurd (omega arith)
+value-there (Some value) is = (value, refl)
+
+-- A row that doesn't count as filled has no value.
+pub value-none : {T : Type 0} (found : Option T) → filled found ≡ 0 → found ≡ None
+value-none None not_there = refl
+value-none (Some value) is = absurd (omega arith)
+
+-- The values of chains after one was appended to another.
+pub map-joined : {T : Type 0} (rows : List (Option T)) (chains : List (List ℕ)) (from onto : ℕ)
+    → map (values_of rows) (joined chains from onto)
+    ≡ joined (map (values_of rows) chains) from onto
+map-joined rows chains from onto = grind (arith, map-set, values-append, chain-map)
+
+-- The values of chains after one was put before another.
+pub map-fronted : {T : Type 0} (rows : List (Option T)) (chains : List (List ℕ)) (from onto : ℕ)
+    → map (values_of rows) (fronted chains from onto)
+    ≡ fronted (map (values_of rows) chains) from onto
+map-fronted rows chains from onto = grind (arith, map-set, values-append, chain-map)

@@ -1,17 +1,74 @@
--- How the calls change the table.
-use Rattle.std.proofs.Common.{◌≡◌, ℕ, ◌<◌, List, [], length, set, Option, Some, None, refl, sym}
-use Rattle.std.proofs.Common.{arith, length-append, ◌++◌, ◌∷◌}
-use Rattle.std.proofs.lemmas.List.{set-append_left}
+-- How the calls change the table, and how a row is taken out of it or put into it.
+use Rattle.std.proofs.Common.{length-set, ◌≤◌, List, [], length, map, set, drop, Option, Some, None}
+use Rattle.std.proofs.Common.{refl, ap, sym, ◌∙◌, subst, inl, inr, arith, cond, length-append, ◌++◌}
+use Rattle.std.proofs.Common.{◌∷◌, ◌≡◌, ◌≢◌, ℕ, zero, suc, ◌<◌}
+use Rattle.std.proofs.lemmas.Bool.{cases_eq, eq-eqb, ne_eqb}
+use Rattle.std.proofs.lemmas.List.{get_or_past, get_or-set_same, get_or-set_other, set-get_or}
+use Rattle.std.proofs.lemmas.List.{ext_get_or, length-map, map-set, get_or-map, set-append_left}
+use Rattle.pending.proofs.HoldsLaws.{default-grown, few-in, few-in-two, is-row, holds-grown}
+use Rattle.pending.proofs.RingLaws.{value-none, value-there, values-append, values-first}
+use Rattle.pending.proofs.RingLaws.{values-full, values-grown, values-kept, values-none, chain-map}
+use Rattle.pending.proofs.RingLaws.{leads-end, times-same, times-other, in-put, times-append}
+use Rattle.pending.proofs.RingLaws.{one-of, there, in-other}
+use Rattle.pending.specs.ChainsView.{KeepsRoom, chain_in, lengthened, preceded, shortened}
 use Rattle.pending.specs.declared.chains.links.Links.{Links}
 use Rattle.pending.specs.declared.chains.walk.Walk.{Walk}
-use Rattle.pending.specs.Edits.{chain_in}
-use Rattle.pending.specs.ChainsView.{KeepsRoom}
-use Rattle.pending.specs.inside.Rings.{Holds}
-use Rattle.pending.specs.inside.ChainSteps.{Changes}
-use Rattle.pending.specs.inside.Tables.{seen_chains, seen_lasts, shown_of, walked_in, IsSound}
-use Rattle.pending.specs.inside.Tables.{IsTable, IsWalk}
-use Rattle.pending.proofs.ListLaws.{in-other}
-use Rattle.pending.proofs.FoundLaws.{chains-found}
+use Rattle.pending.specs.inside.Tables.{filled, value_at, values_of, IsOpen, Changes, walked_in}
+use Rattle.pending.specs.inside.Tables.{IsSound, Holds, IsTable, IsWalk, after, last_in, times}
+use Rattle.pending.specs.inside.Tables.{seen_chains, seen_lasts, shown_of, Leads, IsRing, IsChain}
+use Rattle.pending.specs.inside.Tables.{chain_of, chains_of, rows_from}
+
+-- How the calls change the table.
+-- The chains that links hold are exactly those that one finds by following the links.
+
+-- If a way ends on its last row and has this row only once, following the links finds the way.
+pub way-found : (next : List ℕ) (from row : ℕ) (rows : List ℕ) (last steps : ℕ)
+    → Leads next from (row ∷ rows) last
+    → times last (row ∷ rows) ≤ 1 → length (row ∷ rows) ≤ steps
+    → row ∷ rows ≡ rows_from next last steps from
+way-found next from row rows last zero leads few long = absurd (omega arith)
+way-found next from row [] last (suc steps) leads few long = grind (arith, eq-eqb)
+way-found next from row (other ∷ rows) last (suc steps) leads few long =
+    let here = leads.0 in
+    let end = leads-end next row other rows last leads.1 in
+    let one = times-same last last [] refl in
+    let counts = ap (times last) end.1 in
+    let apart : after next from ≢ last = λ e.
+    let front = times-same last row (other ∷ rows) (sym here ∙ e) in
+    absurd (omega (arith, times-append last end.0 (last ∷ []))) in
+    let on = ne_eqb (after next from) last apart in
+    let rest = way-found next row other rows last steps leads.1 (omega arith) (omega arith) in
+    ap (λ rs. row ∷ rs) rest
+    ∙ ap (λ r. r ∷ rows_from next last steps r) (sym here)
+    ∙ sym (ap (λ b. after next from ∷ cond b [] (rows_from next last steps (after next from))) on)
+
+-- Following the links from the last row of a ring finds the ring.
+pub ring-found : (next : List ℕ) (last : ℕ) (rows : List ℕ) (steps : ℕ) → IsRing next last rows
+    → times last rows ≤ 1 → length rows ≤ steps
+    → rows ≡ rows_from next last steps last
+ring-found next last [] steps ring few long = absurd (let some = ring.some in omega arith)
+ring-found next last (row ∷ rows) steps ring few long = grind (arith, way-found)
+
+-- Following the links finds a chain.
+pub chain-found : (next : List ℕ) (last : Option ℕ) (rows : List ℕ) → IsChain next last rows
+    → ((row : ℕ) → times row rows ≤ 1)
+    → length rows ≤ length next → rows ≡ chain_of next last
+chain-found next None rows chain few long = chain
+chain-found next (Some last) rows chain few long = grind (arith, ring-found)
+
+-- Following the links finds each chain.
+pub chains-found : {next : List ℕ} {lasts : List (Option ℕ)} {loose : List ℕ}
+    {chains : List (List ℕ)} → Holds next lasts loose chains
+    → chains ≡ chains_of next lasts
+chains-found {next} {lasts} {loose} {chains} h =
+    ext_get_or [] chains (chains_of next lasts) (h.size ∙ sym (length-map lasts (chain_of next)))
+    (λ i less.
+    let small : i < length lasts = let e = h.size in omega arith in
+    let long : length (chain_in chains i) ≤ length next =
+    let part = one-of length chains i [] refl in let all = h.all in omega arith in
+    chain-found next (last_in lasts i) (chain_in chains i) (h.each i)
+    (λ row. let few = few-in h i row in omega arith) long
+    ∙ sym (get_or-map (chain_of next) lasts i None [] small))
 
 -- Between walks, the last row that is seen of each chain is the stored one.
 pub seen-rest : (lasts : List (Option ℕ)) (walk : Option Walk) → walked_in walk ≡ None
@@ -107,3 +164,270 @@ module _ {T : Type 0} where
       → IsTable new.next.items (seen_lasts new.lasts.items walk) rows other
   table-moved {links} {rows} {walk} s rest new most changes other step same =
       grind (arith, table-rest, table-seen, table-kept)
+
+-- A row is taken out of the table or put into it; in between, this row is loose.
+
+-- If chains have equal values one by one, they show the same.
+pub shown-by : {T : Type 0} (rows : List (Option T)) (chains : List (List ℕ)) (seen : List (List T))
+    → length chains ≡ length seen
+    → ((chain : ℕ) → values_of rows (chain_in chains chain) ≡ chain_in seen chain)
+    → map (values_of rows) chains ≡ seen
+shown-by rows chains seen long same =
+    ext_get_or [] (map (values_of rows) chains) seen (length-map chains (values_of rows) ∙ long)
+    (λ chain less. chain-map (values_of rows) chains chain refl ∙ same chain)
+
+-- If a chain is replaced by another list of rows that has the same values, what is shown doesn't
+-- change.
+pub shown-put : {T : Type 0} (rows : List (Option T)) (chains : List (List ℕ)) (chain : ℕ)
+    (other : List ℕ)
+    → values_of rows other ≡ values_of rows (chain_in chains chain)
+    → map (values_of rows) (set chains chain other) ≡ map (values_of rows) chains
+shown-put rows chains chain other same =
+    map-set (values_of rows) chains chain other ∙ rw (same ∙ sym (chain-map (values_of rows)
+    chains chain refl)) (set-get_or (map (values_of rows) chains) chain [])
+
+-- Taking the first value out of an empty chain changes nothing.
+pub nothing-cut : {X : Type 0} (chains : List (List X)) (chain : ℕ) → chain_in chains chain ≡ []
+    → shortened chains chain ≡ chains
+nothing-cut chains chain is = grind (arith, set-get_or)
+
+module _ {T : Type 0} where
+  -- a free row has no value
+  pub free-none : {next : List ℕ} {lasts : List (Option ℕ)} {rows : List (Option T)}
+      {chains : List (List ℕ)} → IsTable next lasts rows chains
+      → values_of rows (chain_in chains 0) ≡ []
+  free-none {next} {lasts} {rows} {chains} t = values-none rows (chain_in chains 0) (λ row some.
+      let small = is-row t.holds 0 row (omega arith) in
+      let sized = t.sized in
+      let full = t.full row (omega arith) in
+      omega arith)
+
+  -- a row of a chain other than that of the free rows has a value
+  pub chain-full : {next : List ℕ} {lasts : List (Option ℕ)} {rows : List (Option T)}
+      {chains : List (List ℕ)} → IsTable next lasts rows chains
+      → (chain row : ℕ) → 0 < chain → 0 < times row (chain_in chains chain)
+      → filled (value_at rows row) ≡ 1
+  chain-full {next} {lasts} {rows} {chains} t chain row shown some =
+      let small = is-row t.holds chain row (omega arith) in
+      let sized = t.sized in
+      let full = t.full row (omega arith) in
+      let few = few-in-two t.holds chain 0 row (λ e. absurd (omega arith)) in
+      omega arith
+
+  -- such a chain shows as many values as it has rows
+  pub chain-length : {next : List ℕ} {lasts : List (Option ℕ)} {rows : List (Option T)}
+      {chains : List (List ℕ)} → IsTable next lasts rows chains
+      → (chain : ℕ) → 0 < chain
+      → length (values_of rows (chain_in chains chain)) ≡ length (chain_in chains chain)
+  chain-length {next} {lasts} {rows} {chains} t chain shown =
+      values-full rows (chain_in chains chain) (λ row some. chain-full t chain row shown some)
+
+  -- the first free row is taken out: it is loose, and what is shown doesn't change
+  pub open-free : {next : List ℕ} {lasts : List (Option ℕ)} {rows : List (Option T)}
+      {chains : List (List ℕ)} → IsTable next lasts rows chains
+      → (new : List ℕ) (noted : List (Option ℕ)) (row : ℕ) (rest : List ℕ)
+      → chain_in chains 0 ≡ row ∷ rest
+      → Holds new noted (row ∷ []) (shortened chains 0) → length new ≡ length next
+      → length noted ≡ length lasts
+      → IsOpen new noted rows row (shortened chains 0)
+  open-free {next} {lasts} {rows} {chains} t new noted row rest is h long as_many =
+      grind (arith, in-put)
+
+  -- a new row is added, which is loose
+  pub open-grown : {next : List ℕ} {lasts : List (Option ℕ)} {rows : List (Option T)}
+      {chains : List (List ℕ)} → IsTable next lasts rows chains
+      → IsOpen (next ++ 0 ∷ []) lasts (rows ++ None ∷ []) (length rows) chains
+  open-grown {next} {lasts} {rows} {chains} t =
+      let P : ℕ → Type 0 = λ row. Holds (next ++ 0 ∷ []) lasts (row ∷ []) chains in
+      record {
+        holds = subst P (sym t.sized) (holds-grown t.holds);
+        sized =
+            let e = t.sized in
+            omega (arith, length-append next (0 ∷ []), length-append rows (None ∷ []));
+        free = t.free;
+        full = λ r less.
+            let grown = ap filled (default-grown rows r None) in
+            elim (cases_eq (length rows) r) [
+              | inl is ↦
+                  let one = times-same r (length rows) [] is in
+                  let few = few-in t.holds 0 r in
+                  let past = (t.holds).within r (let e = t.sized in omega arith) in
+                  let beyond = ap filled (get_or_past rows r None (omega arith)) in
+                  let none : times r (chain_in chains 0) ≡ 0 =
+                  let part = one-of (times r) chains 0 [] refl in omega arith in
+                  omega arith
+              | inr apart ↦
+                  let none = times-other r (length rows) [] apart in
+                  let full = t.full r (omega (arith, length-append rows (None ∷ []))) in
+                  omega arith
+            ];
+      }
+
+  -- what is shown doesn't change
+  pub shown-grown : {next : List ℕ} {lasts : List (Option ℕ)} {rows : List (Option T)}
+      {chains : List (List ℕ)} → IsTable next lasts rows chains
+      → map (values_of (rows ++ None ∷ [])) chains ≡ map (values_of rows) chains
+  shown-grown {next} {lasts} {rows} {chains} t =
+      shown-by (rows ++ None ∷ []) chains (map (values_of rows) chains)
+      (sym (length-map chains (values_of rows))) (λ chain.
+      values-grown rows (None ∷ []) (chain_in chains chain)
+      (λ row some. let small = is-row t.holds chain row (omega arith) in
+      let sized = t.sized in omega arith)
+      ∙ sym (chain-map (values_of rows) chains chain refl))
+
+  -- the first row of a chain and its value are taken out: the row is loose
+  pub open-taken : {next : List ℕ} {lasts : List (Option ℕ)} {rows : List (Option T)}
+      {chains : List (List ℕ)} → IsTable next lasts rows chains
+      → (new : List ℕ) (noted : List (Option ℕ)) (chain row : ℕ) (rest : List ℕ) → 0 < chain
+      → chain_in chains chain ≡ row ∷ rest
+      → Holds new noted (row ∷ []) (shortened chains chain) → length new ≡ length next
+      → length noted ≡ length lasts
+      → IsOpen new noted (set rows row None) row (shortened chains chain)
+  open-taken {next} {lasts} {rows} {chains} t new noted chain row rest shown is h long as_many =
+      let front = times-same row row rest refl in
+      let counts = ap (times row) is in
+      let small : row < length rows = let r = is-row t.holds chain row (omega arith) in
+      let e = t.sized in omega arith in
+      record {
+        holds = h;
+        sized = length-set rows row None ∙ t.sized ∙ sym long;
+        free = let f = t.free in omega arith;
+        full = λ r less.
+            let kept =
+            ap (times r) (in-other chains chain 0 (drop 1 (chain_in chains chain))
+            (λ e. absurd (omega arith))) in
+            elim (cases_eq row r) [
+              | inl same ↦
+                  let one = times-same r row [] same in
+                  let few = few-in-two t.holds chain 0 r (λ e. absurd (omega arith)) in
+                  let here = ap (λ x. times x (chain_in chains chain)) same in
+                  let none =
+                  ap filled (ap (λ x. value_at (set rows row None) x) (sym same)
+                  ∙ get_or-set_same rows row None None small) in
+                  omega arith
+              | inr apart ↦
+                  let none = times-other r row [] apart in
+                  let full = t.full r (omega (arith, length-set rows row None)) in
+                  let other =
+                  ap filled (get_or-set_other rows row r None None (λ e. apart (sym e))) in
+                  omega arith
+            ];
+      }
+
+  -- what is shown after that: the chain without its first value
+  pub shown-taken : {next : List ℕ} {lasts : List (Option ℕ)} {rows : List (Option T)}
+      {chains : List (List ℕ)} → IsTable next lasts rows chains
+      → (chain row : ℕ) (rest : List ℕ) → 0 < chain → chain_in chains chain ≡ row ∷ rest
+      → map (values_of (set rows row None)) (shortened chains chain)
+      ≡ shortened (map (values_of rows) chains) chain
+  shown-taken {next} {lasts} {rows} {chains} t chain row rest shown is =
+      let front = times-same row row rest refl in
+      let counts = ap (times row) is in
+      let few = few-in t.holds chain row in
+      let within : chain < length chains =
+      there chains chain (let e = ap length is in omega arith) in
+      let seen = map (values_of rows) chains in
+      let there_too : chain < length seen = omega (arith, length-map chains (values_of rows)) in
+      let found = value-there (value_at rows row) (chain-full t chain row shown (omega arith)) in
+      shown-by (set rows row None) (shortened chains chain) (shortened seen chain)
+      (length-set chains chain (drop 1 (chain_in chains chain))
+      ∙ sym (length-set seen chain (drop 1 (chain_in seen chain))
+      ∙ length-map chains (values_of rows)))
+      (λ other. elim (cases_eq other chain) [
+        | inl same ↦
+            rw (
+              same,
+              in-put chains chain (drop 1 (chain_in chains chain)) within ∙ ap (λ rs.
+                  drop 1 rs) is,
+            ) (values-kept rows row None rest (omega arith) ∙ sym (ap (λ vs. drop
+            1 vs) (ap (λ rs. values_of rows rs) is ∙ values-first rows row rest found.0
+            found.1)) ∙ sym (in-put seen chain (drop 1 (chain_in seen chain)) there_too ∙ ap
+            (λ vs. drop 1 vs) (chain-map (values_of rows) chains chain refl)) ∙ rw (← same))
+        | inr apart ↦
+            let two = few-in-two t.holds chain other row (λ e. apart (sym e)) in
+            ap (λ rs. values_of (set rows row None) rs)
+            (in-other chains chain other (drop 1 (chain_in chains chain)) apart)
+            ∙ values-kept rows row None (chain_in chains other) (omega arith)
+            ∙ sym (chain-map (values_of rows) chains other refl)
+            ∙ sym (in-other seen chain other (drop 1 (chain_in seen chain)) apart)
+      ])
+
+  -- the loose row is put to the free rows
+  pub closed-free : {next : List ℕ} {lasts : List (Option ℕ)} {rows : List (Option T)} {row : ℕ}
+      {chains : List (List ℕ)} → IsOpen next lasts rows row chains
+      → (new : List ℕ) (noted : List (Option ℕ)) → Holds new noted [] (preceded chains 0 row)
+      → length new ≡ length next → length noted ≡ length lasts
+      → IsTable new noted rows (preceded chains 0 row)
+  closed-free {next} {lasts} {rows} {row} {chains} o new noted h long as_many =
+      grind (arith, in-put)
+
+  -- what is shown doesn't change
+  pub shown-closed : {next : List ℕ} {lasts : List (Option ℕ)} {rows : List (Option T)} {row : ℕ}
+      {chains : List (List ℕ)} → IsOpen next lasts rows row chains
+      → map (values_of rows) (preceded chains 0 row) ≡ map (values_of rows) chains
+  shown-closed {next} {lasts} {rows} {row} {chains} o =
+      let one = times-same row row [] refl in
+      let small : row < length rows = let r = is-row o.holds 0 row (omega arith) in
+      let e = o.sized in omega arith in
+      let full = o.full row small in
+      let none = value-none (value_at rows row) (omega arith) in
+      shown-put rows chains 0 (row ∷ chain_in chains 0)
+      (rw none)
+
+  -- the loose row gets a value and is appended to a chain
+  pub closed-filled : {next : List ℕ} {lasts : List (Option ℕ)} {rows : List (Option T)} {row : ℕ}
+      {chains : List (List ℕ)} → IsOpen next lasts rows row chains
+      → (new : List ℕ) (noted : List (Option ℕ)) (chain : ℕ) (value : T) → 0 < chain
+      → Holds new noted [] (lengthened chains chain row)
+      → length new ≡ length next → length noted ≡ length lasts
+      → IsTable new noted (set rows row (Some value)) (lengthened chains chain row)
+  closed-filled {next} {lasts} {rows} {row} {chains} o new noted chain value shown h long as_many =
+      grind (
+        arith,
+        times-same,
+        is-row,
+        length-set,
+        in-other,
+        cases_eq,
+        get_or-set_same,
+        times-other,
+        get_or-set_other,
+      )
+
+  -- what is shown after that: the chain with the value at its end
+  pub shown-filled : {next : List ℕ} {lasts : List (Option ℕ)} {rows : List (Option T)} {row : ℕ}
+      {chains : List (List ℕ)} → IsOpen next lasts rows row chains
+      → (chain : ℕ) (value : T) → chain < length chains
+      → map (values_of (set rows row (Some value))) (lengthened chains chain row)
+      ≡ lengthened (map (values_of rows) chains) chain value
+  shown-filled {next} {lasts} {rows} {row} {chains} o chain value within =
+      let one = times-same row row [] refl in
+      let small : row < length rows = let r = is-row o.holds 0 row (omega arith) in
+      let e = o.sized in omega arith in
+      let seen = map (values_of rows) chains in
+      let there_too : chain < length seen = omega (arith, length-map chains (values_of rows)) in
+      let new = set rows row (Some value) in
+      let longer = chain_in chains chain ++ row ∷ [] in
+      shown-by new (lengthened chains chain row) (lengthened seen chain value)
+      (length-set chains chain longer
+      ∙ sym (length-set seen chain (chain_in seen chain ++ value ∷ [])
+      ∙ length-map chains (values_of rows)))
+      (λ other.
+      let few = few-in o.holds other row in
+      let kept = values-kept rows row (Some value) (chain_in chains other) (omega arith) in
+      elim (cases_eq other chain) [
+        | inl same ↦
+            rw (same, in-put chains chain longer within) (values-append new (chain_in chains
+            chain) (row ∷ []) ∙ rw (
+              ap (λ c. values_of new (chain_in chains c)) (sym same) ∙
+                  kept ∙ ap (λ c. values_of rows (chain_in chains c)) same,
+              values-first new row []
+                  value (get_or-set_same rows row (Some value) None small),
+            ) (sym (in-put seen chain
+            (chain_in seen chain ++ value ∷ []) there_too ∙ ap (λ vs. vs ++ value ∷ [])
+            (chain-map (values_of rows) chains chain refl)) ∙ rw (← same)))
+        | inr apart ↦
+            rw (in-other chains chain other longer apart) (kept ∙ sym (chain-map (values_of rows)
+            chains other refl) ∙ sym (in-other seen chain other (chain_in seen chain ++ value
+            ∷ []) apart))
+      ])

@@ -8,18 +8,16 @@ use Rattle.std.proofs.lemmas.List.{set-get_or, set-set, set_comm}
 use Rattle.pending.specs.declared.chains.links.Links.{Links}
 use Rattle.pending.specs.declared.chains.walk.Walk.{Walk}
 use Rattle.pending.specs.Lends.{with_value}
-use Rattle.pending.specs.Edits.{chain_in, lifted, preceded, shortened, turned, with_first}
-use Rattle.pending.specs.inside.Rings.{after, last_in, times, Holds}
-use Rattle.pending.specs.inside.ChainSteps.{Changes, IsLoose}
-use Rattle.pending.specs.inside.Tables.{filled, seen_chains, seen_lasts, value_at, values_of}
-use Rattle.pending.specs.inside.Tables.{walked_in, shown_of, IsSound, IsTable}
-use Rattle.pending.proofs.ListLaws.{in-put, in-other, there}
-use Rattle.pending.proofs.RingLaws.{times-same}
+use Rattle.pending.specs.ChainsView.{chain_in, lifted, preceded, shortened, turned, with_first}
+use Rattle.pending.specs.inside.Tables.{Changes, IsLoose, Holds, seen_lasts, value_at, values_of}
+use Rattle.pending.specs.inside.Tables.{after, last_in, times, walked_in, shown_of, IsSound}
+use Rattle.pending.specs.inside.Tables.{IsTable, filled, seen_chains}
+use Rattle.pending.proofs.RingLaws.{chain-map, values-append, values-first, values-kept, times-same}
+use Rattle.pending.proofs.RingLaws.{in-put, in-other, there}
 use Rattle.pending.proofs.HoldsLaws.{few-in, few-in-two, first-of, holds-at, holds-turned}
 use Rattle.pending.proofs.HoldsLaws.{last-again, ring-at}
-use Rattle.pending.proofs.ValueLaws.{chain-map, values-append, values-first, values-kept}
-use Rattle.pending.proofs.TableLaws.{in-neither, sound-of, table-at, table-kept, table-rest}
-use Rattle.pending.proofs.OpenLaws.{nothing-cut, shown-by}
+use Rattle.pending.proofs.TableLaws.{in-neither, nothing-cut, shown-by, sound-of, table-at}
+use Rattle.pending.proofs.TableLaws.{table-kept, table-rest}
 use Rattle.pending.proofs.CallLaws.{chain-noted, first-row, first-value, row-within}
 
 -- Turning an empty chain changes nothing.

@@ -6,21 +6,19 @@ use Rattle.std.specs.Prelude.{slice_get, nat_lt}
 use Rattle.bio.specs.declared.request.Bio.{Bio}
 use Rattle.bio.specs.declared.event.CoreEvent.{CoreEvent}
 use Rattle.bio.specs.declared.event.CoreEvent.TheVariants.{Submit}
-use Rattle.bio.specs.PlaceLaws.{bool_cases, is_first_below, none_first_below}
+use Rattle.bio.specs.PlaceLaws.{bool_cases, is_first_below, none_first_below, well_formed-end}
 use Rattle.bio.specs.Requests.{has_flush, has_fua, overlaps}
 use Rattle.bio.specs.Events.{end_of, first_place, is_before, is_flush_submit, is_stop}
-use Rattle.bio.specs.Lawful.{is_well_formed}
-use Rattle.bio.specs.EventLaws.{well_formed-end}
+use Rattle.bio.specs.Events.{is_well_formed}
 use Rattle.bio.specs.RequestLaws.{is_before-end}
-use Rattle.pending.specs.Chains.{AtClose, AtFlush, AtFua, Chain, Direct, IsFirstNeed, IsNeed}
-use Rattle.pending.specs.Chains.{Through}
-use Rattle.pending.specs.CompletionList.{IsListedAt, completion_list, dm_log_writes}
 use Rattle.pending.specs.QueueEvent.{is_linked, queue_event, log_writes_order, unless_stopped}
+use Rattle.pending.specs.QueueEvent.{AtClose, AtFlush, AtFua, Chain, Direct, IsFirstNeed, IsNeed}
+use Rattle.pending.specs.QueueEvent.{Through}
+use Rattle.pending.specs.CompletionList.{IsListedAt, completion_list, dm_log_writes}
 use Rattle.pending.proofs.Durable.{found-stands}
-use Rattle.pending.proofs.Ends.{ends-there, flush_submit-some, plain-queue_event}
+use Rattle.pending.proofs.Order.{ends-there, flush_submit-some, plain-queue_event}
 use Rattle.pending.proofs.LinkChains.{linked-cases, linked-here, linked-step, needed-flush}
-use Rattle.pending.proofs.LinkChains.{needed-linked, needing-recorded, recorded-cases}
-use Rattle.pending.proofs.PlaceTests.{or_cases}
+use Rattle.pending.proofs.LinkChains.{needed-linked, needing-recorded, or_cases, recorded-cases}
 use Rattle.pending.proofs.Prefix.{unless_stopped-none}
 
 -- what a chain leads from is linked

@@ -1,8 +1,7 @@
 -- The state of chains after a `&mut` to one of their values was returned.
 use Rattle.std.specs.Prelude.{ℕ}
 use Rattle.std.specs.Borrow.{Fml, Lends, MutBor, RattleType}
-use Rattle.pending.specs.Edits.{with_first}
-use Rattle.pending.specs.ChainsView.{Shown}
+use Rattle.pending.specs.ChainsView.{Shown, with_first}
 use Rattle.pending.specs.contracts.chains.table.Chains.{the_row}
 
 -- What contracts see after the first value of `chain` was replaced by `value`.

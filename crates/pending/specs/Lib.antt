@@ -1,24 +1,15 @@
 -- The definitions that the contracts of `pending` use.
 pub use Rattle.bio.specs.Requests
 pub use Rattle.bio.specs.Events
-pub use Rattle.bio.specs.Lawful
 pub use Rattle.bio.specs.Possible
-pub use Rattle.bio.specs.Check
 pub use Rattle.log_format.specs.Entries
 pub use Rattle.log_format.specs.Replay
 pub use Rattle.bio.specs.Content
-pub mod Edits
 pub mod ChainsView
 pub mod Lends
 pub mod QueueEvent
-pub mod Moments
 pub mod Plain
-pub mod Chains
 pub mod CompletionList
-pub mod PlainLists
-pub mod Prefixes
-pub mod Results
 pub mod CoreState
 pub mod GrowthLaws
-pub mod Refusals
 pub mod inside

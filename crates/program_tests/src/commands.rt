@@ -1,5 +1,5 @@
 //! Tests of `execute` and `refuse` that a transcript can't show.
-use dmlw_cli::{execute, refuse};
+use dmlw::{execute, refuse};
 use dmlw_files::{Files, HostFiles, Session};
 use std::alloc::{AllocError, Global};
 use std::io;

@@ -1,15 +1,18 @@
 -- The loops that cut a text at a byte and that read a number give what `Words` defines. The proofs
 -- of `cut` and `number_of` cite these lemmas.
-use Rattle.std.proofs.Common.{◌≡◌, ℕ, ◌+◌, ◌-◌, ◌*◌, ◌^◌, ◌<◌, ◌≤◌, suc, Bool, true, false, ◌&&◌}
-use Rattle.std.proofs.Common.{cond, List, [], ◌∷◌, length, take, drop, take_all, Option, Some, None}
-use Rattle.std.proofs.Common.{⊎_elim, lit<, refl, ap, ◌∙◌, sym, arith}
+use Rattle.std.proofs.Common.{⊎_elim, lit<, refl, ap, ◌∙◌, sym, arith, cond, List, Result, Ok, Err}
+use Rattle.std.proofs.Common.{MatchResult, Bor, [], ◌∷◌, length, take, drop, take_all, Option, Some}
+use Rattle.std.proofs.Common.{None, ◌≡◌, ℕ, ◌+◌, ◌-◌, ◌*◌, ◌^◌, ◌<◌, ◌≤◌, suc, Bool, true, false}
+use Rattle.std.proofs.Common.{◌&&◌}
 use Rattle.std.specs.Prelude.{nat_lt, nat_le, ◌==◌, position, not}
-use Rattle.std.specs.Option.{option_and_then}
+use Rattle.std.proofs.lemmas.Bool.{lt-ltb, le-ltb, le-leb, and_right, cases_lt, cond-true}
+use Rattle.std.proofs.lemmas.Bool.{cond-false, ltb-true, ltb-false}
+use Rattle.std.proofs.lemmas.Bool.Decides.{nat_tests}
 use Rattle.std.specs.Char.{is_ascii_digit}
 use Rattle.std.specs.List.{list_all, position_or_len}
-use Rattle.std.proofs.lemmas.Bool.{and_right, cases_lt, cond-true, cond-false, ltb-true, ltb-false}
-use Rattle.std.proofs.lemmas.Bool.{lt-ltb, le-ltb, le-leb}
-use Rattle.std.proofs.lemmas.Bool.Decides.{nat_tests}
+use Rattle.std.specs.Option.{option_and_then}
+use Rattle.std.specs.Result.{ResultUnwrapsOrElse}
+use Rattle.std.specs.Str.{IsUtf8}
 use Rattle.refusals.specs.Words.{before_byte, after_byte, number_after, number_of, with_digit}
 
 -- one more byte before the mark
@@ -124,3 +127,13 @@ number_start word low high =
     let l : nat_lt 0 (length word) ≡ true = lt-ltb _ _ low in
     let h : nat_le (length word) 20 ≡ true = le-leb _ _ high in
     number_behind_closed 0 word (lit< tt) ∙ (rw (l, h) refl)
+
+-- If UTF-8 text is read and unwrapped, the result is that text.
+
+-- what is unwrapped of a reading of UTF-8 text is that text
+pub unwrapped : (E : Type 0) (P : Bor (List ℕ) → Type 0) (bytes : List ℕ) (Q : E → Type 0)
+    (r : Result (Bor (List ℕ)) E) (text : Bor (List ℕ)) → IsUtf8 bytes
+    → MatchResult r (λ s. (s.now ≡ bytes) × IsUtf8 bytes) (λ e. (IsUtf8 bytes → ⊥) × Q e)
+    → ResultUnwrapsOrElse r P text → text.now ≡ bytes
+unwrapped E P bytes Q (Ok s) text utf8 (is, more) same = ap (λ (t : Bor (List ℕ)). t.now) same ∙ is
+unwrapped E P bytes Q (Err e) text utf8 (bad, more) same = absurd (bad utf8)

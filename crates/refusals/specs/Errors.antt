@@ -1,16 +1,45 @@
--- The errors that end a command early, and how they are printed.
-use Rattle.std.specs.Prelude.{◌≡◌, ◌⊎◌, ℕ, List, ◌++◌, codes}
-use Rattle.std.specs.Fmt.{decimal}
+-- How refusals, faults and errors are reported and printed.
+use Rattle.std.specs.Prelude.{◌≡◌, ◌⊎◌, ℕ, List, ◌++◌, Option, Some, None, codes}
 use Rattle.std.specs.declared.io.ErrorKind.{ErrorKind}
 use Rattle.std.specs.declared.io.ErrorKind.TheVariants as kinds
-use Rattle.refusals.specs.declared.fault.Fault.{Fault}
+use Rattle.std.specs.Fmt.{decimal}
 use Rattle.refusals.specs.declared.refusal.Refusal.{Refusal}
 use Rattle.refusals.specs.declared.refusal.Refusal.TheVariants as refusals
-use Rattle.refusals.specs.Texts.{fault_text, refusal_text, without_line}
-use Rattle.refusals.specs.Ends.{end_refusal}
+use Rattle.refusals.specs.declared.run_error.End.{End}
+use Rattle.refusals.specs.declared.run_error.End.TheVariants as ends
+use Rattle.refusals.specs.declared.run_error.Fault.{Fault}
 use Rattle.refusals.specs.declared.run_error.RunError.{RunError}
-use Rattle.refusals.specs.declared.run_error.RunError.TheVariants.{Refused, LoggingEnded}
-use Rattle.refusals.specs.declared.run_error.RunError.TheVariants.{StoppedAfter}
+use Rattle.refusals.specs.declared.run_error.RunError.TheVariants.{LoggingEnded, StoppedAfter}
+use Rattle.refusals.specs.declared.run_error.RunError.TheVariants.{Refused}
+use Rattle.refusals.specs.Table.{row_of}
+
+-- How a refusal and a fault are printed.
+
+-- the text of a refusal: its number and its name
+abbrev pub refusal_text : Refusal → List ℕ
+refusal_text refusal = decimal (row_of refusal).0 ++ codes " " ++ (row_of refusal).1
+
+-- the text of a refusal after the line at fault, if there is one
+abbrev pub refused_at : Option ℕ → Refusal → List ℕ
+refused_at (Some line) refusal = codes "line " ++ decimal line ++ codes ": " ++ refusal_text refusal
+refused_at None refusal = refusal_text refusal
+
+-- the text of a fault: its line, if it names one, and its refusal
+abbrev pub fault_text : Fault → List ℕ
+fault_text fault = refused_at fault.line fault.refusal
+
+-- a fault that names no line
+abbrev pub without_line : Refusal → Fault
+without_line refusal = record { line = None; refusal = refusal }
+
+-- The errors that end a command early, and how they are printed.
+-- The refusals that report why logging ended.
+
+-- the refusal that reports a cause that ended logging
+abbrev pub end_refusal : End → Refusal
+end_refusal ends.Full = refusals.Full
+end_refusal ends.Device = refusals.Device
+end_refusal ends.Memory = refusals.EndMemory
 
 -- the error with this refusal, and no line
 abbrev pub refused_by : Refusal → RunError

@@ -1,7 +1,7 @@
 //! The list of all refusals, each with the number and the name that are printed.
 ghost use Rattle.std.specs.Prelude.{◌≡◌, ◌-◌, Some, slice_get};
 ghost use Rattle.refusals.specs.Table.{all_refusals, row_of};
-ghost use Rattle.refusals.specs.Texts.{refusal_text};
+ghost use Rattle.refusals.specs.Errors.{refusal_text};
 
 use std::fmt;
 

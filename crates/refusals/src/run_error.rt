@@ -1,15 +1,75 @@
-//! The error that ends a command early. The commands return it.
+//! The error that ends a command early (`RunError`); the commands return it. It holds a refusal as
+//! it is printed (`Fault`), or a cause that ends logging (`End`).
 ghost use Rattle.std.specs.Prelude.{◌≡◌, Some};
 ghost use Rattle.std.specs.IoError.{error_kind};
-ghost use Rattle.refusals.specs.Errors.{error_text, fault_of, io_refusal, memory_error};
-ghost use Rattle.refusals.specs.Errors.{refused_by, taken_before};
+ghost use Rattle.refusals.specs.Errors.{end_refusal, error_text, fault_of, fault_text, io_refusal};
+ghost use Rattle.refusals.specs.Errors.{memory_error, refused_by, taken_before, without_line};
 ghost use Rattle.refusals.specs.declared.run_error.RunError.TheVariants.{Refused, LoggingEnded};
 
-use crate::end::End;
-use crate::fault::Fault;
 use crate::refusal::Refusal;
 use std::alloc::AllocError;
 use std::{fmt, io};
+use thiserror::Error;
+
+/// Why logging ended.
+#[derive(Clone, Copy, Debug, PartialEq, Eq, Error)]
+pub enum End {
+    /// The next entry doesn't fit in the log.
+    #[error("the log is full")]
+    Full,
+    /// The log's device failed.
+    #[error("the log's device failed")]
+    Device,
+    /// An allocation failed.
+    #[error("no memory for the log")]
+    Memory,
+}
+
+impl From<End> for Refusal {
+    ghost from_gives = { λ end refusal. refusal ≡ end_refusal end };
+
+    fn from(end: End) -> Refusal {
+        match end {
+            End::Full => Refusal::Full,
+            End::Device => Refusal::Device,
+            End::Memory => Refusal::EndMemory,
+        }
+    }
+}
+
+/// A refusal, and for a script the line at fault.
+#[derive(Clone, Copy, Debug, PartialEq, Eq)]
+pub struct Fault {
+    /// The line at fault, counted from 1; none if no line is to blame, as when memory ran out.
+    pub line: Option<u64>,
+    pub refusal: Refusal,
+}
+
+/// Prints `line <n>: <number> <name>`, or `<number> <name>` if no line is at fault.
+impl fmt::Display for Fault {
+    ghost output = { λ fault. Some (fault_text fault) };
+
+    fn fmt<W: fmt::Write>(&self, f: &mut fmt::Formatter<W>) -> fmt::Result {
+        let refusal = self.refusal;
+        match self.line {
+            Some(line) => write!(f, "line {line}: {refusal}"),
+            None => write!(f, "{refusal}"),
+        }
+    }
+}
+
+impl std::error::Error for Fault {}
+
+impl From<Refusal> for Fault {
+    ghost from_gives = { λ refusal fault. fault ≡ without_line refusal };
+
+    fn from(refusal: Refusal) -> Fault {
+        Fault {
+            line: None,
+            refusal,
+        }
+    }
+}
 
 /// Why a command ended early. Printed as its fault (`Fault`). If a replay or a copy of a log
 /// stopped, ` after <n> entries` follows: it had taken n entries.

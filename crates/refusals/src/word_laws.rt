@@ -13,7 +13,7 @@ pub fn numbers_are_decimal()
 /// The words of a line are between its spaces. A space splits the line in two: its words are the
 /// words of the first part, then the words of the second. A text without a space that isn't empty
 /// is one word. So repeated spaces, and spaces at either end, change nothing.
-#[tactic(auto, using(crate::specs::SplitLaws::words_of_space, crate::specs::SplitLaws::words_of_word))]
+#[tactic(auto, using(crate::specs::WordLaws::words_of_space, crate::specs::WordLaws::words_of_word))]
 pub fn words_are_between_spaces()
     ensures none { words_of [] ≡ [] }
     ensures word { (word : List ℕ) → is_word word ≡ true → words_of word ≡ word ∷ [] }

@@ -1,27 +1,39 @@
--- For each clause about the content after a replay, its calls, or the cause of a refusal: an
--- example that the clause refuses.
-use Rattle.std.proofs.Common.{◌≡◌, ℕ, zero, suc, ◌<◌, ◌≤◌, true, false, Option, Some, None, Result}
-use Rattle.std.proofs.Common.{Ok, Err, List, [], ◌∷◌, replicate, slice_index_or, refl, ap}
-use Rattle.std.proofs.Common.{sym, ◌∙◌, inl, inr, arith}
+-- For each clause about a replay, its reads or a copy: an example that the clause refuses.
+use Rattle.std.proofs.Common.{false, Option, Some, None, Result, slice_index_or, refl, ap, ◌≡◌, ℕ}
+use Rattle.std.proofs.Common.{◌+◌, zero, suc, ◌<◌, ◌≤◌, true, sym, ◌∙◌, inl, inr, arith, Ok, Err}
+use Rattle.std.proofs.Common.{List, [], ◌∷◌, ◌++◌, length, replicate}
 use Rattle.std.specs.Prelude.{slice_get}
+use Rattle.refusals.specs.declared.run_error.End.TheVariants as ends
+use Rattle.bio.specs.Content.{Content}
+use Rattle.bio.specs.Content as contents
 use Rattle.bio.specs.declared.outcome.DevError.{DevError}
 use Rattle.bio.specs.declared.outcome.DevError.TheVariants.{Io}
-use Rattle.bio.specs.Content as contents
-use Rattle.bio.specs.Content.{Content}
-use Rattle.blockdev.specs.Calls.{Call, Discards, Writes}
-use Rattle.blockdev.specs.View.{View}
+use Rattle.bio.specs.declared.outcome.DevError.TheVariants as devices
+use Rattle.bio.specs.declared.request.Bio.TheVariants as bios
+use Rattle.blockdev.specs.View.{Call, Discards, DoesInTurn, Reads, View, Writes}
 use Rattle.log_format.specs.declared.entry.Entry.{Entry}
-use Rattle.log_format.specs.Entries.{kind_of, no_flags}
+use Rattle.log_format.specs.Entries.{end_mark, entry_of, kind_of, no_flags}
 use Rattle.log_format.specs.Replay.{kind_values, replay}
-use Rattle.log_reader.specs.Search.{IsFlush}
+use Rattle.log_store.specs.Calls.{append_calls, settle_calls}
+use Rattle.log_store.specs.Store.{Store, entries_of}
+use Rattle.log_reader.specs.declared.fault.LogFault.TheVariants.{CutShort}
+use Rattle.log_reader.specs.declared.fault.ReadDeviceError.TheVariants as reads
 use Rattle.log_reader.specs.Reader.{Reader}
+use Rattle.log_reader.specs.Search.{IsFlush}
+use Rattle.replay.specs.Calls.{CallsBy, IsCalled, IsCalledTo, ReadsToStop, entry_calls}
+use Rattle.replay.specs.Copies.{AreSettled, EndsSince, IsCopied, IsUnaligned}
+use Rattle.replay.specs.Copies.{RefusesNoMore as CopyRefusesNoMore, Replays, SettledBy, SettlesOnly}
+use Rattle.replay.specs.Copies.{StopsBy, StopsCalls, copy_calls, is_aligned_to, resized}
+use Rattle.replay.specs.declared.fault.CopyError.TheVariants as copies
 use Rattle.replay.specs.declared.fault.ReplayError.TheVariants as replays
-use Rattle.replay.specs.declared.upto.Upto.{Upto}
-use Rattle.replay.specs.declared.upto.Upto.TheVariants.{Count, Flush, Mark}
-use Rattle.replay.specs.Calls.{CallsBy, IsCalled, IsCalledTo, entry_calls}
+use Rattle.replay.specs.declared.replaying.Upto.{Upto}
+use Rattle.replay.specs.declared.replaying.Upto.TheVariants.{Count, Flush, Mark}
 use Rattle.replay.specs.Replays.{AsksTooMany, HasReplayCause, IsApplied, IsAppliedInPart, IsUpto}
 use Rattle.replay.specs.Replays.{KeepsTarget, LacksFlush, LacksMark, LeavesBy, ReachesPast}
 use Rattle.replay.specs.Replays.{RefusesNoMore}
+
+-- For each clause about the content after a replay, its calls, or the cause of a refusal: an
+-- example that the clause refuses.
 
 -- content of one value in each sector
 all : ℕ → Content
@@ -221,3 +233,223 @@ called_past told = let there = told.there in cc
 -- nor is anything called for an entry that isn't told of, but by a target that refused in it
 called_more : CallsBy notes 512 (small ∷ []) 0 [] (put_small ∷ []) 0 replays.PastTarget → ⊥
 called_more same = cc
+
+-- Examples for the clauses about the reads of a replay: one that satisfies them, and others that
+-- they refuse.
+
+-- a device that counts its calls, and never fails
+counts : ℕ → Call → ℕ → Result ℕ DevError → ℕ → Type 0
+counts old call now (Ok end) new = new ≡ old + 1
+counts old call now (Err error) new = ⊥
+
+-- one read, and then the target failed
+stopped : ReadsToStop counts ⊥ 0 1 (replays.Target devices.Io)
+unfolding counts
+stopped = (
+  1,
+  record {
+    calls = Reads 1 (replicate 512 0) (replicate 512 7) ∷ [];
+    are = (tt, tt);
+    few = omega arith;
+    turn = (1, (0, refl), refl);
+  },
+)
+
+-- the log's device didn't fail
+refused_device : ReadsToStop counts (Unit {0}) 0 1 (replays.Log reads.Device) → ⊥
+unfolding counts
+refused_device (most, done) = by_calls 0 done.calls done.turn
+  where
+    by_calls : (old : ℕ) (calls : List Call) → DoesInTurn counts 0 calls old (Err devices.Io) 1 → ⊥
+    by_calls old [] turn = turn
+    by_calls old (call ∷ calls) (inl refused) = refused
+    by_calls old (call ∷ calls) (inr (mid, ends, turn)) = by_calls mid calls turn
+
+-- there was memory for an entry that has a fault, and for one that has none there may be none
+refused_memory : ReadsToStop counts ⊥ 0 1 (replays.Log reads.Memory) → ⊥
+unfolding counts
+refused_memory (inl (most, done)) = by_calls 0 done.calls done.turn
+  where
+    by_calls : (old : ℕ) (calls : List Call) → DoesInTurn counts 0 calls old (Err devices.Memory) 1
+        → ⊥
+    by_calls old [] turn = turn
+    by_calls old (call ∷ calls) (inl refused) = refused
+    by_calls old (call ∷ calls) (inr (mid, ends, turn)) = by_calls mid calls turn
+refused_memory (inr lacks) = lacks.0
+
+-- For each clause about a copy: stores that break only this clause, and that the clause refuses.
+
+-- content of zeroes
+zeroes : Content
+zeroes sector = replicate 512 0
+
+-- a device of 64 sectors of zeroes
+still_device : View
+still_device =
+    record {
+      size = 64;
+      place = record { origin = 0; disk = 64 };
+      content = zeroes;
+      crash = λ left. (sector : ℕ)
+          → left sector ≡ zeroes sector;
+      moment = 0;
+      since = λ moment left. (sector : ℕ)
+          → left sector ≡ zeroes sector;
+      faults = 0;
+      lies = 0;
+      can_lie = false;
+    }
+
+-- a store on it with log sectors of 4,096 bytes, in which nothing is placed
+none : Store
+none = record {
+  device = still_device;
+  sector_bytes = 4096;
+  next = 1;
+  placed = 0;
+  settled = 0;
+  end = None;
+  settle_failed = false;
+}
+
+-- the same with one mark
+one : Store
+one = record none { next = 2; placed = 1 }
+
+-- a write of sectors 8 to 15 in a log with sectors of 512 bytes, whose data aren't looked at here,
+-- and one of sectors 9 to 16
+eight : Entry
+eight = record { sector = 8; nr_sectors = 8; flags = record no_flags { fua = true }; body = 7 ∷ [] }
+
+odd : Entry
+odd = record eight { sector = 9 }
+
+-- the first is sector 1 in log sectors of 4,096 bytes; the
+-- other isn't whole ones, nor is half of the first
+eight_resized : resized 512 4096 eight
+    ≡ record { sector = 1; nr_sectors = 1; flags = record no_flags { fua = true }; body = 7 ∷ [] }
+unfolding eight
+eight_resized = refl
+
+eight_aligned : is_aligned_to 512 4096 eight ≡ true
+unfolding eight
+eight_aligned = refl
+
+odd_unaligned : is_aligned_to 512 4096 odd ≡ false
+unfolding odd eight
+odd_unaligned = refl
+
+short_unaligned : is_aligned_to 512 4096 (record eight { nr_sectors = 4 }) ≡ false
+unfolding eight
+short_unaligned = refl
+
+-- more entries than there are
+some : IsCopied 512 [] 0 1 none one → ⊥
+unfolding none one still_device
+some copied = let few = copied.some (omega arith) in omega arith
+
+-- two that are swapped
+swapped : (new : Store) → new.device.lies ≡ 0 → entries_of none ≡ []
+    → IsCopied 512 (end_mark ∷ eight ∷ []) 0 2 none new
+    → entries_of new ≡ resized 512 4096 eight ∷ resized 512 4096 end_mark ∷ [] → ⊥
+unfolding none still_device eight
+swapped new honest empty copied have =
+    let other : resized 512 4096 eight ∷ resized 512 4096 end_mark ∷ [] ≡ resized 512 4096 end_mark
+    ∷ resized 512 4096 eight ∷ [] =
+    sym have ∙ copied.entries honest
+    ∙ ap (λ (xs : List Entry). xs ++ resized 512 4096 end_mark ∷ resized 512 4096 eight ∷ [])
+    empty in
+    let first = ap (λ (xs : List Entry). length (bodies xs)) other in
+    omega arith
+  where
+    bodies : List Entry → List ℕ
+    bodies [] = []
+    bodies (e ∷ es) = e.body
+
+-- a mark that isn't settled, though it isn't the last
+-- copied entry, or though the copy stopped by another cause
+unsettled : AreSettled (end_mark ∷ []) 0 1 none one → ⊥
+unfolding none one still_device
+unsettled settled = let after = settled 0 end_mark (omega arith) refl refl in omega arith
+
+unsettled_unaligned : SettledBy (end_mark ∷ []) 0 1 none one copies.Unaligned → ⊥
+unsettled_unaligned settled = unsettled settled
+
+-- a settle behind the entries that are told of
+settled_beyond : SettlesOnly (end_mark ∷ end_mark ∷ []) 0 1 none (record one { settled = 2 }) → ⊥
+unfolding none one still_device
+settled_beyond (inl same) = omega arith
+settled_beyond (inr (n, e, less, there, due, settled)) = omega arith
+
+-- an entry that is aligned is told as none
+told_unaligned : IsUnaligned 512 4096 (eight ∷ []) 0 → ⊥
+unfolding eight
+told_unaligned fails = let first = fails.there in let unaligned = fails.unaligned in cc
+
+-- the new log's device, or that of the log, that is told as failed, though it counts no fault
+told_device : EndsSince 512 [] 0 none one ends.Device → ⊥
+unfolding none one still_device
+told_device (inl had) = cc
+told_device (inr (inl grew)) = omega arith
+told_device (inr (inr last)) = omega arith
+
+-- a reader of a log of no entries, which hasn't refused
+reader : Reader
+reader =
+    record {
+      device = still_device;
+      head = record { count = 0; sectorsize = 512 };
+      next = 0;
+      at = 0;
+      failed = false;
+    }
+
+-- a fault that the log hasn't, want of memory of a reader
+-- that didn't refuse, and a refusal before that wasn't there
+told_fault : StopsBy [] None 0 reader reader none none (copies.Log (reads.Log CutShort)) → ⊥
+told_fault told = let fault = told.0 in cc
+
+-- a reader that refused first in the copy
+refuses_more : CopyRefusesNoMore reader (record reader { failed = true }) → ⊥
+unfolding reader
+refuses_more told = let refused : false ≡ true = told refl in cc
+
+-- a discard of sector 0, and a disk of sevens
+clears : Entry
+clears =
+    record { sector = 0; nr_sectors = 1; flags = record no_flags { discard = true }; body = [] }
+
+sevens : Content
+sevens sector = replicate 512 7
+
+-- a new log of no entries doesn't replay to what the discard leaves
+replays_nothing : (new : Store) → new.device.lies ≡ 0 → entries_of new ≡ []
+    → Replays 512 (clears ∷ []) none new → ⊥
+unfolding none clears sevens contents.over
+replays_nothing new honest empty told =
+    let same : sevens ≡ replay 512 (clears ∷ []) sevens =
+    sym (rw empty)
+    ∙ told honest 1 sevens in
+    let byte : 7 ≡ 0 = ap (λ (c : Content). slice_index_or (c 0) 0 0) same in
+    omega (arith, byte)
+
+-- a mark is written and then settled, and without that nothing is
+settled_mark : copy_calls 512 1 0 (end_mark ∷ [])
+    ≡ append_calls 512 1 end_mark ++ settle_calls 512 1
+settled_mark = refl
+
+unsettled_mark : length (copy_calls 512 1 0 (end_mark ∷ [])) ≡ 1 → ⊥
+unsettled_mark same = omega (arith, same)
+
+-- a flush is written alone
+plain_flush : copy_calls 512 1 0 (entry_of 512 bios.Flush ∷ [])
+    ≡ append_calls 512 1 (entry_of 512 bios.Flush)
+plain_flush = refl
+
+-- a device that isn't called didn't tell that there is no memory
+no_calls : ℕ → Call → ℕ → Result ℕ DevError → ℕ → Type 0
+no_calls old call now result new = ⊥
+
+untold_memory : StopsCalls no_calls 0 [] [] None 5 5 (copies.Store ends.Memory) → ⊥
+untold_memory (inl had) = let ended = had.0 in cc
+untold_memory (inr (error, is, turn)) = turn

@@ -1,5 +1,5 @@
 -- The definitions that the contracts of `replay` are written in.
-pub use Rattle.blockdev.specs.InTurn
+pub use Rattle.blockdev.specs.View
 pub use Rattle.log_format.specs.Replay
 pub use Rattle.log_reader.specs.DiskLog
 pub use Rattle.bio.specs.Content
@@ -10,11 +10,6 @@ pub use Rattle.log_store.specs.Store
 pub mod Refusals
 pub mod Replays
 pub mod Calls
-pub mod LogCalls
-pub mod SameDiskLaws
-pub mod Resize
-pub mod CopyRefusals
 pub mod Copies
-pub mod CopyCalls
 pub mod ResizeLaws
 pub mod inside

@@ -1,50 +1,61 @@
 -- How a run on disks in memory starts, and what its log's disk holds at the end.
-use Rattle.std.proofs.Common.{◌≡◌, ◌∙◌, ◌*◌, ◌+◌, ◌/◌, ◌<◌, ◌≤◌, ℕ, Option, None, Some, List, []}
-use Rattle.std.proofs.Common.{◌∷◌, false, length, take, refl, sym, ap, subst, arith}
-use Rattle.bio.specs.declared.outcome.Status.{Status}
-use Rattle.bio.specs.Lawful.{has_no_close}
-use Rattle.bio.specs.Sizes.{bytes_of}
-use Rattle.bio.specs.declared.sector_size.SectorSize.{SectorSize}
-use Rattle.bio.specs.declared.sector_size.SectorSize.TheVariants as sizes
+use Rattle.std.proofs.Common.{◌*◌, Err, ◌∷◌, false, length, take, refl, sym, ap, subst, arith, ◌≡◌}
+use Rattle.std.proofs.Common.{◌⊎◌, ◌∙◌, Result, ◌+◌, ◌/◌, ◌<◌, ◌≤◌, ℕ, true, Option, inl, inr, None}
+use Rattle.std.proofs.Common.{Some, List, []}
+use Rattle.std.specs.Prelude.{Bool, IfOk, Ok}
+use Rattle.std.specs.List.{AllByRecursion}
+use Rattle.refusals.specs.declared.run_error.End.TheVariants as ends
+use Rattle.refusals.specs.declared.run_error.RunError.{RunError}
+use Rattle.refusals.specs.declared.run_error.RunError.TheVariants.{LoggingEnded}
+use Rattle.refusals.specs.Errors.{memory_error}
 use Rattle.bio.specs.Content.{AgreeBelow, Content, gather, sector_of, writes}
-use Rattle.bio.specs.SectorLaws.{length-gather, sector_of-gather}
+use Rattle.bio.specs.ContentLaws.{length-gather, sector_of-gather}
+use Rattle.bio.specs.declared.outcome.DevError.{DevError}
+use Rattle.bio.specs.declared.outcome.DevError.TheVariants.{Io, Memory}
+use Rattle.bio.specs.declared.outcome.Status.{Status}
+use Rattle.bio.specs.declared.request.SectorSize.{SectorSize}
+use Rattle.bio.specs.declared.request.SectorSize.TheVariants as sizes
+use Rattle.bio.specs.Events.{has_no_close}
+use Rattle.bio.specs.Refusals.{end_cause}
+use Rattle.bio.specs.Requests.{bytes_of}
+use Rattle.blockdev.specs.View.{Call, Place, Writes}
 use Rattle.blockdev.specs.declared.device.BlockDev.{Ghosts}
 use Rattle.blockdev.specs.Law.{DeviceFrame}
-use Rattle.blockdev.specs.View.{Place}
-use Rattle.layer_table.specs.declared.stack.Stack.{Stack}
-use Rattle.layer_table.specs.Layers.{disk_of, layers_of, layers_under, stack_shown, AreOver}
-use Rattle.layer_table.specs.Layers.{IsSeenAs, Layer}
-use Rattle.layer_table.specs.StackLaws.{part_of_disk}
-use Rattle.layer_table.specs.declared.layer_spec.LayerSpec.{LayerSpec}
-use Rattle.layer_table.specs.Ranges.{IsLayerSpec}
-use Rattle.layer_table.specs.LayerOrder.{top_origin, top_sectors, IsAllowed}
-use Rattle.std.specs.List.{AllByRecursion}
+use Rattle.sector_disk.specs.CandidateLaws.{content_whole, disk_lawful, is_current, picks_leave_one}
 use Rattle.sector_disk.specs.declared.disk.SectorDisk.{SectorDisk}
-use Rattle.sector_disk.specs.CandidateLaws.{is_current}
-use Rattle.sector_disk.specs.PickLaws.{picks_leave_one}
-use Rattle.sector_disk.specs.DiskView.{cache_of, shown_of, start_of, steps_of}
-use Rattle.sector_disk.specs.DiskViewLaws.{content_whole, disk_lawful}
-use Rattle.sector_disk.specs.Sizes.{Begins}
+use Rattle.sector_disk.specs.DiskView.{Begins, cache_of, shown_of, start_of, steps_of}
+use Rattle.layer_table.specs.declared.layer_spec.LayerSpec.{LayerSpec}
+use Rattle.layer_table.specs.declared.stack.Stack.{Stack}
+use Rattle.layer_table.specs.Layers.{on_stack, AreOver, LayersDo, layers_of, layers_under}
+use Rattle.layer_table.specs.Layers.{stack_does, stack_shown, disk_of, top_origin, top_sectors}
+use Rattle.layer_table.specs.Layers.{IsAllowed, IsSeenAs, Layer}
+use Rattle.layer_table.specs.TableLines.{IsLayerSpec}
+use Rattle.layer_table.specs.StackLaws.{part_of_disk}
 use Rattle.log_format.specs.LogLaws.{log_within}
-use Rattle.log_format.specs.LogOf.{IsLogOf, log_sectors, status_of}
-use Rattle.log_format.specs.Placement.{first_sector}
+use Rattle.log_format.specs.LogOf.{IsLogOf, first_sector, log_sectors, status_of}
+use Rattle.log_store.specs.Calls.{store_of}
 use Rattle.log_store.specs.declared.store.LogStore.{LogStore}
-use Rattle.log_store.specs.Fields.{store_of}
 use Rattle.log_store.specs.Store.{entries_of}
 use Rattle.pending.specs.CoreState.{CoreState, sized_state}
+use Rattle.recorder.specs.Calls.{core_of, recorder_view}
 use Rattle.recorder.specs.declared.recorder.Recorder.{Recorder}
-use Rattle.recorder.specs.Growth.{HasWholeLog, RecorderFrame}
+use Rattle.recorder.specs.Growth.{HasWholeLog, RecorderFrame, ReplaysToPossible}
 use Rattle.recorder.specs.RecorderView.{log_of}
-use Rattle.recorder.specs.CrashReplay.{ReplaysToPossible}
-use Rattle.recorder.specs.Fields.{core_of, recorder_view}
-use Rattle.script_runner.specs.NewRecorder.{IsNewOn}
-use Rattle.script_runner.specs.DiskRun.{DiskRecorder, DiskRun, IsCounted, IsNew, IsRecorded}
-use Rattle.script_runner.specs.DiskRun.{IsStackOf, Starts, left_on, seen_on, stack_answering}
-use Rattle.script_runner.specs.DiskRun.{zeroes}
-use Rattle.dmlw_script.specs.Plans.{top_of, Disk, IsDisk, ScriptValue}
+use Rattle.dmlw_script.specs.declared.command.Command.{Command}
+use Rattle.dmlw_script.specs.declared.script_id.ScriptId.{ScriptId}
+use Rattle.dmlw_script.specs.Plans.{top_of, Disk, IsDisk, ScriptValue, time_at}
+use Rattle.script_runner.specs.CallLaws.{keeps_same}
+use Rattle.script_runner.specs.declared.playing.Played.{Played}
 use Rattle.script_runner.specs.declared.recording.Lies.{Lies}
-use Rattle.script_runner.specs.Runs.{RunsLines}
-use Rattle.script_runner.specs.WholeLog.{IsWritten}
+use Rattle.script_runner.specs.declared.running.Running.{Running}
+use Rattle.script_runner.specs.DiskRun.{DiskRecorder, DiskRun, FailsOnDisks, IsCounted, IsNew}
+use Rattle.script_runner.specs.DiskRun.{IsNewOn, IsRecorded, IsStackOf, IsUnmade, IsUnmadeOn}
+use Rattle.script_runner.specs.DiskRun.{Starts, file as no_file, left_on, run as no_run, seen_on}
+use Rattle.script_runner.specs.DiskRun.{stack_answering, unmade as no_log, zeroes}
+use Rattle.script_runner.specs.inside.{file, run, unmade, FailsPlaying, IsPlayed, StartsOnStack}
+use Rattle.script_runner.specs.inside.{StartsOn}
+use Rattle.script_runner.specs.Lines.{Answering}
+use Rattle.script_runner.specs.Runs.{IsWritten, RunsLines}
 
 -- layers that may stand are those that lines may ask for
 pub asked : (sectors : ℕ) (layers : List LayerSpec) → IsAllowed sectors layers
@@ -308,3 +319,166 @@ is_recorded plan text start last log status lies image picks room starts ran goe
           ((whole (new_written (bytes_of plan.log_size) plan.log_disk start.recorder new) on closed
           (honest none)).crash seen.0 seen.1)));
     }
+
+-- Making a log on a disk without layers fails only for lack of memory.
+
+-- a disk under no layers refuses a write as out of memory alone
+bare_refuses : (after : List Layer) (old new : SectorDisk) (bytes : List ℕ) (error : DevError)
+    → LayersDo [] old (Writes 0 bytes true) 0 (Err error) after new → error ≡ Memory
+bare_refuses after old new bytes Io done = absurd done.2
+bare_refuses after old new bytes Memory done = refl
+
+pub bare_log_fails : ((old : Stack) (call : Call) (now : ℕ) (result : Result ℕ DevError)
+    (new : Stack) → stack_does old call now result new
+    → LayersDo (layers_of old) (disk_of old) call now result (layers_of new) (disk_of new))
+    → (bytes : ℕ) (disk : Disk) (fault : RunError) → disk.layers ≡ [] → IsUnmade bytes disk fault
+    → fault ≡ LoggingEnded ends.Memory
+bare_log_fails does bytes disk fault bare un =
+    let none : layers_of un.stack ≡ [] =
+    un.blank.layers ∙ ap (λ (ls : List LayerSpec). layers_under ls 0 []) bare in
+    let refused = un.refused in
+    let done =
+    does un.stack (Writes 0 (first_sector bytes 0) true) 0
+    (Err refused.error) refused.last refused.answered in
+    let memory =
+    bare_refuses (layers_of refused.last) (disk_of un.stack) (disk_of refused.last)
+    (first_sector bytes 0) refused.error
+    (subst (λ (ls : List Layer). LayersDo ls (disk_of un.stack)
+    (Writes 0 (first_sector bytes 0) true) 0 (Err refused.error) (layers_of refused.last)
+    (disk_of refused.last)) none done) in
+    refused.ends_by ∙ ap (λ (e : DevError). LoggingEnded (end_cause e)) memory
+
+-- The calls of a run's data device and log's device begin at the same time.
+
+-- before the first line both are 0
+pub started_together : (plan : ScriptValue) (start : DiskRun) → Starts plan start
+    → start.recorder.store.moment ≡ start.moment
+started_together plan start starts = starts.log_disk.begun.moment ∙ sym starts.moment
+
+-- each line sets both or keeps both
+pub lines_together : {D L : Type 0} {d : Ghosts D} {l : Ghosts L} (m : Answering D L)
+    (names : List ScriptId) (body : List Command) (text : List ℕ) (old new : Running D L d l)
+    → RunsLines m names body text old new → old.recorder.store.moment ≡ old.moment
+    → new.recorder.store.moment ≡ new.moment
+lines_together {D} {L} {d} {l} m names [] text old new ran same =
+    subst (λ (end : Running D L d l). end.recorder.store.moment ≡ end.moment) (sym ran.1) same
+lines_together {D} {L} {d} {l} m names (command ∷ body) text old new ran same =
+    let line = ran.4 in
+    lines_together {d = d} {l = l} m names body ran.2 ran.0 new ran.5
+    (line.log_moment ∙ ap (λ (moment : ℕ). time_at moment command) same ∙ sym line.moment)
+
+-- What playing a script does: from running its lines to recording on two disks in memory.
+
+-- what was played from one kind of start was played from
+-- another, where each of the one kind is of the other
+pub played_from : {D L : Type 0} {d : Ghosts D} {l : Ghosts L} (m : Answering D L)
+    (plan : ScriptValue) (Start Other : Running D L d l → Type 0) (before after : Option (List ℕ))
+    (recorder : Recorder L l)
+    (lies : ℕ) (ample : Bool) → ((run : Running D L d l) → Start run → Other run)
+    → IsPlayed m plan Start before after recorder lies ample
+    → IsPlayed m plan Other before after recorder lies ample
+played_from m plan Start Other before after recorder lies ample follows played = record {
+  start = played.start;
+  starts = follows played.start played.starts;
+  last = played.last;
+  text = played.text;
+  ran = played.ran;
+  printed = played.printed;
+  left = played.left;
+  lied = played.lied;
+  found = played.found;
+}
+
+-- and so does a failure
+pub fails_from : {D L : Type 0} {d : Ghosts D} {l : Ghosts L} (m : Answering D L) (text : List ℕ)
+    (plan : ScriptValue) (Unmade : RunError → Type 0) (Start Other : Running D L d l → Type 0)
+    (before after : Option (List ℕ)) (fault : RunError)
+    → ((run : Running D L d l) → Start run → Other run)
+    → FailsPlaying m text plan Unmade Start before after fault
+    → FailsPlaying m text plan Unmade Other before after fault
+fails_from m text plan Unmade Start Other before after fault follows (file f is) = file f is
+fails_from m text plan Unmade Start Other before after fault follows (unmade f is kept) =
+    unmade f is kept
+fails_from m text plan Unmade Start Other before after fault follows (run start f starts ends) =
+    run start f (follows start starts) ends
+
+-- a run that can't be started fails, and has printed nothing
+pub fails_at_start : {D L : Type 0} {d : Ghosts D} {l : Ghosts L} (m : Answering D L)
+    (text : List ℕ) (plan : ScriptValue) (Unmade : RunError → Type 0)
+    (Start : Running D L d l → Type 0)
+    (known : Option (List ℕ)) (fault : RunError) → (fault ≡ memory_error) ⊎ Unmade fault
+    → FailsPlaying m text plan Unmade Start known known fault
+fails_at_start m text plan Unmade Start known fault (inl memory) = file fault (inr memory)
+fails_at_start m text plan Unmade Start known fault (inr none) =
+    unmade fault none (keeps_same known)
+
+-- a start with a log of one sector size is one of the size that it is
+pub started : {D L : Type 0} {d : Ghosts D} {l : Ghosts L} (size other : SectorSize) (disk : D)
+    (log : L) (now : Running D L d l) → size ≡ other → StartsOn (bytes_of size) disk log now
+    → StartsOn (bytes_of other) disk log now
+started {d = d} {l = l} size other disk log now same starts =
+    subst (λ (s : SectorSize). StartsOn {d = d} {l = l} (bytes_of s) disk log now) same starts
+
+-- so is a start that failed
+pub unstarted : {L : Type 0} (l : Ghosts L) (size other : SectorSize) (log : L) (fault : RunError)
+    → size ≡ other → (fault ≡ memory_error) ⊎ IsUnmadeOn l (bytes_of size) log fault
+    → (fault ≡ memory_error) ⊎ IsUnmadeOn l (bytes_of other) log fault
+unstarted l size other log fault same fails =
+    subst (λ (s : SectorSize). (fault ≡ memory_error)
+    ⊎ IsUnmadeOn l (bytes_of s) log fault) same fails
+
+-- the recorder of a start counts in the sectors of its log
+pub start_bytes : {D L : Type 0} {d : Ghosts D} {l : Ghosts L} (bytes : ℕ) (disk : D) (log : L)
+    (now : Running D L d l) → StartsOn bytes disk log now
+    → (core_of now.recorder).sector_bytes ≡ bytes
+start_bytes bytes disk log now starts =
+    let begun = starts.begun in ap (λ (c : CoreState). c.sector_bytes) begun.core
+
+-- a start on a stack is one beside it
+pub on_beside : {L : Type 0} {l : Ghosts L} (bytes : ℕ) (disk : Disk) (stack : Stack) (log : L)
+    → IsStackOf disk stack → (run : Running Stack L on_stack l) → StartsOn bytes stack log run
+    → StartsOnStack bytes disk log run
+on_beside bytes disk stack log is now starts = record {
+  stack = subst (λ (s : Stack). IsStackOf disk s) (sym starts.disk_is) is;
+  begun = starts.begun;
+  none = starts.none;
+  moment = starts.moment;
+  short = starts.short;
+}
+
+-- a start beside a log's stack is one on two disks
+pub beside_starts : (plan : ScriptValue) (log : Stack) → IsStackOf plan.log_disk log
+    → (run : DiskRun) → StartsOnStack (bytes_of plan.log_size) plan.data_disk log run
+    → Starts plan run
+beside_starts plan log is now starts = record {
+  data_disk = starts.stack;
+  log_disk = record { stack = log; blank = is; begun = starts.begun };
+  none = starts.none;
+  moment = starts.moment;
+  short = starts.short;
+}
+
+-- and a failure on it is one on two disks
+pub fails_on_disks : (text : List ℕ) (plan : ScriptValue) (log : Stack)
+    (before after : Option (List ℕ)) (fault : RunError) → IsStackOf plan.log_disk log
+    → FailsPlaying {d = on_stack} {l = on_stack} stack_answering text plan
+    (IsUnmadeOn on_stack (bytes_of plan.log_size) log)
+    (StartsOnStack (bytes_of plan.log_size) plan.data_disk log) before after fault
+    → FailsOnDisks text plan before after fault
+fails_on_disks text plan log before after fault is (file f fails) = no_file f fails
+fails_on_disks text plan log before after fault is (unmade f refused kept) =
+    no_log f (record { stack = log; blank = is; refused = refused }) kept
+fails_on_disks text plan log before after fault is (run start f starts ends) =
+    no_run start f (beside_starts plan log is start starts) ends
+
+-- the same of results
+pub all_played : {D L : Type 0} {d : Ghosts D} {l : Ghosts L} (m : Answering D L)
+    (plan : ScriptValue) (Start Other : Running D L d l → Type 0) (before after : Option (List ℕ))
+    (result : Result (Played L l) RunError) → ((run : Running D L d l) → Start run → Other run)
+    → IfOk result (λ played. IsPlayed m plan Start before after played.recorder played.data_lies
+    played.ample) → IfOk result
+    (λ played. IsPlayed m plan Other before after played.recorder played.data_lies played.ample)
+all_played m plan Start Other before after (Err fault) follows holds = tt
+all_played m plan Start Other before after (Ok played) follows holds =
+    played_from m plan Start Other before after played.recorder played.data_lies played.ample
+    follows holds

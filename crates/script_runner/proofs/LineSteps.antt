@@ -1,42 +1,56 @@
--- What one line does.
-use Rattle.std.proofs.Common.{◌≡◌, ◌∙◌, ◌<◌, ℕ, zero, suc, ◌&&◌, true, not, None, Option, Some}
-use Rattle.std.proofs.Common.{List, [], ◌∷◌, ap, arith, length, refl, subst, sym, inl, inr}
+-- What one line does and prints.
+use Rattle.std.proofs.Common.{add-one, ◌<◌, ◌≤◌, Bool, ℕ, ◌+◌, ◌*◌, zero, suc, ◌&&◌, true, false}
+use Rattle.std.proofs.Common.{not, None, Option, Some, append_assoc, drop, refl, subst}
+use Rattle.std.proofs.Common.{if◌then◌else◌, sym, inl, inr, ◌≡◌, ◌∙◌, List, [], ◌∷◌, ◌++◌}
+use Rattle.std.proofs.Common.{encode_utf8_all, ap, arith, length, take, replicate}
+use Rattle.std.specs.Prelude.{nat_lt, slice_get, codes, decimal, option_map, slice_index_or, ◌==◌}
+use Rattle.std.specs.Prelude.{Err, IfErr, IfOk, Ok, OnOk, Result}
+use Rattle.std.proofs.lemmas.Bool.{and_from, and_parts, ltb-true}
+use Rattle.std.proofs.lemmas.Bool.Decides.{nat_tests}
+use Rattle.std.proofs.lemmas.List.{append-nil, drop_all, take_all}
+use Rattle.std.proofs.lemmas.List.Elements.{All-from_recursion, All-get_or}
 use Rattle.std.proofs.lemmas.Option.{slice_get-get_or}
-use Rattle.std.specs.Prelude.{◌==◌, Err, IfErr, IfOk, Ok, OnOk, Result, nat_lt, slice_get}
-use Rattle.std.specs.Prelude.{slice_index_or}
-use Rattle.bio.specs.PlaceLaws.{bool_cases}
-use Rattle.bio.specs.declared.request.Bio.{Bio}
+use Rattle.std.proofs.lemmas.Str.{encodes-IsAscii}
+use Rattle.std.proofs.lemmas.Str.Ascii.{IsAscii-from_all}
+use Rattle.std.proofs.Math.Nat.{mul-div_cancel, mul-mod_left}
+use Rattle.std.specs.declared.io.ErrorKind.{ErrorKind}
+use Rattle.std.specs.declared.io.ErrorKind.TheVariants as kinds
+use Rattle.std.specs.Io.KnownBytes.{Appends}
+use Rattle.std.specs.List.{AllByRecursion, list_all}
+use Rattle.std.specs.Result.{IsErr}
+use Rattle.std.specs.Str.{IsAscii}
 use Rattle.refusals.specs.declared.refusal.Refusal.{Refusal}
 use Rattle.refusals.specs.declared.refusal.Refusal.TheVariants as refusals
+use Rattle.refusals.specs.Errors.{IsFileError, io_refusal, refused_by}
+use Rattle.refusals.specs.Words.{before_byte as before_mark}
+use Rattle.bio.specs.declared.request.Bio.{Bio}
+use Rattle.bio.specs.Events.{is_recording, is_text}
+use Rattle.bio.specs.PlaceLaws.{bool_cases}
+use Rattle.bio.specs.Requests.{range_answer}
+use Rattle.blockdev.specs.View.{IsByteRange}
 use Rattle.blockdev.specs.declared.device.BlockDev.{Ghosts}
+use Rattle.pending.specs.CoreState.{records}
+use Rattle.recorder.specs.Calls.{Closes, Marks, Submits, core_of, recorder_view}
+use Rattle.recorder.specs.declared.recorder.Recorder.{Recorder}
+use Rattle.recorder.specs.declared.reply.Reply.{Reply}
+use Rattle.recorder.specs.declared.reply.Reply.TheVariants as replies
+use Rattle.recorder.specs.Growth.{RecorderFrame}
 use Rattle.dmlw_script.specs.declared.command.Command.{Command}
 use Rattle.dmlw_script.specs.declared.command.Command.TheVariants as commands
 use Rattle.dmlw_script.specs.declared.command.Step.{Step}
 use Rattle.dmlw_script.specs.declared.command.Step.TheVariants as steps
-use Rattle.pending.specs.CoreState.{records}
-use Rattle.recorder.specs.declared.recorder.Recorder.{Recorder}
-use Rattle.recorder.specs.declared.reply.Reply.{Reply}
-use Rattle.recorder.specs.declared.reply.Reply.TheVariants as replies
-use Rattle.recorder.specs.Calls.{Closes, Marks, Submits}
-use Rattle.recorder.specs.Growth.{RecorderFrame}
-use Rattle.recorder.specs.Fields.{core_of, recorder_view}
 use Rattle.dmlw_script.specs.declared.script_id.ScriptId.{ScriptId}
-use Rattle.dmlw_script.specs.Plans.{time_at_step}
-use Rattle.script_runner.specs.declared.running.Running.{Running}
-use Rattle.std.specs.Io.KnownBytes.{Appends}
-use Rattle.std.proofs.lemmas.List.{append-nil}
-use Rattle.bio.specs.Lawful.{is_recording, is_text}
-use Rattle.dmlw_script.specs.Lines.{is_line_byte, is_line_text}
-use Rattle.refusals.specs.Errors.{IsFileError, io_refusal, refused_by}
-use Rattle.script_runner.specs.Lines.{Answering, PrintsLine, PrintsMark, TakesStep}
-use Rattle.script_runner.specs.inside.Replies.{mark_outcome}
-use Rattle.std.proofs.lemmas.Bool.{and_from, and_parts, ltb-true}
-use Rattle.std.specs.Result.{IsErr}
-use Rattle.std.specs.declared.io.ErrorKind.{ErrorKind}
-use Rattle.std.specs.declared.io.ErrorKind.TheVariants as kinds
-use Rattle.std.specs.Str.{IsAscii}
-use Rattle.std.proofs.lemmas.Bool.Decides.{nat_tests}
+use Rattle.dmlw_script.specs.Words.{byte_text, is_line_byte, is_line_text, is_name_byte, letters_of}
+use Rattle.dmlw_script.specs.Words.{script_id}
+use Rattle.dmlw_script.specs.Plans.{IsName, time_at_step}
+use Rattle.script_runner.specs.CallLaws.{appends_twice}
 use Rattle.script_runner.specs.declared.request.Request.{Request}
+use Rattle.script_runner.specs.declared.running.Running.{Running}
+use Rattle.script_runner.specs.inside.{mark_outcome}
+use Rattle.script_runner.specs.Lines.{Answering, PrintsLine, PrintsMark, TakesStep, first_bytes}
+use Rattle.script_runner.specs.Lines.{outcome_line, outcome_word, read_line}
+
+-- What one line does.
 
 -- a reply to a submission that names no id and passes nothing says that there is no memory
 pub refused-only : {L : Type 0} {g : Ghosts L} (bio : Bio) (reply : Reply) (old new : Recorder L g)
@@ -167,3 +181,148 @@ step_runs m names command step before after text old new is takes moment log_mom
 pub appends_none : (known : Option (List ℕ)) → Appends known known []
 appends_none None = tt
 appends_none (Some bytes) = sym (append-nil bytes)
+
+-- The printed names and outcomes are those that the specs define.
+
+-- a character of an id is ASCII
+low_byte : (byte : ℕ) → is_name_byte byte ≡ true → byte < 128
+low_byte byte letter = grind (arith, nat_tests)
+
+-- the characters of an id are ASCII
+low_letters : (word : List ℕ) (size : ℕ) → list_all is_name_byte word ≡ true
+    → AllByRecursion (λ byte. byte < 128) (before_mark 0 (word ++ replicate size 0))
+low_letters [] zero all = tt
+low_letters [] (suc size) all = tt
+low_letters (byte ∷ word) size all =
+    let parts = and_parts (is_name_byte byte) (list_all is_name_byte word) all in
+    kept (byte == 0) _ (low_byte byte parts.0) (low_letters word size parts.1)
+  where
+    kept : (mark : Bool) (bytes : List ℕ) → byte < 128 → AllByRecursion (λ b. b < 128) bytes
+        → AllByRecursion (λ b. b < 128) (if mark then [] else byte ∷ bytes)
+    kept true bytes low rest = tt
+    kept false bytes low rest = (low, rest)
+
+-- a name is printed by its letters
+letters_encoded : (name : ScriptId) → IsName name
+    → encode_utf8_all (letters_of name) ≡ letters_of name
+letters_encoded name is =
+    let word = is.0 in
+    let letters = and_parts _ (list_all is_name_byte word) is.1 in
+    subst (λ (n : ScriptId). encode_utf8_all (letters_of n) ≡ letters_of n) (sym is.2)
+    (encodes-IsAscii (letters_of (script_id word)) (IsAscii-from_all (letters_of (script_id word))
+    (All-from_recursion (λ byte. byte < 128) (letters_of (script_id word))
+    (low_letters word _ letters.1))))
+
+-- a line of two words
+line_of : (word other : List ℕ)
+    → word ++ 32 ∷ (other ++ 10 ∷ []) ≡ word ++ codes " " ++ other ++ codes "\n"
+line_of word other =
+    sym (append_assoc (word ++ codes " ") other (codes "\n")
+    ∙ append_assoc word (codes " ") (other ++ codes "\n"))
+
+-- what became of a request was printed
+pub outcome_printed : (name : ScriptId) (ok : Bool) (word : List ℕ) (before after : Option (List ℕ))
+    → IsName name → word ≡ outcome_word ok
+    → Appends before after (encode_utf8_all (letters_of name) ++ 32 ∷ (word ++ 10 ∷ []))
+    → Appends before after (outcome_line name ok)
+outcome_printed name ok word before after is says output =
+    subst (Appends before after)
+    (ap (λ (letters : List ℕ). letters ++ 32 ∷ (word ++ 10 ∷ [])) (letters_encoded name is)
+    ∙ line_of (letters_of name) word
+    ∙ ap (λ (w : List ℕ). letters_of name ++ codes " " ++ w ++ codes "\n") says) output
+
+-- the id of a request is an id
+pub name_is : (names : List ScriptId) (request : ℕ) (other : ScriptId) → AllByRecursion IsName names
+    → request < length names
+    → IsName (slice_index_or names request other)
+name_is names request other ids here =
+    All-get_or IsName names request other here (All-from_recursion IsName names ids)
+
+-- What a read's line reads and prints.
+
+-- what the test of a range says that it passes
+pub range_parts : (first count sectors : ℕ) → range_answer first count sectors ≡ Ok tt
+    → (0 < count) × (count ≤ 2048) × (first + count ≤ sectors)
+range_parts first count sectors passes =
+    (grind (arith, nat_tests), grind (arith, nat_tests), grind (arith, nat_tests))
+
+-- so many sectors of bytes are those of the range
+pub byte_range : (sectors first count bytes : ℕ) → range_answer first count sectors ≡ Ok tt
+    → bytes ≡ count * 512 → IsByteRange sectors first bytes
+byte_range sectors first count bytes passes is =
+    let parts = range_parts first count sectors passes in
+    let within : first + count ≤ sectors = parts.2 in
+    subst (IsByteRange sectors first) (sym is) (record {
+      whole = mul-mod_left count 512;
+      some = let some : 0 < count = parts.0 in omega arith;
+      within = rw (mul-div_cancel count {n = 512} (omega arith)) within;
+    })
+
+-- a buffer that was filled holds what was put in it
+pub filled : (new old : List ℕ) (n : ℕ) → length new ≡ length old → n ≡ length old
+    → take n (new ++ drop (length new) old) ≡ new
+filled new old n same size =
+    ap (λ (rest : List ℕ). take n (new ++ rest)) (drop_all (length new) old (omega arith))
+    ∙ ap (take n) (append-nil new)
+    ∙ take_all n new (omega arith)
+
+-- the first byte of one sector more
+first_bytes-more : (n : ℕ) (bytes : List ℕ)
+    → first_bytes (n + 1) bytes
+    ≡ first_bytes n bytes ++ byte_text (slice_index_or bytes (n * 512) 0)
+first_bytes-more n bytes = ap (λ (k : ℕ). first_bytes k bytes) (add-one n)
+
+-- is printed after those before it
+pub byte_printed : (n : ℕ) (bytes : List ℕ) (byte : ℕ) (digits : List ℕ)
+    (start now new : Option (List ℕ)) → Appends start now (first_bytes n bytes)
+    → byte ≡ slice_index_or bytes (n * 512) 0 → digits ≡ byte_text byte → Appends now new digits
+    → Appends start new (first_bytes (n + 1) bytes)
+byte_printed n bytes byte digits start now new before here is more =
+    subst (Appends start new) (sym (first_bytes-more n bytes))
+    (appends_twice start now new (first_bytes n bytes)
+    (byte_text (slice_index_or bytes (n * 512) 0)) before
+    (subst (Appends now new) (is ∙ ap byte_text here) more))
+
+-- the words of a line one after another, or one by one
+in_one : (head from plus long space rest end : List ℕ)
+    → head ++ (from ++ (plus ++ (long ++ (space ++ (rest ++ end)))))
+    ≡ head ++ from ++ plus ++ long ++ space ++ rest ++ end
+in_one head from plus long space rest end = sym (simp append_assoc)
+
+in_parts : (head from plus long space ok bytes end : List ℕ)
+    → head ++ (from ++ (plus ++ (long ++ (space ++ ok)))) ++ bytes ++ end
+    ≡ head ++ from ++ plus ++ long ++ space ++ (ok ++ bytes) ++ end
+in_parts head from plus long space ok bytes end = simp append_assoc
+
+-- the line of a read that failed was printed
+pub failed_printed : {V : Type 0} (items : V → List ℕ) (first count : ℕ) (bytes : Option V)
+    (before after : Option (List ℕ)) → bytes ≡ None
+    → Appends before after (codes "read "
+    ++ (decimal first ++ (codes "+" ++ (decimal count ++ codes " failed\n"))))
+    → Appends before after (read_line first count (option_map items bytes))
+failed_printed {V} items first count bytes before after none output =
+    subst (λ (b : Option V). Appends before after (read_line first count (option_map items b)))
+    (sym none)
+    (subst (Appends before after)
+    (in_one (codes "read ") (decimal first) (codes "+") (decimal count) (codes " ")
+    (codes "failed") (codes "\n")) output)
+
+-- the line of what was read was printed in three parts
+pub read_printed : {V : Type 0} (items : V → List ℕ) (first count : ℕ) (bytes : Option V) (read : V)
+    (shown : List ℕ) (before begun told after : Option (List ℕ)) → bytes ≡ Some read
+    → shown ≡ items read
+    → Appends before begun (codes "read "
+    ++ (decimal first ++ (codes "+" ++ (decimal count ++ codes " ok "))))
+    → Appends begun told (first_bytes count shown)
+    → Appends told after (codes "\n")
+    → Appends before after (read_line first count (option_map items bytes))
+read_printed {V} items first count bytes read shown before begun told after some same head middle
+    end =
+    subst (λ (b : Option V). Appends before after (read_line first count (option_map items b)))
+    (sym some)
+    (subst (Appends before after)
+    (in_parts (codes "read ") (decimal first) (codes "+") (decimal count) (codes " ")
+    (codes "ok ") (first_bytes count (items read)) (codes "\n"))
+    (appends_twice before told after _ (codes "\n")
+    (appends_twice before begun told _ (first_bytes count (items read)) head
+    (subst (λ (s : List ℕ). Appends begun told (first_bytes count s)) same middle)) end))

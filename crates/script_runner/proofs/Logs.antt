@@ -1,33 +1,205 @@
--- What the lines of a script do to the log.
-use Rattle.std.proofs.Common.{List, [], ◌∷◌, ◌≡◌, ◌∙◌, ap, length, ℕ, Bool, Option, Some, None, inl}
-use Rattle.std.proofs.Common.{inr, subst, sym}
+-- What the lines of a script do to the log, and what becomes of the requests that they submit.
+use Rattle.std.proofs.Common.{append_assoc, None, inl, ◌∙◌, ◌⊎◌, ap, refl, length, ℕ, Bool, true}
+use Rattle.std.proofs.Common.{false, not, ◌&&◌, Option, Some, arith, inr, subst, sym, List, [], ◌∷◌}
+use Rattle.std.proofs.Common.{◌++◌, Result, Ok, Err, ◌≡◌}
 use Rattle.std.specs.Prelude.{is_ok, slice_get}
-use Rattle.bio.specs.declared.request.Bio.{Bio}
+use Rattle.std.proofs.lemmas.Bool.{and_parts}
+use Rattle.std.proofs.lemmas.List.{append-nil}
+use Rattle.std.proofs.lemmas.Option.{slice_get_within}
+use Rattle.std.specs.List.{AllZip}
 use Rattle.refusals.specs.declared.refusal.Refusal.TheVariants as refusals
-use Rattle.dmlw_script.specs.declared.command.Command.TheVariants as commands
-use Rattle.dmlw_script.specs.declared.command.Step.TheVariants as steps
-use Rattle.dmlw_script.specs.declared.disk_name.DiskName.TheVariants as disks
-use Rattle.dmlw_script.specs.Plans.{name_at}
+use Rattle.refusals.specs.declared.run_error.End.{End}
+use Rattle.bio.specs.declared.event.CoreEvent.{CoreEvent}
+use Rattle.bio.specs.declared.event.CoreEvent.TheVariants as events
+use Rattle.bio.specs.declared.request.Bio.{Bio}
+use Rattle.bio.specs.Events.{can_follow, has_no_close, has_no_stop, is_close, is_open_at}
+use Rattle.bio.specs.Events.{is_recording, is_text, is_well_formed}
+use Rattle.bio.specs.PlaceLaws.{bool_cases, is_well_formed-snoc, last_or_below, length-snoc}
+use Rattle.bio.specs.PlaceLaws.{slice_get-append_front, slice_get-append_here}
+use Rattle.bio.specs.RequestLaws.{lawful_parts}
+use Rattle.bio.specs.Requests.{is_tracked}
+use Rattle.blockdev.specs.declared.device.BlockDev.{Ghosts}
+use Rattle.log_format.specs.declared.entry.Entry.{Entry}
+use Rattle.log_store.specs.Calls.{Same}
+use Rattle.pending.specs.CoreState.{CoreState, added_to, records}
+use Rattle.pending.specs.GrowthLaws.{none-grown}
+use Rattle.recorder.specs.Calls.{Completes, Drains, IsUnchanged, Marks, Submits, Turns, core_of}
+use Rattle.recorder.specs.Calls.{recorder_view}
+use Rattle.recorder.specs.declared.recorder.Recorder.{Recorder}
+use Rattle.recorder.specs.declared.reply.Reply.{Reply}
 use Rattle.recorder.specs.declared.reply.Reply.TheVariants as replies
+use Rattle.recorder.specs.declared.reply.Turn.{Turn}
+use Rattle.recorder.specs.declared.reply.Turn.TheVariants as turns
+use Rattle.recorder.specs.Growth.{RecorderFrame}
+use Rattle.recorder.specs.RecorderView.{EventsGrow, log_of}
+use Rattle.dmlw_script.specs.declared.command.Command.{Command}
+use Rattle.dmlw_script.specs.declared.command.Command.TheVariants as commands
+use Rattle.dmlw_script.specs.declared.command.DiskName.TheVariants as disks
+use Rattle.dmlw_script.specs.declared.command.Step.{Step}
+use Rattle.dmlw_script.specs.declared.command.Step.TheVariants as steps
+use Rattle.dmlw_script.specs.declared.command.Submission.{Submission}
+use Rattle.dmlw_script.specs.declared.script_id.ScriptId.{ScriptId}
+use Rattle.dmlw_script.specs.Plans.{name_at}
 use Rattle.script_runner.specs.declared.request.Request.{Request}
 use Rattle.script_runner.specs.declared.request.Request.TheVariants as requests
-use Rattle.script_runner.specs.Lines.{Answering, Asks, EndsRequest, RecordsEnd, RunsLine, reply_of}
-use Rattle.script_runner.specs.Submissions.{bio_of}
-use Rattle.script_runner.specs.WholeLog.{IsWritten}
-use Rattle.bio.specs.Lawful.{has_no_close}
-use Rattle.log_store.specs.Calls.{Same}
-use Rattle.pending.specs.CoreState.{CoreState}
-use Rattle.recorder.specs.RecorderView.{log_of}
-use Rattle.script_runner.proofs.ClosedLog.{kept_close, kept_complete, kept_mark, kept_submit}
-use Rattle.script_runner.proofs.ClosedLog.{kept_turn}
-use Rattle.blockdev.specs.declared.device.BlockDev.{Ghosts}
-use Rattle.dmlw_script.specs.declared.command.Command.{Command}
-use Rattle.dmlw_script.specs.declared.script_id.ScriptId.{ScriptId}
-use Rattle.recorder.specs.declared.recorder.Recorder.{Recorder}
-use Rattle.recorder.specs.Growth.{RecorderFrame}
-use Rattle.recorder.specs.Fields.{core_of, recorder_view}
 use Rattle.script_runner.specs.declared.running.Running.{Running}
-use Rattle.script_runner.specs.Runs.{RunsLines}
+use Rattle.script_runner.specs.Lines.{Answering, Asks, EndsRequest, RecordsEnd, RunsLine, TakesStep}
+use Rattle.script_runner.specs.Lines.{reply_of}
+use Rattle.script_runner.specs.Runs.{IsWritten, RunsLines, TrackedAreRecorded, IsRequestOf}
+use Rattle.script_runner.specs.Runs.{submissions_of}
+use Rattle.script_runner.specs.Submissions.{bio_of}
+
+-- What the lines of a script do to the log.
+-- If recording is closed, the whole completion list is placed: each line keeps this.
+
+-- a recorder that didn't change keeps it
+pub kept_unchanged : {L : Type 0} {l : Ghosts L} (old new : Recorder L l) → IsWritten old
+    → IsUnchanged old new → IsWritten new
+kept_unchanged old new written same = λ closed on.
+    let core = same.core in
+    let events = ap (λ (c : CoreState). c.events) core in
+    ap (λ s. s.placed) same.store
+    ∙ written (ap has_no_close (sym events) ∙ closed) (sym same.end ∙ on)
+    ∙ ap (λ (c : CoreState). length (log_of c)) (sym core)
+
+-- one whose events have no Close keeps it
+pub kept_recording : {L : Type 0} {l : Ghosts L} (new : Recorder L l)
+    → has_no_close (core_of new).events ≡ true → IsWritten new
+kept_recording new recording = λ closed on. absurd (let both = sym recording ∙ closed in cc)
+
+-- an event that is no Close leaves none
+unclosed : (core grown : CoreState) (event : CoreEvent) → grown ≡ added_to core event
+    → is_close (Some event) ≡ false → has_no_close core.events ≡ true
+    → has_no_close grown.events ≡ true
+unclosed core grown event is other recording =
+    ap (λ (c : CoreState). has_no_close c.events) is ∙ none-grown is_close core.events event
+    ∙ ap (λ b. b && not (is_close (Some event))) recording ∙ ap not other
+
+-- one whose logging ended keeps it
+kept_ended : {L : Type 0} {l : Ghosts L} (new : Recorder L l) (cause : End) → new.end ≡ Some cause
+    → IsWritten new
+kept_ended new cause ended = λ closed on. absurd (let both = sym ended ∙ on in cc)
+
+-- a submission keeps it
+pub kept_submit : {L : Type 0} {l : Ghosts L} (bio : Bio) (reply : Reply) (old new : Recorder L l)
+    → Submits bio reply old new → IsWritten old → IsWritten new
+kept_submit {L} {l} bio reply old new submits written =
+    elim (bool_cases (records (core_of old) bio)) [
+      | inl recorded ↦ elim (submits.recorded recorded) [
+        | inl tracked ↦
+            let going =
+            (and_parts (is_recording (core_of old).events) (is_tracked bio) recorded).0 in
+            let recording =
+            (and_parts (has_no_stop (core_of old).events)
+            (has_no_close (core_of old).events) going).1 in
+            kept_recording {l = l} new
+            (unclosed (core_of old) (core_of new) (events.Submit bio) tracked.1.core refl recording)
+        | inr refused ↦ kept_ended {l = l} new _ refused.1.end
+      ]
+      | inr passes ↦ kept_unchanged {l = l} old new written (submits.passed passes).1
+    ]
+
+-- the end of a request keeps it
+pub kept_complete : {L : Type 0} {l : Ghosts L} (id : ℕ) (ok : Bool) (reply : Reply)
+    (old new : Recorder L l) → Completes id ok reply old new → IsWritten old → IsWritten new
+kept_complete {L} {l} id ok reply old new completes written =
+    elim (bool_cases (is_open_at (core_of old).events id)) [
+      | inl opened ↦
+          let is = (completes.recorded opened).1 in
+          let lawful =
+          (and_parts (is_well_formed (core_of new).events) _
+          (lawful_parts _ 1048576 (core_of new).events new.kept.lawful).0).0 in
+          let well_formed : is_well_formed ((core_of old).events ++ events.Complete id ok ∷ [])
+          ≡ true =
+          ap (λ (c : CoreState). is_well_formed c.events) (sym is) ∙ lawful in
+          let parts =
+          and_parts (is_well_formed (core_of old).events)
+          (can_follow (core_of old).events (Some (events.Complete id ok)))
+          (sym (is_well_formed-snoc (core_of old).events (events.Complete id ok)) ∙ well_formed) in
+          let recording =
+          (and_parts (has_no_close (core_of old).events)
+          (is_open_at (core_of old).events id) parts.1).0 in
+          kept_recording {l = l} new
+          (unclosed (core_of old) (core_of new) (events.Complete id ok) is refl recording)
+      | inr other ↦
+          kept_unchanged {l = l} old new written
+          (record {
+            core = (completes.unknown other).1;
+            store = completes.log;
+            end = completes.end;
+          })
+    ]
+
+-- a mark keeps it
+pub kept_mark : {L : Type 0} {l : Ghosts L} (text : List ℕ) (reply : Reply) (old new : Recorder L l)
+    → Marks text reply old new → IsWritten old → IsWritten new
+kept_mark {L} {l} text reply old new marks written = elim (bool_cases (is_text text)) [
+  | inl heard ↦ elim (bool_cases (is_recording (core_of old).events)) [
+    | inl going ↦ elim (marks.recorded heard going) [
+      | inl queued ↦
+          let recording =
+          (and_parts (has_no_stop (core_of old).events)
+          (has_no_close (core_of old).events) going).1 in
+          kept_recording {l = l} new
+          (unclosed (core_of old) (core_of new) (events.Mark text) queued.1 refl recording)
+      | inr refused ↦
+          kept_unchanged {l = l} old new written
+          (record { core = refused.1; store = marks.log; end = marks.end })
+    ]
+    | inr over ↦
+        kept_unchanged {l = l} old new written
+        (record { core = (marks.passed heard over).1; store = marks.log; end = marks.end })
+  ]
+  | inr bad ↦
+      kept_unchanged {l = l} old new written
+      (record { core = marks.unheard bad; store = marks.log; end = marks.end })
+]
+
+-- no entry stands behind the last
+none-behind : (log : List Entry) (n : ℕ) (e : Entry) → n ≡ length log → slice_get log n ≡ Some e → ⊥
+none-behind log n e all found = let within = slice_get_within log n e found in omega arith
+
+-- a turn keeps it
+pub kept_turn : {L : Type 0} {l : Ghosts L} (turn : Turn) (old new : Recorder L l)
+    → Turns turn old new → IsWritten old → IsWritten new
+kept_turn {L} {l} turn old new turned written = by_end old.end refl
+  where
+    placing : (index : ℕ) (e : Entry) → old.end ≡ None → (core_of new).events ≡ (core_of old).events
+        → index ≡ old.store.placed
+        → slice_get (log_of (core_of old)) index ≡ Some e → IsWritten new
+    placing index e on same number entry = elim (bool_cases (has_no_close (core_of old).events)) [
+      | inl recording ↦ kept_recording {l = l} new (ap has_no_close same ∙ recording)
+      | inr closed ↦
+          absurd (none-behind (log_of (core_of old)) index e (number ∙ written closed on) entry)
+    ]
+
+    by_turn : (turn : Turn) → old.end ≡ None → Turns turn old new → IsWritten new
+    by_turn turns.Nothing on did = kept_unchanged {l = l} old new written (did.logging on).1
+    by_turn (turns.Placed index) on did =
+        let placed = did.logging on in
+        placing index placed.2.0 on placed.0.events placed.2.2.number placed.2.2.entry
+    by_turn (turns.Settled index) on did =
+        let placed = did.logging on in
+        placing index placed.2.0 on placed.0.events placed.2.2.number placed.2.2.entry
+    by_turn (turns.Ended cause) on did = kept_ended {l = l} new cause (did.logging on).stops.end
+
+    by_end : (end : Option End) → old.end ≡ end → IsWritten new
+    by_end None is = by_turn turn is turned
+    by_end (Some cause) is = kept_unchanged {l = l} old new written (turned.ended cause is).1
+
+-- a close writes the log to its end
+pub kept_close : {L : Type 0} {l : Ghosts L} (answer : Result Unit End) (closed new : Recorder L l)
+    → Drains answer closed new → IsWritten new
+kept_close {L} {l} answer closed new drains = by_end closed.end refl
+  where
+    by_answer : (answer : Result Unit End) → closed.end ≡ None → Drains answer closed new
+        → IsWritten new
+    by_answer (Ok done) on drained = λ is_closed goes. (drained.logging on).1
+    by_answer (Err cause) on drained = kept_ended {l = l} new cause (drained.logging on).end
+
+    by_end : (end : Option End) → closed.end ≡ end → IsWritten new
+    by_end None is = by_answer answer is drains
+    by_end (Some cause) is = kept_ended {l = l} new cause ((drains.ended cause is).1.end ∙ is)
 
 -- no call of a recorder goes, and two calls go as one
 abbrev pub GoesNone : {L : Type 0} → (l : Ghosts L) → Type 0
@@ -128,3 +300,213 @@ lines_written {D} {L} {d} {l} m names [] text old new ran written =
 lines_written {D} {L} {d} {l} m names (command ∷ body) text old new ran written =
     lines_written {d = d} {l = l} m names body ran.2 ran.0 new ran.5
     (line_written {d = d} {l = l} m names command ran.1 old ran.0 ran.4 written)
+
+-- What becomes of the requests that the lines of a script submit.
+
+-- what is asked is what the line says
+asks_stands : {L : Type 0} {l : Ghosts L} (submission : Submission) (request : Request)
+    (old new : Recorder L l) → Asks (bio_of submission) request old new
+    → IsRequestOf submission request
+asks_stands submission (requests.Asked bio id) old new asks = asks.0
+asks_stands submission requests.NotAsked old new asks = tt
+
+-- a line that ends a request keeps the requests
+ended_keeps : {D L : Type 0} {d : Ghosts D} {l : Ghosts L} (found : Option Request)
+    (name : ScriptId) (text : List ℕ) (old new : Running D L d l)
+    → EndsRequest found name text old new → new.requests.items ≡ old.requests.items
+ended_keeps None name text old new does = absurd does
+ended_keeps (Some requests.NotAsked) name text old new does = does.0.kept
+ended_keeps (Some (requests.Asked bio id)) name text old new does = does.kept
+
+-- so does one that names none
+step_keeps : {D L : Type 0} {d : Ghosts D} {l : Ghosts L} (m : Answering D L) (step : Step)
+    (text : List ℕ) (old new : Running D L d l)
+    → TakesStep m step text old new → new.requests.items ≡ old.requests.items
+step_keeps m steps.Close text old new does = does.keeps.kept
+step_keeps m (steps.Read first count) text old new does = does.kept
+step_keeps m steps.Turn text old new does = does.keeps.kept
+step_keeps m (steps.Mark mark) text old new does = does.kept
+step_keeps m (steps.At moment) text old new does = does.keeps.kept
+step_keeps m (steps.Message disks.Data layer asked) text old new does = does.kept
+step_keeps m (steps.Message disks.Log layer asked) text old new does = does.keeps.kept
+
+-- the requests that the lines submit, behind those before
+abbrev Adds : {D L : Type 0} {d : Ghosts D} {l : Ghosts L} → List Submission → Running D L d l
+    → Running D L d l → Type 0
+Adds asked old new =
+    (more : List Request) × (new.requests.items ≡ old.requests.items ++ more)
+    × AllZip IsRequestOf asked more
+
+-- those of more lines, where the first adds none
+adds_later : {D L : Type 0} {d : Ghosts D} {l : Ghosts L} (asked : List Submission)
+    (old mid new : Running D L d l) → mid.requests.items ≡ old.requests.items
+    → Adds asked mid new → Adds asked old new
+adds_later asked old mid new same adds =
+    (adds.0, adds.1 ∙ ap (λ (items : List Request). items ++ adds.0) same, adds.2)
+
+-- each line that submits asks for what it says
+pub lines_ask : {D L : Type 0} {d : Ghosts D} {l : Ghosts L} (m : Answering D L)
+    (names : List ScriptId) (body : List Command) (text : List ℕ) (old new : Running D L d l)
+    → RunsLines m names body text old new → Adds (submissions_of body) old new
+lines_ask {D} {L} {d} {l} m names [] text old new ran = (
+  [],
+  ap (λ (run : Running D L d l). run.requests.items) ran.1
+      ∙ sym (append-nil old.requests.items),
+  tt,
+)
+lines_ask {D} {L} {d} {l} m names (commands.Submit submission ∷ body) text old new ran =
+    let does = ran.4.does in
+    let rest = lines_ask {d = d} {l = l} m names body ran.2 ran.0 new ran.5 in (
+      does.request ∷ rest.0,
+      rest.1 ∙ ap (λ (items : List Request). items ++ rest.0) does.kept
+          ∙ append_assoc old.requests.items (does.request ∷ []) rest.0,
+      (asks_stands {l = l} submission does.request old.recorder ran.0.recorder does.asks, rest.2),
+    )
+lines_ask {D} {L} {d} {l} m names (commands.Complete request ∷ body) text old new ran =
+    adds_later {d = d} {l = l} (submissions_of body) old ran.0 new
+    (ended_keeps {d = d} {l = l} (slice_get old.requests.items request)
+    (name_at names request) ran.1 old ran.0 ran.4.does)
+    (lines_ask {d = d} {l = l} m names body ran.2 ran.0 new ran.5)
+lines_ask {D} {L} {d} {l} m names (commands.Step step ∷ body) text old new ran =
+    adds_later {d = d} {l = l} (submissions_of body) old ran.0 new
+    (step_keeps {d = d} {l = l} m step ran.1 old ran.0 ran.4.does)
+    (lines_ask {d = d} {l = l} m names body ran.2 ran.0 new ran.5)
+
+-- events that stand stay as more are recorded
+pub stays : (old new : List CoreEvent) (id : ℕ) (event : CoreEvent) → EventsGrow old new
+    → slice_get old id ≡ Some event → slice_get new id ≡ Some event
+stays old new id event (more, is) stands =
+    ap (λ (es : List CoreEvent). slice_get es id) is
+    ∙ slice_get-append_front old more id (slice_get_within old id event stands) ∙ stands
+
+-- a mark that is queued stands at its place
+pub queued_stands : {L : Type 0} {l : Ghosts L} (text : List ℕ) (reply : Reply) (id : ℕ)
+    (old new : Recorder L l) → Marks text reply old new → reply ≡ replies.Queued id
+    → slice_get (core_of new).events id ≡ Some (events.Mark text)
+queued_stands {L} {l} text reply id old new marks queued = elim (bool_cases (is_text text)) [
+  | inl heard ↦ elim (bool_cases (is_recording (core_of old).events)) [
+    | inl going ↦ elim (marks.recorded heard going) [
+      | inl (place, is) ↦
+          ap (λ (n : ℕ). slice_get (core_of new).events n)
+          (queued_id id (length (core_of old).events) (sym queued ∙ place))
+          ∙ ap (λ (c : CoreState). slice_get c.events (length (core_of old).events)) is
+          ∙ slice_get-append_here (core_of old).events (events.Mark text) []
+      | inr refused ↦ absurd (not_refused id (sym queued ∙ refused.0))
+    ]
+    | inr over ↦ absurd (not_passed id (sym queued ∙ (marks.passed heard over).0))
+  ]
+  | inr bad ↦ absurd (not_refused id (sym queued ∙ marks.bad_text.1 bad))
+]
+  where
+    queued_id : (m n : ℕ) → replies.Queued m ≡ replies.Queued n → m ≡ n
+    queued_id m n is = cc
+
+    not_refused : {refusal : _} (m : ℕ) → replies.Queued m ≡ replies.Refused refusal → ⊥
+    not_refused m is = cc
+
+    not_passed : (m : ℕ) → replies.Queued m ≡ replies.Passed → ⊥
+    not_passed m is = cc
+
+-- a submission that is followed stands at its id
+tracked_stands : {L : Type 0} {l : Ghosts L} (bio : Bio) (id : ℕ) (old new : Recorder L l)
+    → Submits bio (reply_of (Some id)) old new
+    → slice_get (core_of new).events id ≡ Some (events.Submit bio)
+tracked_stands {L} {l} bio id old new submits = elim (bool_cases (records (core_of old) bio)) [
+  | inl recorded ↦ elim (submits.recorded recorded) [
+    | inl (reply, tracked) ↦
+        let place : id ≡ length (core_of old).events =
+        tracked_id id (length (core_of old).events) reply in
+        ap (λ (n : ℕ). slice_get (core_of new).events n) place
+        ∙ ap (λ (c : CoreState). slice_get c.events (length (core_of old).events)) tracked.core
+        ∙ slice_get-append_here (core_of old).events (events.Submit bio) []
+    | inr (reply, stops) ↦ absurd (not_refused id reply)
+  ]
+  | inr passes ↦ absurd (not_passed id (submits.passed passes).0)
+]
+  where
+    tracked_id : (m n : ℕ) → replies.Tracked m ≡ replies.Tracked n → m ≡ n
+    tracked_id m n is = cc
+
+    not_refused : {refusal : _} (m : ℕ) → replies.Tracked m ≡ replies.Refused refusal → ⊥
+    not_refused m is = cc
+
+    not_passed : (m : ℕ) → replies.Tracked m ≡ replies.Passed → ⊥
+    not_passed m is = cc
+
+-- the last request of a list, or one before it
+last_case : (items : List Request) (last request : Request) (place : ℕ)
+    → slice_get (items ++ last ∷ []) place ≡ Some request
+    → (slice_get items place ≡ Some request) ⊎ (last ≡ request)
+last_case items last request place found =
+    let within = slice_get_within (items ++ last ∷ []) place request found in
+    elim (last_or_below place (length items) (let size = length-snoc items last in omega arith)) [
+      | inl here ↦
+          inr (some_same (sym (slice_get-append_here items last [])
+          ∙ ap (λ (n : ℕ). slice_get (items ++ last ∷ []) n) (sym here) ∙ found))
+      | inr below ↦ inl (sym (slice_get-append_front items (last ∷ []) place below) ∙ found)
+    ]
+  where
+    some_same : {a b : Request} → Some a ≡ Some b → a ≡ b
+    some_same is = cc
+
+-- a request that was asked last, and is followed, stands at its id
+asked_stands : {L : Type 0} {l : Ghosts L} (bio asked : Bio) (request : Request) (id : ℕ)
+    (old new : Recorder L l) → Asks asked request old new
+    → request ≡ requests.Asked bio (Some id)
+    → slice_get (core_of new).events id ≡ Some (events.Submit bio)
+asked_stands {L} {l} bio asked (requests.Asked kept (Some other)) id old new asks is =
+    let parts = same_asked is in
+    subst (λ (n : ℕ). slice_get (core_of new).events n ≡ Some (events.Submit bio)) parts.1
+    (tracked_stands {l = l} asked other old new asks.1
+    ∙ ap (λ (b : Bio). Some (events.Submit b)) (sym asks.0 ∙ parts.0))
+  where
+    same_asked : requests.Asked kept (Some other) ≡ requests.Asked bio (Some id)
+        → (kept ≡ bio) × (other ≡ id)
+    same_asked is = (cc, cc)
+asked_stands bio asked (requests.Asked kept None) id old new asks is = absurd (cc is)
+asked_stands bio asked requests.NotAsked id old new asks is = absurd (cc is)
+
+-- where a line adds no request, each stays followed
+kept_followed : {D L : Type 0} {d : Ghosts D} {l : Ghosts L} (old new : Running D L d l)
+    → new.requests.items ≡ old.requests.items
+    → EventsGrow (core_of old.recorder).events (core_of new.recorder).events → TrackedAreRecorded old
+    → TrackedAreRecorded new
+kept_followed old new same grows followed = λ place bio id found.
+    stays (core_of old.recorder).events (core_of new.recorder).events id
+    (events.Submit bio) grows
+    (followed place bio id (ap (λ (items : List Request). slice_get items place) (sym same)
+    ∙ found))
+
+-- each line keeps them followed
+line_followed : {D L : Type 0} {d : Ghosts D} {l : Ghosts L} (m : Answering D L)
+    (names : List ScriptId) (command : Command) (text : List ℕ) (old new : Running D L d l)
+    → RunsLine m names command text old new → TrackedAreRecorded old → TrackedAreRecorded new
+line_followed {D} {L} {d} {l} m names (commands.Submit submission) text old new line followed =
+    λ place bio id found.
+    elim (last_case old.requests.items line.does.request (requests.Asked bio (Some id)) place
+    (ap (λ (items : List Request). slice_get items place) (sym line.does.kept) ∙ found)) [
+      | inl before ↦
+          stays (core_of old.recorder).events (core_of new.recorder).events id
+          (events.Submit bio) line.goes.events (followed place bio id before)
+      | inr last ↦
+          asked_stands {l = l} bio
+          (bio_of submission) line.does.request id old.recorder new.recorder line.does.asks last
+    ]
+line_followed {D} {L} {d} {l} m names (commands.Complete request) text old new line followed =
+    kept_followed {d = d} {l = l} old new
+    (ended_keeps {d = d} {l = l} (slice_get old.requests.items request)
+    (name_at names request) text old new line.does)
+    line.goes.events followed
+line_followed {D} {L} {d} {l} m names (commands.Step step) text old new line followed =
+    kept_followed {d = d} {l = l} old new
+    (step_keeps {d = d} {l = l} m step text old new line.does) line.goes.events followed
+
+-- and all lines do
+pub lines_followed : {D L : Type 0} {d : Ghosts D} {l : Ghosts L} (m : Answering D L)
+    (names : List ScriptId) (body : List Command) (text : List ℕ) (old new : Running D L d l)
+    → RunsLines m names body text old new → TrackedAreRecorded old → TrackedAreRecorded new
+lines_followed {D} {L} {d} {l} m names [] text old new ran followed =
+    subst (λ (run : Running D L d l). TrackedAreRecorded run) (sym ran.1) followed
+lines_followed {D} {L} {d} {l} m names (command ∷ body) text old new ran followed =
+    lines_followed {d = d} {l = l} m names body ran.2 ran.0 new ran.5
+    (line_followed {d = d} {l = l} m names command ran.1 old ran.0 ran.4 followed)

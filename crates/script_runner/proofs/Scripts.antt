@@ -1,29 +1,55 @@
 -- What a script's lines do one after another.
-use Rattle.std.proofs.Common.{◌≡◌, ◌∙◌, ℕ, suc, ◌+◌, ◌<◌, Option, inl, inr, List, [], ◌∷◌, ◌++◌}
-use Rattle.std.proofs.Common.{drop, length, slice_index_or, take, add-one, ap, arith, sym, subst}
-use Rattle.std.proofs.Math.Seq.{drop-cons, take-suc}
-use Rattle.std.proofs.lemmas.List.{length-take, take-append-drop}
+-- Laws of `Chain`: steps one after another.
+use Rattle.std.proofs.Common.{drop, length, slice_index_or, take, add-one, ap, refl, arith, sym}
+use Rattle.std.proofs.Common.{subst, ◌≡◌, ◌∙◌, ℕ, suc, ◌+◌, ◌<◌, Option, inl, inr, List, [], ◌∷◌}
+use Rattle.std.proofs.Common.{◌++◌, append_assoc}
+use Rattle.std.proofs.lemmas.List.{append-nil, length-take, take-append-drop}
 use Rattle.std.proofs.lemmas.List.Sums.{sum_by-append}
+use Rattle.std.proofs.Math.Seq.{drop-cons, take-suc}
 use Rattle.refusals.specs.declared.refusal.Refusal.{Refusal}
-use Rattle.bio.specs.Sizes.{bytes_of}
+use Rattle.refusals.specs.declared.run_error.RunError.{RunError}
+use Rattle.refusals.specs.declared.run_error.RunError.TheVariants.{Refused}
+use Rattle.bio.specs.Requests.{bytes_of}
 use Rattle.blockdev.specs.declared.device.BlockDev.{Ghosts}
+use Rattle.blockdev.specs.Messages.{message_refusal}
+use Rattle.recorder.specs.Calls.{core_of}
 use Rattle.dmlw_script.specs.declared.command.Command.{Command}
 use Rattle.dmlw_script.specs.declared.command.Command.TheVariants as commands
 use Rattle.dmlw_script.specs.declared.script_id.ScriptId.{ScriptId}
-use Rattle.dmlw_script.specs.Lines.{command_line}
-use Rattle.dmlw_script.specs.Plans.{head_count, top_of, CanFollow, HasName, IsPlan, ScriptValue}
-use Rattle.dmlw_script.specs.Plans.{submissions}
-use Rattle.recorder.specs.Fields.{core_of}
-use Rattle.refusals.specs.declared.run_error.RunError.{RunError}
-use Rattle.refusals.specs.declared.run_error.RunError.TheVariants.{Refused}
+use Rattle.dmlw_script.specs.Words.{command_line}
+use Rattle.dmlw_script.specs.Plans.{submissions, head_count, top_of, CanFollow, HasName, IsPlan}
+use Rattle.dmlw_script.specs.Plans.{ScriptValue}
 use Rattle.script_runner.specs.CallLaws.{appends_kept, appends_twice}
 use Rattle.script_runner.specs.declared.running.Running.{Running}
 use Rattle.script_runner.specs.declared.step_error.StepError.TheVariants.{AtLine, Whole}
 use Rattle.script_runner.specs.Lines.{Answering, EndsSubmitted, FitsDevice, HasScriptText}
 use Rattle.script_runner.specs.Lines.{PrintsLine, RunsLine, StopsLine, count_of}
-use Rattle.script_runner.specs.Runs.{EndsRun, PrintsLines, close, file, message}
-use Rattle.blockdev.specs.Messages.{message_refusal}
-use Rattle.script_runner.proofs.StepChains.{chain_snoc}
+use Rattle.script_runner.specs.Runs.{Chain, EndsRun, PrintsLines, close, file, message}
+
+-- one step more
+pub chain_snoc : {C S : Type 0} (Step : C → List ℕ → S → S → Type 0) (cs : List C) (c : C)
+    (text more : List ℕ) (old mid new : S)
+    → Chain Step cs text old mid → Step c more mid new
+    → Chain Step (cs ++ c ∷ []) (text ++ more) old new
+chain_snoc {S = S} Step [] c text more old mid new before step = (
+  new,
+  more,
+  [],
+  ap (λ (t : List ℕ). t ++ more) before.0 ∙ sym (append-nil more),
+  from_start before.1,
+  (refl, refl),
+)
+  where
+    from_start : mid ≡ old → Step c more old new
+    from_start same = subst (λ (s : S). Step c more s new) same step
+chain_snoc Step (first ∷ cs) c text more old mid new before step = (
+  before.0,
+  before.1,
+  before.2 ++ more,
+  ap (λ (t : List ℕ). t ++ more) before.3 ∙ append_assoc before.1 before.2 more,
+  before.4,
+  chain_snoc Step cs c before.2 more before.0 mid new before.5 step,
+)
 
 -- each command of a script may come after those before it
 abbrev pub IsOrderlyScript : ScriptValue → Type 0

@@ -2,16 +2,16 @@
 use Rattle.std.proofs.Common.{◌≡◌, ◌∙◌, ◌⊎◌, ⊎_elim, ℕ, zero, suc, ◌+◌, ◌*◌, ◌/◌, ◌<◌, ◌≤◌, List}
 use Rattle.std.proofs.Common.{[], ◌∷◌, ◌++◌, length, map, take, slice_get, Option, Some, ap}
 use Rattle.std.proofs.Common.{append-nil, append_assoc, arith, inl, inr, refl, subst, sym}
-use Rattle.refusals.specs.declared.end.End.{End}
+use Rattle.refusals.specs.declared.run_error.End.{End}
 use Rattle.bio.specs.declared.outcome.Status.{Status}
-use Rattle.bio.specs.declared.sector_size.SectorSize.{SectorSize}
-use Rattle.bio.specs.declared.sector_size.SectorSize.TheVariants as sizes
-use Rattle.bio.specs.Sizes.{bytes_of}
+use Rattle.bio.specs.declared.request.SectorSize.{SectorSize}
+use Rattle.bio.specs.declared.request.SectorSize.TheVariants as sizes
+use Rattle.bio.specs.Requests.{bytes_of}
 use Rattle.blockdev.specs.View.{Place}
 use Rattle.dmlw_script.specs.Plans.{top_of, Disk}
 use Rattle.dmlw_script.specs.RunPlans.{RunPlan}
 use Rattle.layer_table.specs.declared.stack.Stack.{Stack}
-use Rattle.layer_table.specs.Layers.{disk_of, stack_shown}
+use Rattle.layer_table.specs.Layers.{disk_of, stack_shown, top_origin, top_sectors}
 use Rattle.layer_table.specs.StackLaws.{part_of_disk}
 use Rattle.lock_state.specs.Comparison.{Receipt}
 use Rattle.lock_state.specs.History.{Part}
@@ -28,19 +28,17 @@ use Rattle.script_runner.specs.declared.recording.Lies.{Lies}
 use Rattle.script_runner.specs.DiskRun.{IsStackOf, seen_on}
 use Rattle.sector_disk.specs.declared.disk.SectorDisk.{SectorDisk}
 use Rattle.sector_disk.specs.DiskView.{shown_of}
-use Rattle.sector_disk.specs.DiskViewLaws.{content_whole, disk_lawful}
+use Rattle.sector_disk.specs.CandidateLaws.{content_whole, disk_lawful}
 use Rattle.bio.specs.Content.{AgreeBelow, Content, gather, sector_of}
-use Rattle.bio.specs.SectorLaws.{length-gather, sector_of-gather}
+use Rattle.bio.specs.ContentLaws.{length-gather, sector_of-gather}
 use Rattle.script_runner.specs.declared.tally.Tally.{Tally}
-use Rattle.script_runner.specs.inside.SeatWork.{AreNewPlayers, FitsRecorder, HavePlayed, Player}
-use Rattle.script_runner.specs.inside.SeatWork.{new_player}
-use Rattle.script_runner.specs.SeatRuns.{FailsRun, HasRun, IsClosed, IsForeignClose, IsRun, IsSeatRun}
-use Rattle.script_runner.specs.SeatRuns.{IsUnclosed, IsUnplayed, busy, foreign, memory, thread}
-use Rattle.script_runner.specs.Tallies.{joined}
+use Rattle.script_runner.specs.inside.{AreNewPlayers, FitsRecorder, HavePlayed, Player, new_player}
+use Rattle.script_runner.specs.SeatRuns.{FailsRun, HasRun, IsClosed, IsForeignClose, IsRun}
+use Rattle.script_runner.specs.SeatRuns.{IsSeatRun, IsUnclosed, IsUnplayed, busy, foreign, joined}
+use Rattle.script_runner.specs.SeatRuns.{memory, thread}
 use Rattle.script_runner.proofs.Seats.{take_next}
 use Rattle.shared.specs.Close.{LeavesLog}
 use Rattle.shared.specs.declared.closing.Closed.{Closed}
-use Rattle.layer_table.specs.LayerOrder.{top_origin, top_sectors}
 
 module _ {A : Type 0} where
   -- what stands in a list that is one longer

@@ -7,26 +7,25 @@ use Rattle.std.specs.List.{AllByRecursion}
 use Rattle.std.proofs.lemmas.Bool.{and_from, and_parts}
 use Rattle.std.proofs.lemmas.Bool.Decides.{nat_tests}
 use Rattle.bio.specs.declared.outcome.DevError.TheVariants as devices
-use Rattle.bio.specs.Lawful.{is_text}
+use Rattle.bio.specs.Events.{is_text}
 use Rattle.dmlw_script.specs.declared.command.Submission.{Submission}
-use Rattle.dmlw_script.specs.declared.seat_call.Call.{Call}
-use Rattle.dmlw_script.specs.declared.seat_call.Call.TheVariants.{Mark, Submit}
-use Rattle.dmlw_script.specs.declared.seat_call.SeatCall.{SeatCall}
-use Rattle.dmlw_script.specs.Lines.{is_line_byte, is_line_text}
+use Rattle.dmlw_script.specs.declared.run_line.Call.{Call}
+use Rattle.dmlw_script.specs.declared.run_line.Call.TheVariants.{Mark, Submit}
+use Rattle.dmlw_script.specs.declared.run_line.SeatCall.{SeatCall}
+use Rattle.dmlw_script.specs.Words.{is_line_byte, is_line_text}
 use Rattle.lock_state.specs.Comparison.{Receipt}
 use Rattle.lock_state.specs.History.{Part, new_part, one_if}
 use Rattle.script_runner.specs.declared.tally.Outcome.{Outcome}
 use Rattle.script_runner.specs.declared.tally.Outcome.TheVariants.{Done, Failed, Logged, NotLogged}
 use Rattle.script_runner.specs.declared.tally.Outcome.TheVariants.{Refused}
 use Rattle.script_runner.specs.declared.tally.Tally.{Tally}
-use Rattle.script_runner.specs.inside.SeatWork.{DoesLine, DoesLines, Makes}
-use Rattle.script_runner.specs.inside.SeatWork.{Player}
-use Rattle.script_runner.specs.SeatRuns.{AreMade, MakesCall, IsSeatRun, calls_of}
+use Rattle.script_runner.specs.inside.{DoesLine, DoesLines, Makes, Player}
+use Rattle.script_runner.specs.SeatRuns.{tally_of, mark_receipt_in, outcome_of, receipt_in}
+use Rattle.script_runner.specs.SeatRuns.{receipts_of, is_failed, is_logged, is_not_logged}
+use Rattle.script_runner.specs.SeatRuns.{is_refused, mark_outcome, CallResult, HasRoom, and_kept}
+use Rattle.script_runner.specs.SeatRuns.{counted, how_many, is_done, AreMade, MakesCall, IsSeatRun}
+use Rattle.script_runner.specs.SeatRuns.{calls_of}
 use Rattle.script_runner.specs.Submissions.{bio_of}
-use Rattle.script_runner.specs.Tallies.{CallResult, HasRoom, and_kept, counted, how_many, is_done}
-use Rattle.script_runner.specs.Tallies.{is_failed, is_logged, is_not_logged, is_refused, mark_outcome}
-use Rattle.script_runner.specs.Tallies.{mark_receipt_in, outcome_of, receipt_in, receipts_of}
-use Rattle.script_runner.specs.Tallies.{tally_of}
 use Rattle.shared.specs.Answers.{Answered, Marked}
 use Rattle.shared.specs.declared.answer.Answer.{Answer}
 use Rattle.shared.specs.declared.answer.Answer.TheVariants as answers

@@ -1,38 +1,76 @@
--- The result of recording a script on two disks in memory, each under the layers that the script
--- names.
-use Rattle.std.specs.Prelude.{◌≡◌, ℕ, ◌*◌, ◌+◌, ◌<◌, false, List, [], length, replicate, Option}
-use Rattle.std.specs.Prelude.{None, Some}
+-- The result of a script on two disks in memory: as it is recorded, and as it runs only for its
+-- events.
+use Rattle.std.specs.Prelude.{replicate, Option, None, Some, ◌≡◌, ◌⊎◌, ℕ, Bool, true, Err, ◌*◌, ◌+◌}
+use Rattle.std.specs.Prelude.{◌<◌, false, List, [], length}
 use Rattle.std.specs.Io.KnownBytes.{Keeps}
-use Rattle.bio.specs.declared.outcome.Status.{Status}
-use Rattle.bio.specs.Lawful.{has_no_close}
-use Rattle.bio.specs.Sizes.{bytes_of}
-use Rattle.bio.specs.Content.{AgreeBelow, Content, moved, sector_of}
-use Rattle.sector_disk.specs.declared.disk.SectorDisk.{SectorDisk}
-use Rattle.sector_disk.specs.Candidates.{left_by}
-use Rattle.sector_disk.specs.DiskView.{cache_of, shown_of}
-use Rattle.sector_disk.specs.Sizes.{Begins}
-use Rattle.log_format.specs.Entries.{sectors_per}
-use Rattle.log_format.specs.LogOf.{IsLogOf, status_of}
-use Rattle.layer_table.specs.declared.stack.Stack.{Stack}
-use Rattle.layer_table.specs.Layers.{disk_of, layers_of, layers_under, on_stack, stack_shown}
-use Rattle.layer_table.specs.Layers.{AreOver}
-use Rattle.layer_table.specs.LayerOrder.{some_drops, top_origin}
-use Rattle.log_store.specs.Fields.{store_of}
-use Rattle.log_store.specs.Store.{entries_of}
-use Rattle.dmlw_script.specs.Plans.{ScriptValue}
-use Rattle.recorder.specs.declared.recorder.Recorder.{Recorder}
-use Rattle.recorder.specs.RecorderView.{log_of}
-use Rattle.recorder.specs.CrashReplay.{ReplaysToPossible}
-use Rattle.recorder.specs.Fields.{core_of, recorder_view}
+use Rattle.std.specs.List.{list_all, list_any}
+use Rattle.refusals.specs.declared.run_error.End.TheVariants as ends
 use Rattle.refusals.specs.declared.run_error.RunError.{RunError}
-use Rattle.script_runner.specs.NewRecorder.{IsNewOn, IsUnmadeOn}
-use Rattle.script_runner.specs.declared.recording.Lies.{Lies}
-use Rattle.refusals.specs.Errors.{IsFileError}
-use Rattle.dmlw_script.specs.Plans.{Disk, top_of}
-use Rattle.script_runner.specs.declared.running.Running.{Running}
+use Rattle.refusals.specs.declared.run_error.RunError.TheVariants.{LoggingEnded}
+use Rattle.refusals.specs.Errors.{IsFileError, memory_error}
+use Rattle.bio.specs.Content.{AgreeBelow, Content, moved, sector_of, writes}
+use Rattle.bio.specs.declared.event.CoreEvent.{CoreEvent}
+use Rattle.bio.specs.declared.event.CoreEvent.TheVariants as core_events
+use Rattle.bio.specs.declared.outcome.DevError.{DevError}
+use Rattle.bio.specs.declared.outcome.DevError.TheVariants.{Io}
+use Rattle.bio.specs.declared.outcome.Status.{Status}
+use Rattle.bio.specs.Events.{has_no_close}
+use Rattle.bio.specs.Refusals.{end_cause}
+use Rattle.bio.specs.Requests.{bytes_of}
+use Rattle.blockdev.specs.View.{Writes}
+use Rattle.blockdev.specs.declared.device.BlockDev.{Ghosts}
+use Rattle.blockdev.specs.Law.{DeviceFrame}
+use Rattle.sector_disk.specs.Candidates.{left_by}
+use Rattle.sector_disk.specs.declared.disk.SectorDisk.{SectorDisk}
+use Rattle.sector_disk.specs.DiskView.{Begins, cache_of, shown_of}
+use Rattle.layer_table.specs.declared.stack.Stack.{Stack}
+use Rattle.layer_table.specs.Layers.{AreOver, disk_of, layers_of, layers_under, on_stack}
+use Rattle.layer_table.specs.Layers.{some_drops, stack_shown, top_origin}
 use Rattle.layer_table.specs.StackMessages.{StackAnswers}
+use Rattle.log_format.specs.Entries.{sectors_per}
+use Rattle.log_format.specs.LogOf.{IsLogOf, first_sector, status_of}
+use Rattle.log_store.specs.Calls.{HasFaulted, store_of}
+use Rattle.log_store.specs.Store.{entries_of}
+use Rattle.pending.specs.CoreState.{sized_state}
+use Rattle.recorder.specs.Calls.{core_of, recorder_view}
+use Rattle.recorder.specs.declared.recorder.Recorder.{Recorder}
+use Rattle.recorder.specs.Growth.{ReplaysToPossible}
+use Rattle.recorder.specs.RecorderView.{log_of}
+use Rattle.dmlw_script.specs.Plans.{Disk, ScriptValue, top_of}
+use Rattle.script_runner.specs.declared.recording.Lies.{Lies}
+use Rattle.script_runner.specs.declared.running.Running.{Running}
 use Rattle.script_runner.specs.Lines.{answering, Answering}
 use Rattle.script_runner.specs.Runs.{EndsRun, RunsLines}
+use Rattle.script_runner.specs.Submissions.{is_asked}
+
+-- The result of recording a script on two disks in memory, each under the layers that the script
+-- names.
+-- A recorder with a new log on a device, and why no such recorder can be made.
+
+-- `recorder` has recorded nothing yet. Its log is on `device`, is empty, and has sectors of `bytes`
+-- bytes. Unless the device lied, each content that a crash may leave has this empty log.
+pub record IsNewOn {L : Type 0} {l : Ghosts L} (bytes : ℕ) (device : L)
+    (recorder : Recorder L l) : Type 0 where
+  pub core : core_of recorder ≡ sized_state bytes
+  pub end : recorder.end ≡ None
+  pub placed : recorder.store.placed ≡ 0
+  pub moment : recorder.store.moment ≡ 0
+  pub made : DeviceFrame (writes 0 (first_sector bytes 0)) (l.shown device)
+      (l.shown recorder.store.device)
+  pub empty : (l.shown recorder.store.device).lies ≡ 0 → (left : Content)
+      → (l.shown recorder.store.device).crash left →
+      IsLogOf (l.shown recorder.store.device).size left bytes []
+
+-- No log with sectors of `bytes` bytes could be made on `device`. The write of the super block
+-- failed with `error`, which is Io only if the device failed. `fault` says that logging ended by
+-- the cause of `error`.
+pub record IsUnmadeOn {L : Type 0} (l : Ghosts L) (bytes : ℕ) (device : L)
+    (fault : RunError) : Type 0 where
+  pub last : L
+  pub error : DevError
+  pub answered : l.does device (Writes 0 (first_sector bytes 0) true) 0 (Err error) last
+  pub failed : error ≡ Io → HasFaulted (l.shown device) (l.shown last)
+  pub ends_by : fault ≡ LoggingEnded (end_cause error)
 
 -- A recorder whose log is on a stack, that is, on a disk in memory under layers.
 abbrev pub DiskRecorder : Type 0
@@ -149,3 +187,45 @@ pub data FailsOnDisks (text : List ℕ) (plan : ScriptValue)
   run : (start : DiskRun) (fault : RunError) → Starts plan start
       → EndsRun stack_answering text plan before after start fault
       → FailsOnDisks text plan before after fault
+
+-- The result of running a script only for its events. The script runs on two disks in memory as
+-- when it is recorded, but only the recorder's events are returned.
+
+-- The event is a Stop by which logging ended because memory ran out.
+abbrev pub is_memory_stop : CoreEvent → Bool
+is_memory_stop (core_events.Stop ends.Memory) = true
+is_memory_stop _ = false
+
+-- The lines of `plan` ran, and `events` are the recorder's events. Memory sufficed, except perhaps
+-- for reads. What the lines print is dropped.
+pub record IsRehearsed (plan : ScriptValue) (events : List CoreEvent) : Type 0 where
+  pub start : DiskRun
+  pub starts : Starts plan start
+  pub text : List ℕ
+  pub last : DiskRun
+  pub ran : RunsLines stack_answering plan.names plan.commands text start last
+  pub recorded : events ≡ (core_of last.recorder).events
+  -- memory sufficed for the data device's calls, for marks and for the log
+  pub short : last.short ≡ false
+  -- memory sufficed for each submission
+  pub asked : list_all is_asked last.requests.items ≡ true
+  -- logging didn't end because memory ran out
+  pub ample : list_any is_memory_stop events ≡ false
+
+-- The lines of `plan` ran, but memory ran out: in a line, for a submission, or in the recorder, so
+-- that logging ended.
+pub record RanOutOfMemory (plan : ScriptValue) : Type 0 where
+  pub start : DiskRun
+  pub starts : Starts plan start
+  pub text : List ℕ
+  pub last : DiskRun
+  pub ran : RunsLines stack_answering plan.names plan.commands text start last
+  pub short : (last.short ≡ true) ⊎ ((list_all is_asked last.requests.items ≡ false)
+      ⊎ (list_any is_memory_stop (core_of last.recorder).events ≡ true))
+
+-- Why running `plan` for its events fails; `plan` was parsed from `text`. Either it fails as
+-- recording does, but nothing is claimed about the output. Or its lines ran, but memory ran out;
+-- then the fault is Memory, without a line.
+abbrev pub FailsRehearsal : List ℕ → ScriptValue → RunError → Type 0
+FailsRehearsal text plan fault =
+    FailsOnDisks text plan None None fault ⊎ (RanOutOfMemory plan × (fault ≡ memory_error))

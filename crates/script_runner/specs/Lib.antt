@@ -1,8 +1,7 @@
 -- The definitions of `script_runner`'s contracts.
-pub use Rattle.bio.specs.Check
-pub use Rattle.bio.specs.Lawful
-pub use Rattle.bio.specs.Sizes as LogSizes
-pub use Rattle.blockdev.specs.Calls
+pub use Rattle.bio.specs.Requests
+pub use Rattle.bio.specs.Events
+pub use Rattle.blockdev.specs.View
 pub use Rattle.dmlw_script.specs.Plans
 pub use Rattle.recorder.specs.Calls as RecorderCalls
 pub use Rattle.recorder.specs.Growth
@@ -11,31 +10,20 @@ pub use Rattle.log_format.specs.LogOf
 pub use Rattle.layer_table.specs.Layers
 pub use Rattle.layer_table.specs.StackMessages
 pub use Rattle.blockdev.specs.Messages
-pub use Rattle.layer_table.specs.LayerOrder
-pub use Rattle.pending.specs.Moments
+pub use Rattle.pending.specs.CompletionList
 pub use Rattle.recorder.specs.Acknowledged
 pub use Rattle.recorder.specs.RecorderView
-pub use Rattle.recorder.specs.CrashReplay
 pub use Rattle.sector_disk.specs.Candidates
 pub use Rattle.sector_disk.specs.DiskView
-pub use Rattle.sector_disk.specs.Sizes
 pub use Rattle.dmlw_script.specs.RunPlans
-pub use Rattle.lock_state.specs.Close
+pub use Rattle.lock_state.specs.Comparison
 pub use Rattle.lock_state.specs.History
-pub use Rattle.lock_state.specs.LegalHistory
 pub use Rattle.shared.specs.Answers
 pub use Rattle.shared.specs.Close as Closes
 pub mod CallLaws
 pub mod Submissions
-pub mod HandOver
-pub mod Texts
 pub mod Lines
 pub mod Runs
-pub mod WholeLog
-pub mod RequestEvents
-pub mod NewRecorder
 pub mod DiskRun
-pub mod Rehearsals
-pub mod Tallies
 pub mod SeatRuns
 pub mod inside

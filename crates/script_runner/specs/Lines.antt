@@ -1,49 +1,118 @@
 -- What each line of a script does to the run, which is `old` before it and `new` after it, and what
 -- the line prints.
-use Rattle.recorder.specs.declared.reply.Turn.{Turn}
-use Rattle.recorder.specs.declared.reply.Turn.TheVariants as turns
-use Rattle.std.specs.Prelude.{◌≡◌, ◌⊎◌, ℕ, ◌<◌, Bool, true, false, List, [], ◌∷◌, ◌++◌, Option}
-use Rattle.std.specs.Prelude.{Some, None, Result, Ok, Err, is_ok, length, slice_get}
-use Rattle.std.specs.Prelude.{◌||◌, ◌&&◌, not, if◌then◌else◌}
-use Rattle.std.specs.List.{list_all}
+-- What the lines of a script print.
+-- What the data device does with a request that is passed to it.
+use Rattle.std.specs.Prelude.{Bool, true, false, List, [], ◌∷◌, ◌++◌, codes, Option, None, Result}
+use Rattle.std.specs.Prelude.{Ok, Err, is_ok, length, slice_get, ◌≡◌, ◌⊎◌, ℕ, ◌<◌, ◌*◌}
+use Rattle.std.specs.Prelude.{slice_index_or, decimal, ◌||◌, ◌&&◌, not, if◌then◌else◌, Some}
 use Rattle.std.specs.Io.KnownBytes.{Appends, Keeps}
-use Rattle.bio.specs.declared.request.Bio.{Bio}
+use Rattle.std.specs.List.{list_all}
+use Rattle.refusals.specs.declared.run_error.End.{End}
+use Rattle.refusals.specs.declared.run_error.End.TheVariants as ends
+use Rattle.refusals.specs.declared.refusal.Refusal.{Refusal}
+use Rattle.refusals.specs.declared.refusal.Refusal.TheVariants as refusals
+use Rattle.refusals.specs.Errors.{IsFileError}
 use Rattle.bio.specs.declared.outcome.DevError.{DevError}
 use Rattle.bio.specs.declared.outcome.DevError.TheVariants as errors
-use Rattle.refusals.specs.declared.end.End.{End}
-use Rattle.refusals.specs.declared.end.End.TheVariants as ends
+use Rattle.bio.specs.declared.request.Bio.{Bio}
+use Rattle.bio.specs.declared.request.Bio.TheVariants as bios
+use Rattle.bio.specs.Places.{collect}
 use Rattle.bio.specs.Requests.{has_data}
+use Rattle.blockdev.specs.View.{Call, Discards, Flushes, Writes, Reads}
 use Rattle.blockdev.specs.declared.device.BlockDev.{Ghosts}
 use Rattle.blockdev.specs.declared.message.MessageError.{MessageError}
 use Rattle.blockdev.specs.Messages.{message_refusal, Unchanged}
-use Rattle.dmlw_script.specs.declared.disk_name.DiskName.{DiskName}
-use Rattle.dmlw_script.specs.declared.disk_name.DiskName.TheVariants as disks
-use Rattle.refusals.specs.declared.refusal.Refusal.{Refusal}
-use Rattle.refusals.specs.declared.refusal.Refusal.TheVariants as refusals
+use Rattle.log_store.specs.Calls.{Same}
+use Rattle.recorder.specs.Calls.{Completes, Drains, Marks, Submits, last_turn, core_of}
+use Rattle.recorder.specs.Calls.{recorder_view, Turns, Closes}
+use Rattle.recorder.specs.declared.recorder.Recorder.{Recorder}
+use Rattle.recorder.specs.declared.reply.Reply.{Reply}
+use Rattle.recorder.specs.declared.reply.Reply.TheVariants as replies
+use Rattle.recorder.specs.declared.reply.Turn.{Turn}
+use Rattle.recorder.specs.declared.reply.Turn.TheVariants as turns
+use Rattle.recorder.specs.Growth.{RecorderFrame}
 use Rattle.dmlw_script.specs.declared.command.Command.{Command}
 use Rattle.dmlw_script.specs.declared.command.Command.TheVariants as commands
 use Rattle.dmlw_script.specs.declared.command.Step.{Step}
 use Rattle.dmlw_script.specs.declared.command.Step.TheVariants as steps
+use Rattle.dmlw_script.specs.declared.command.DiskName.{DiskName}
+use Rattle.dmlw_script.specs.declared.command.DiskName.TheVariants as disks
 use Rattle.dmlw_script.specs.declared.script_id.ScriptId.{ScriptId}
-use Rattle.dmlw_script.specs.Plans.{is_submission, name_at, step_answer, submission_answer}
-use Rattle.dmlw_script.specs.Plans.{HasLineText}
-use Rattle.recorder.specs.declared.recorder.Recorder.{Recorder}
-use Rattle.recorder.specs.declared.reply.Reply.{Reply}
-use Rattle.recorder.specs.declared.reply.Reply.TheVariants as replies
-use Rattle.recorder.specs.Calls.{Turns, Closes, Completes, Drains, Marks, Submits, last_turn}
-use Rattle.recorder.specs.Growth.{RecorderFrame}
-use Rattle.recorder.specs.Fields.{core_of, recorder_view}
-use Rattle.log_store.specs.Calls.{Same}
-use Rattle.dmlw_script.specs.Plans.{time_at}
+use Rattle.dmlw_script.specs.Plans.{HasLineText, is_submission, name_at, step_answer}
+use Rattle.dmlw_script.specs.Plans.{submission_answer, time_at}
+use Rattle.dmlw_script.specs.Words.{byte_text, letters_of}
 use Rattle.script_runner.specs.declared.request.Request.{Request}
 use Rattle.script_runner.specs.declared.request.Request.TheVariants as requests
 use Rattle.script_runner.specs.declared.running.Running.{Running}
 use Rattle.script_runner.specs.declared.step_error.StepError.{StepError}
 use Rattle.script_runner.specs.declared.step_error.StepError.TheVariants.{AtLine, Whole}
-use Rattle.refusals.specs.Errors.{IsFileError}
-use Rattle.script_runner.specs.HandOver.{ReadsSectors, PassesRequest}
 use Rattle.script_runner.specs.Submissions.{bio_of, is_asked}
-use Rattle.script_runner.specs.Texts.{mark_failed, read_line, outcome_line}
+
+-- `does old call now answer new`: if a device in the state `old` gets `call` at the time `now`, it
+-- can answer `answer` and change to the state `new`.
+abbrev pub Deeds : Type 0 → Type 1
+Deeds D = D → Call → ℕ → Result ℕ DevError → D → Type 0
+
+-- The device flushes. If the flush succeeds, the device then does `call`. `answer` is the answer to
+-- the last of these calls.
+abbrev pub FlushesFirst : {D : Type 0} → Deeds D → ℕ → Call → Result ℕ DevError → D → D → Type 0
+FlushesFirst {D} does now call answer old new =
+    ((error : DevError) × (answer ≡ Err error) × does old Flushes now answer new)
+    ⊎ ((mid : D) × (end : ℕ) × does old Flushes now (Ok end) mid × does mid call now answer new)
+
+-- A request is passed to the device at the time `now`, and `answer` is its result. A write with
+-- flush is passed as a flush, and then as a write if the flush succeeds. A read makes no call, and
+-- its result is Ok.
+abbrev pub PassesRequest : {D : Type 0} → Deeds D → ℕ → Bio → Result ℕ DevError → D → D → Type 0
+PassesRequest does now (bios.Write first bytes true fua meta) answer old new =
+    FlushesFirst does now (Writes first bytes fua) answer old new
+PassesRequest does now (bios.Write first bytes false fua meta) answer old new =
+    does old (Writes first bytes fua) now answer new
+PassesRequest does now bios.Flush answer old new = does old Flushes now answer new
+PassesRequest does now (bios.Discard first count) answer old new =
+    does old (Discards first count) now answer new
+PassesRequest does now (bios.Read first count) answer old new = (answer ≡ Ok now) × (new ≡ old)
+
+-- `count` sectors from sector `first` on were read. Some has their bytes. None means that nothing
+-- was read. Either memory for the bytes ran out, and the device wasn't called; or the device failed
+-- the read.
+abbrev pub ReadsSectors : {D : Type 0} → Deeds D → ℕ → ℕ → ℕ → Option (List ℕ) → D → D → Type 0
+ReadsSectors does now first count (Some bytes) old new =
+    (before : List ℕ) × (end : ℕ) × (length before ≡ count * 512)
+    × does old (Reads first before bytes) now (Ok end) new
+ReadsSectors does now first count None old new = (new ≡ old)
+    ⊎ ((before after : List ℕ) × (error : DevError) × (length before ≡ count * 512)
+    × does old (Reads first before after) now (Err error) new)
+
+-- The word for a request's result: whether it succeeded.
+abbrev pub outcome_word : Bool → List ℕ
+outcome_word true = codes "ok"
+outcome_word false = codes "failed"
+
+-- The line that says how the request `name` ended.
+abbrev pub outcome_line : ScriptId → Bool → List ℕ
+outcome_line name ok = letters_of name ++ codes " " ++ outcome_word ok ++ codes "\n"
+
+-- The first byte of each of `count` sectors, as two hexadecimal digits.
+abbrev pub first_bytes : ℕ → List ℕ → List ℕ
+first_bytes count bytes =
+    collect (λ sector. byte_text (slice_index_or bytes (sector * 512) 0)) count
+
+-- How the line of a read ends: `ok` and the first byte of each sector, or `failed` if nothing was
+-- read.
+abbrev pub read_outcome : ℕ → Option (List ℕ) → List ℕ
+read_outcome count (Some bytes) = codes "ok " ++ first_bytes count bytes
+read_outcome count None = codes "failed"
+
+-- The line that a read prints.
+abbrev pub read_line : ℕ → ℕ → Option (List ℕ) → List ℕ
+read_line first count bytes =
+    codes "read " ++ decimal first ++ codes "+" ++ decimal count ++ codes " "
+    ++ read_outcome count bytes ++ codes "\n"
+
+-- The line that a mark prints if memory ran out for it.
+abbrev pub mark_failed : List ℕ
+mark_failed = codes "mark failed\n"
 
 -- The recorder's reply to a submission that it doesn't refuse. With an id, it tracks the request by
 -- this id. With None, it passes the request.

@@ -1,25 +1,34 @@
 -- What the lines of a script do together.
-use Rattle.std.specs.Prelude.{◌≡◌, ◌+◌, ℕ, List, [], ◌∷◌, ◌++◌, Option, length}
+use Rattle.std.specs.Prelude.{◌≡◌, false, None, ◌+◌, ℕ, List, [], ◌∷◌, Some, slice_get, ◌++◌}
+use Rattle.std.specs.Prelude.{Option, length}
 use Rattle.std.specs.Io.KnownBytes.{Appends}
+use Rattle.refusals.specs.declared.refusal.Refusal.{Refusal}
+use Rattle.refusals.specs.declared.run_error.RunError.{RunError}
+use Rattle.refusals.specs.declared.run_error.RunError.TheVariants.{Refused}
+use Rattle.refusals.specs.Errors.{IsFileError}
+use Rattle.bio.specs.declared.event.CoreEvent.TheVariants as core_events
+use Rattle.bio.specs.declared.request.Bio.{Bio}
+use Rattle.bio.specs.Events.{has_no_close}
 use Rattle.blockdev.specs.declared.device.BlockDev.{Ghosts}
 use Rattle.blockdev.specs.declared.message.MessageError.{MessageError}
 use Rattle.blockdev.specs.Messages.{message_refusal}
-use Rattle.dmlw_script.specs.declared.disk_name.DiskName.{DiskName}
-use Rattle.refusals.specs.declared.refusal.Refusal.{Refusal}
+use Rattle.recorder.specs.Calls.{Closes, core_of}
+use Rattle.recorder.specs.declared.recorder.Recorder.{Recorder}
+use Rattle.recorder.specs.declared.reply.Reply.TheVariants as replies
+use Rattle.recorder.specs.RecorderView.{log_of}
 use Rattle.dmlw_script.specs.declared.command.Command.{Command}
 use Rattle.dmlw_script.specs.declared.command.Command.TheVariants as commands
 use Rattle.dmlw_script.specs.declared.command.Step.TheVariants as steps
+use Rattle.dmlw_script.specs.declared.command.Submission.{Submission}
+use Rattle.dmlw_script.specs.declared.command.DiskName.{DiskName}
 use Rattle.dmlw_script.specs.declared.script_id.ScriptId.{ScriptId}
-use Rattle.dmlw_script.specs.Lines.{command_line}
+use Rattle.dmlw_script.specs.Words.{command_line}
 use Rattle.dmlw_script.specs.Plans.{head_count, ScriptValue}
-use Rattle.recorder.specs.declared.recorder.Recorder.{Recorder}
-use Rattle.recorder.specs.declared.reply.Reply.TheVariants as replies
-use Rattle.recorder.specs.Calls.{Closes}
-use Rattle.refusals.specs.declared.run_error.RunError.{RunError}
-use Rattle.refusals.specs.declared.run_error.RunError.TheVariants.{Refused}
+use Rattle.script_runner.specs.declared.request.Request.{Request}
+use Rattle.script_runner.specs.declared.request.Request.TheVariants as requests
 use Rattle.script_runner.specs.declared.running.Running.{Running}
-use Rattle.refusals.specs.Errors.{IsFileError}
 use Rattle.script_runner.specs.Lines.{Answering, RefusesMessage, RunsLine}
+use Rattle.script_runner.specs.Submissions.{bio_of}
 
 -- Steps, one for each element of a list, lead from the state `old` to the state `new`. `text` is
 -- all that they print.
@@ -89,3 +98,32 @@ pub data EndsRun {D L : Type 0} {d : Ghosts D} {l : Ghosts L} (m : Answering D L
         refusal = message_refusal error;
       }))
   file : (fault : RunError) → IsFileError fault → EndsRun m text plan before after old fault
+
+-- Which events of the recorder belong to the requests of a script's run.
+
+-- If the recorder tracks a request by an id, the event at this id is the request's Submit.
+abbrev pub TrackedAreRecorded : {D L : Type 0} {d : Ghosts D} {l : Ghosts L} → Running D L d l → Type 0
+TrackedAreRecorded run =
+    (place : ℕ) (bio : Bio) (id : ℕ)
+    → slice_get run.requests.items place ≡ Some (requests.Asked bio (Some id))
+    → slice_get (core_of run.recorder).events id ≡ Some (core_events.Submit bio)
+
+-- If the request was submitted, it is the request of this submission.
+abbrev pub IsRequestOf : Submission → Request → Type 0
+IsRequestOf submission (requests.Asked bio id) = bio ≡ bio_of submission
+IsRequestOf submission requests.NotAsked = Unit {0}
+
+-- The submissions of the lines, in their order.
+abbrev pub submissions_of : List Command → List Submission
+submissions_of [] = []
+submissions_of (commands.Submit submission ∷ body) = submission ∷ submissions_of body
+submissions_of (commands.Complete request ∷ body) = submissions_of body
+submissions_of (commands.Step step ∷ body) = submissions_of body
+
+-- When the log of a script's run is complete.
+
+-- If recording is closed and logging hasn't ended, the store has placed the whole completion list.
+abbrev pub IsWritten : {L : Type 0} {l : Ghosts L} → Recorder L l → Type 0
+IsWritten recorder =
+    has_no_close (core_of recorder).events ≡ false → recorder.end ≡ None
+    → recorder.store.placed ≡ length (log_of (core_of recorder))

@@ -1,8 +1,9 @@
 -- Which request a line of a script submits.
-use Rattle.std.specs.Prelude.{ℕ, ◌*◌, Bool, true, false, is_ok, replicate}
+use Rattle.std.specs.Prelude.{◌≡◌, ◌<◌, ◌≤◌, ℕ, [], Some, List, get_or, length, ◌*◌, Bool, true}
+use Rattle.std.specs.Prelude.{false, is_ok, replicate, slice_get}
 use Rattle.bio.specs.declared.request.Bio.{Bio}
 use Rattle.bio.specs.declared.request.Bio.TheVariants as bios
-use Rattle.bio.specs.Check.{check_answer}
+use Rattle.bio.specs.Requests.{check_answer}
 use Rattle.dmlw_script.specs.declared.command.Submission.{Submission}
 use Rattle.dmlw_script.specs.declared.command.Submission.TheVariants as submits
 use Rattle.script_runner.specs.declared.request.Request.{Request}
@@ -24,3 +25,16 @@ fits_device sectors requests.NotAsked = true
 abbrev pub is_asked : Request → Bool
 is_asked (requests.Asked bio id) = true
 is_asked requests.NotAsked = false
+
+-- The data that the writes of a script share.
+
+-- Each byte of row n is n.
+abbrev pub AreFilled : List (List ℕ) → Type 0
+AreFilled rows =
+    (byte : ℕ) (bytes : List ℕ) → slice_get rows byte ≡ Some bytes
+    → bytes ≡ replicate (length bytes) byte
+
+-- The row of the byte `byte` has at least `least` bytes.
+pub record HasRow (least byte : ℕ) (rows : List (List ℕ)) : Type 0 where
+  pub within : byte < length rows
+  pub long : least ≤ length (get_or rows byte [])

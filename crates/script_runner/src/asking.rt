@@ -2,7 +2,7 @@
 ghost use Rattle.std.specs.Prelude.{◌≡◌, Ok};
 ghost use Rattle.dmlw_script.specs.Plans.{submission_answer};
 ghost use Rattle.recorder.specs.Growth.{RecorderFrame};
-ghost use Rattle.recorder.specs.Fields.{core_of, recorder_view};
+ghost use Rattle.recorder.specs.Calls.{core_of, recorder_view};
 ghost use Rattle.script_runner.specs.Lines.{Asks, RecordsEnd};
 ghost use Rattle.script_runner.specs.Submissions.{bio_of};
 

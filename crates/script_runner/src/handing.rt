@@ -1,8 +1,8 @@
 //! Passes a script's requests to the data device.
 ghost use Rattle.std.specs.Prelude.{◌≡◌, ◌*◌, IfSome, Ok, option_map, IsTrue, is_ok, length};
-ghost use Rattle.bio.specs.Check.{check_answer, range_answer};
-ghost use Rattle.blockdev.specs.Calls.{Flushes, IsByteRange, Writes};
-ghost use Rattle.script_runner.specs.HandOver.{PassesRequest, ReadsSectors};
+ghost use Rattle.bio.specs.Requests.{check_answer, range_answer};
+ghost use Rattle.blockdev.specs.View.{Flushes, IsByteRange, Writes};
+ghost use Rattle.script_runner.specs.Lines.{PassesRequest, ReadsSectors};
 
 use bio::{Bio, DevError, Ms, SECTOR_BYTES};
 use blockdev::BlockDev;

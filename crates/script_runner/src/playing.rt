@@ -1,13 +1,13 @@
 //! Runs a script on two disks in memory, each under its layers, with a new log.
 ghost use Rattle.std.specs.Prelude.{◌≡◌, ◌≤◌, ◌/◌, ◌⊎◌, IfErr, IfOk};
-ghost use Rattle.bio.specs.Sizes.{bytes_of};
+ghost use Rattle.bio.specs.Requests.{bytes_of};
 ghost use Rattle.dmlw_script.specs.Plans.{IsDisk, top_of};
 ghost use Rattle.layer_table.specs.StackMessages.{StackAnswers};
 ghost use Rattle.refusals.specs.Errors.{memory_error};
-ghost use Rattle.script_runner.specs.NewRecorder.{IsNewOn, IsUnmadeOn};
+ghost use Rattle.script_runner.specs.DiskRun.{FailsOnDisks, IsNewOn, IsStackOf, IsUnmadeOn, Starts};
+ghost use Rattle.script_runner.specs.DiskRun.{stack_answering};
 ghost use Rattle.script_runner.specs.Lines.{answering};
-ghost use Rattle.script_runner.specs.DiskRun.{FailsOnDisks, IsStackOf, Starts, stack_answering};
-ghost use Rattle.script_runner.specs.inside.Play.{FailsPlaying, IsPlayed, StartsOnStack, StartsOn};
+ghost use Rattle.script_runner.specs.inside.{FailsPlaying, IsPlayed, StartsOnStack, StartsOn};
 
 use crate::run_script::run;
 use crate::running::Running;

@@ -4,9 +4,9 @@ ghost use Rattle.std.specs.List.{AllByRecursion};
 ghost use Rattle.std.specs.Io.KnownBytes.{Appends};
 ghost use Rattle.dmlw_script.specs.Plans.{IsName, name_at};
 ghost use Rattle.dmlw_script.specs.Words.{hex_digit};
-ghost use Rattle.script_runner.specs.Lines.{StopsForFile, submission_text};
-ghost use Rattle.script_runner.specs.inside.Replies.{mark_outcome};
-ghost use Rattle.script_runner.specs.Texts.{first_bytes, outcome_line, outcome_word, read_line};
+ghost use Rattle.script_runner.specs.Lines.{StopsForFile, first_bytes, outcome_line, outcome_word};
+ghost use Rattle.script_runner.specs.Lines.{read_line, submission_text};
+ghost use Rattle.script_runner.specs.inside.{mark_outcome};
 
 use crate::request::Request;
 use crate::step_error::StepError;

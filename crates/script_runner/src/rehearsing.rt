@@ -1,11 +1,11 @@
 //! Runs a script to get only the recorder's events, which the command `judge` needs.
 ghost use Rattle.std.specs.Prelude.{◌≡◌, ◌&&◌, IfErr, IfOk, false, not, true};
 ghost use Rattle.std.specs.List.{list_any};
-ghost use Rattle.bio.specs.Lawful.{all_aligned, is_lawful};
-ghost use Rattle.bio.specs.Sizes.{bytes_of};
+ghost use Rattle.bio.specs.Events.{all_aligned, is_lawful};
+ghost use Rattle.bio.specs.Requests.{bytes_of};
 ghost use Rattle.dmlw_script.specs.Plans.{top_of};
 ghost use Rattle.refusals.specs.Errors.{memory_error};
-ghost use Rattle.script_runner.specs.Rehearsals.{FailsRehearsal, IsRehearsed, is_memory_stop};
+ghost use Rattle.script_runner.specs.DiskRun.{FailsRehearsal, IsRehearsed, is_memory_stop};
 
 use crate::laws::lines_go_as_one_call;
 use crate::playing::play_on_disks;
@@ -31,7 +31,7 @@ impl Model for Rehearsed {
 
     ghost Value = { List CoreEvent };
 
-    ghost use Rattle.recorder.specs.Fields.{core_of};
+    ghost use Rattle.recorder.specs.Calls.{core_of};
 
     ghost view = { λ rehearsed. (core_of rehearsed.recorder).events };
 }

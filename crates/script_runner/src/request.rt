@@ -1,8 +1,7 @@
 //! The requests of a run, and what became of each at its submission.
 ghost use Rattle.std.specs.Prelude.{◌≡◌, IfOk, IsOk, Ok, false, ℕ};
 ghost use Rattle.std.specs.List.{list_all};
-ghost use Rattle.bio.specs.Check.{check_sized_answer};
-ghost use Rattle.bio.specs.Requests.{has_data};
+ghost use Rattle.bio.specs.Requests.{check_sized_answer, has_data};
 ghost use Rattle.dmlw_script.specs.Plans.{submission_answer};
 ghost use Rattle.script_runner.specs.Submissions.{bio_of, is_asked};
 
@@ -21,7 +20,7 @@ pub enum Request {
 }
 
 /// Returns the request that a line submits. Writes of the same byte share their data.
-#[tactic(auto, using(crate::proofs::SubmitLines::bio_suits))]
+#[tactic(auto, using(crate::proofs::LawfulRuns::bio_suits))]
 pub fn bio_of(data: &mut WriteData, submission: Submission) -> Result<Bio, AllocError>
     requires { (bytes sectors : ℕ) × (submission_answer bytes sectors submission ≡ Ok tt) }
     ensures made { IfOk result (λ bio. bio ≡ bio_of submission) }

@@ -1,7 +1,7 @@
 //! Runs the lines of a script, up to the first line that is refused.
-ghost use Rattle.bio.specs.Sizes.{bytes_of};
+ghost use Rattle.bio.specs.Requests.{bytes_of};
 ghost use Rattle.dmlw_script.specs.Plans.{top_of};
-ghost use Rattle.recorder.specs.Fields.{core_of};
+ghost use Rattle.recorder.specs.Calls.{core_of};
 ghost use Rattle.std.specs.Prelude.{◌≡◌, IfErr, OnOk, []};
 ghost use Rattle.script_runner.specs.Lines.{answering};
 ghost use Rattle.script_runner.specs.Runs.{EndsRun, PrintsLines};

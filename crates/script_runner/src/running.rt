@@ -91,22 +91,21 @@ impl<D: Message + Drop, L: Message + Drop> Running<D, L> {
     ghost use Rattle.std.specs.Prelude.{true, ℕ};
     ghost use Rattle.std.specs.List.{AllByRecursion};
     ghost use Rattle.std.specs.Io.KnownBytes.{Appends};
-    ghost use Rattle.bio.specs.Check.{range_answer};
+    ghost use Rattle.bio.specs.Requests.{range_answer};
     ghost use Rattle.blockdev.specs.declared.message.MessageError.{MessageError};
     ghost use Rattle.blockdev.specs.Messages.{message_refusal};
-    ghost use Rattle.dmlw_script.specs.Lines.{is_line_text};
+    ghost use Rattle.dmlw_script.specs.Words.{is_line_text};
     ghost use Rattle.dmlw_script.specs.Plans.{HasName, IsName, submission_answer};
     ghost use Rattle.recorder.specs.declared.reply.Reply.TheVariants as replies;
-    ghost use Rattle.recorder.specs.Calls.{Closes};
+    ghost use Rattle.recorder.specs.Calls.{Closes, core_of, recorder_view};
     ghost use Rattle.recorder.specs.Growth.{RecorderFrame};
-    ghost use Rattle.recorder.specs.Fields.{core_of, recorder_view};
     ghost use Rattle.script_runner.specs.declared.step_error.StepError.TheVariants.{AtLine};
     ghost use Rattle.script_runner.specs.Lines.{EndsRecording, EndsSubmitted, FitsDevice};
     ghost use Rattle.script_runner.specs.Lines.{GivesTurn, HasScriptText, PrintsLine, ReadsData};
     ghost use Rattle.script_runner.specs.Lines.{RefusesMessage, SetsTime, StopsForFile};
     ghost use Rattle.script_runner.specs.Lines.{StopsLine, SendsToLayer, RecordsMark, answering};
     ghost use Rattle.script_runner.specs.Lines.{count_of};
-    ghost use Rattle.script_runner.specs.inside.Steps.{StepKeeps};
+    ghost use Rattle.script_runner.specs.inside.{StepKeeps};
 
     // Submits the next request, and prints that it failed if memory ran out.
     fn submit<O: Write>(

@@ -2,16 +2,15 @@
 //! recorder.
 ghost use Rattle.std.specs.Prelude.{◌≡◌, ◌<◌, IfErr, IfOk, length, map};
 ghost use Rattle.lock_state.specs.PlacedItems.{ground_of};
-ghost use Rattle.script_runner.specs.Tallies.{joined};
+ghost use Rattle.script_runner.specs.SeatRuns.{FailsRun, IsClosed, IsRun, IsUnclosed, joined};
 ghost use Rattle.dmlw_script.specs.RunPlans.{IsRunPlan};
 ghost use Rattle.layer_table.specs.Layers.{disk_of, stack_shown};
 ghost use Rattle.refusals.specs.declared.run_error.RunError.TheVariants.{LoggingEnded};
 ghost use Rattle.script_runner.specs.DiskRun.{IsStackOf};
 ghost use Rattle.sector_disk.specs.DiskView.{shown_of};
 ghost use Rattle.bio.specs.Content.{gather};
-ghost use Rattle.script_runner.specs.inside.SeatWork.{AreNewPlayers, FitsRecorder};
-ghost use Rattle.script_runner.specs.SeatRuns.{FailsRun, IsClosed, IsRun, IsUnclosed};
-ghost use Rattle.shared.specs.Seats.{AreNewSeats};
+ghost use Rattle.script_runner.specs.inside.{AreNewPlayers, FitsRecorder};
+ghost use Rattle.shared.specs.Close.{AreNewSeats};
 
 use crate::playing::new_stack;
 use crate::recording::Lies;

@@ -1,8 +1,7 @@
 //! The threads of a run: one for each seat, and one that writes the log.
 ghost use Rattle.std.specs.Prelude.{◌≡◌, ◌⊎◌, IfErr, IfOk};
 ghost use Rattle.refusals.specs.declared.refusal.Refusal.TheVariants as refusals;
-ghost use Rattle.script_runner.specs.inside.SeatWork.{AreNewPlayers, DoesLines, FitsRecorder};
-ghost use Rattle.script_runner.specs.inside.SeatWork.{HavePlayed};
+ghost use Rattle.script_runner.specs.inside.{AreNewPlayers, DoesLines, FitsRecorder, HavePlayed};
 ghost use Rattle.script_runner.specs.SeatRuns.{IsUnplayed};
 
 use crate::seat_work::Work;

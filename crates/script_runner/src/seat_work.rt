@@ -1,12 +1,12 @@
 //! The calls that a thread makes at its seat.
 ghost use Rattle.std.specs.Prelude.{◌≡◌, ◌==◌, ◌<◌, Ok, true, vec_capacity, vec_len};
-ghost use Rattle.dmlw_script.specs.declared.seat_call.Call.TheVariants.{Mark, Submit};
+ghost use Rattle.dmlw_script.specs.declared.run_line.Call.TheVariants.{Mark, Submit};
 ghost use Rattle.dmlw_script.specs.Plans.{submission_answer};
-ghost use Rattle.dmlw_script.specs.Lines.{is_line_text};
+ghost use Rattle.dmlw_script.specs.Words.{is_line_text};
 ghost use Rattle.lock_state.specs.History.{new_part};
-ghost use Rattle.script_runner.specs.inside.SeatWork.{CanMake, DoesLine, DoesLines, FitsRecorder};
-ghost use Rattle.script_runner.specs.inside.SeatWork.{Makes, new_player};
-ghost use Rattle.script_runner.specs.Tallies.{and_kept, mark_receipt_in, receipt_in};
+ghost use Rattle.script_runner.specs.inside.{CanMake, DoesLine, DoesLines, FitsRecorder, Makes};
+ghost use Rattle.script_runner.specs.inside.{new_player};
+ghost use Rattle.script_runner.specs.SeatRuns.{and_kept, mark_receipt_in, receipt_in};
 
 use crate::request::bio_of;
 use crate::tally::{Outcome, Tally};
@@ -34,7 +34,7 @@ pub struct Work<R: Run + Names> {
 }
 
 impl<R: Run + Names> Model for Work<R> {
-    ghost use Rattle.script_runner.specs.inside.SeatWork.{Player};
+    ghost use Rattle.script_runner.specs.inside.{Player};
 
     ghost Value = { Player };
 

@@ -1,6 +1,7 @@
 //! The outcomes of a seat's calls, and their counts.
 ghost use Rattle.std.specs.Prelude.{◌≡◌, ◌+◌, ◌-◌, ◌^◌, ◌<◌, ◌≤◌};
-ghost use Rattle.script_runner.specs.Tallies.{HasRoom, counted, mark_outcome, no_calls, outcome_of};
+ghost use Rattle.script_runner.specs.SeatRuns.{HasRoom, counted, mark_outcome, no_calls};
+ghost use Rattle.script_runner.specs.SeatRuns.{outcome_of};
 
 use lock_state::{Receipt, Run};
 use shared::{Answer, MarkAnswer};

@@ -1,7 +1,7 @@
 // The data of a script's writes. All bytes of a write are the same, and writes of the same byte
 // share their data.
 ghost use Rattle.std.specs.Prelude.{◌≡◌, ◌≤◌, IfOk, OnErr, OnOk, length, replicate};
-ghost use Rattle.script_runner.specs.inside.WriteData.{AreFilled, HasRow};
+ghost use Rattle.script_runner.specs.Submissions.{AreFilled, HasRow};
 
 use bio::{Bytes, SECTOR_BYTES};
 use std::alloc::{AllocError, Global};

@@ -14,13 +14,12 @@ use Rattle.sector_disk.specs.declared.call.Call.{Call}
 use Rattle.sector_disk.specs.declared.call.Change.{Change}
 use Rattle.sector_disk.specs.declared.call.Change.TheVariants.{Write, Image, Discard}
 use Rattle.sector_disk.specs.Candidates.{Cache, Puts, Step, cache_after, candidates_after}
-use Rattle.sector_disk.specs.inside.CallTable.{IsFilled, count_of}
-use Rattle.sector_disk.specs.inside.Storage.{AreWithin, ArePlaced, IsKept, IsPlaced, back}
-use Rattle.sector_disk.specs.inside.Storage.{before_at, before_in, cache_of, change_values}
-use Rattle.sector_disk.specs.inside.Storage.{content_at, flushed_if, is_chain, is_open, is_plain}
-use Rattle.sector_disk.specs.inside.Storage.{is_table, past_of, place_of, step_after, steps_of}
-use Rattle.sector_disk.specs.inside.Storage.{value_at, values_of}
-use Rattle.sector_disk.proofs.Chains.{chain-within}
+use Rattle.sector_disk.specs.inside.Storage.{value_at, values_of, is_table, past_of, place_of}
+use Rattle.sector_disk.specs.inside.Storage.{step_after, steps_of, content_at, flushed_if, is_chain}
+use Rattle.sector_disk.specs.inside.Storage.{is_open, is_plain, before_at, before_in, cache_of}
+use Rattle.sector_disk.specs.inside.Storage.{change_values, AreWithin, ArePlaced, IsKept, IsPlaced}
+use Rattle.sector_disk.specs.inside.Storage.{back, IsFilled, count_of}
+use Rattle.sector_disk.proofs.ImageBack.{chain-within}
 
 -- equal functions
 pub same_content : (c d : Content) → ((s : ℕ) → c s ≡ d s) → c ≡ d

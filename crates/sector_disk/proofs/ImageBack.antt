@@ -1,20 +1,27 @@
--- The image that a disk returns: that of its first call, and over it the values of later calls.
-use Rattle.std.proofs.Common.{◌≡◌, ℕ, suc, zero, ◌+◌, ◌-◌, ◌*◌, ◌/◌, ◌<◌, ◌≤◌, ◌&&◌, Bool, false}
-use Rattle.std.proofs.Common.{true, get_or, List, [], ◌∷◌, ◌++◌, length, take, drop}
-use Rattle.std.proofs.Common.{replicate, ap, refl, sym, ◌∙◌, arith}
-use Rattle.std.specs.Prelude.{◌==◌, Option, slice_get, unwrap_or}
-use borrow.Rule.Slice.PartMut.{put_mid}
-use Rattle.std.proofs.Math.Seq.{take-add}
-use Rattle.std.proofs.lemmas.Bool.{eqb-true}
+-- The values of sectors after calls, and the image that a disk returns.
+use Rattle.std.proofs.Common.{◌/◌, ◌<◌, ◌≤◌, Some, None, ◌&&◌, Bool, false, [], ◌∷◌, ◌++◌, length}
+use Rattle.std.proofs.Common.{take, drop, ◌≡◌, ℕ, suc, zero, ◌+◌, ◌-◌, ◌*◌, replicate, ap, refl}
+use Rattle.std.proofs.Common.{sym, ◌∙◌, inl, inr, arith, true, get_or, List}
+use Rattle.std.specs.Prelude.{nat_lt, ◌⊎◌, ◌==◌, Option, slice_get, unwrap_or}
+use Rattle.std.proofs.lemmas.Bool.{and_parts, cases_lt, eqb-true, ltb-true}
 use Rattle.std.proofs.lemmas.List.{drop-drop, take_all}
-use Rattle.std.proofs.lemmas.Slice.{drop-put_mid}
-use Rattle.bio.specs.Content.{Content, gather, sector_of, writes}
-use Rattle.bio.specs.ContentLaws.{over-in}
-use Rattle.bio.specs.SectorLaws.{gather-ext}
+use Rattle.std.proofs.lemmas.Slice.{drop-put_mid, take-put_mid}
+use Rattle.std.proofs.Math.Seq.{take-add}
+use borrow.Rule.Slice.PartMut.{put_mid}
+use Rattle.bio.specs.Content.{Content, HasWholeValues, discards, gather, over, sector_of, writes}
+use Rattle.bio.specs.ContentLaws.{over_cases, discards-whole, writes-whole, over-after, over-before}
+use Rattle.bio.specs.ContentLaws.{gather-ext, over-in}
+use Rattle.bio.specs.PlaceLaws.{last_or_below, length-snoc, slice_get-append_front}
+use Rattle.bio.specs.PlaceLaws.{slice_get-append_here}
 use Rattle.sector_disk.specs.declared.call.Call.{Call}
-use Rattle.sector_disk.specs.declared.call.Change.TheVariants.{Write}
-use Rattle.sector_disk.specs.inside.Overlay.{is_image_in, is_write_of, left_at, put_over}
-use Rattle.sector_disk.specs.inside.Storage.{content_at, place_of, value_at}
+use Rattle.sector_disk.specs.declared.call.Change.{Change}
+use Rattle.sector_disk.specs.declared.call.Change.TheVariants.{Write, Image, Discard}
+use Rattle.sector_disk.specs.inside.Storage.{IsPlaced, back, before_at, change_values, content_at}
+use Rattle.sector_disk.specs.inside.Storage.{is_chain, is_image_in, is_open, is_write_of, left_at}
+use Rattle.sector_disk.specs.inside.Storage.{place_of, put_over, value_at, value_in, values_of}
+use Rattle.sector_disk.specs.inside.Storage.{walk}
+
+-- The image that a disk returns: that of its first call, and over it the values of later calls.
 
 -- a write from the first sector on leaves its bytes
 pub written_whole : (bytes : List ℕ) (sector : ℕ) → sector < length bytes / 512
@@ -107,3 +114,152 @@ given (call ∷ later) places sectors first bytes image at is same covers =
     each zero sector within =
         grind (arith, size_is, zero_is, change_is, written_whole)
     each (suc place) sector within = grind (arith, take_all)
+
+-- The values of sectors after a write or a discard, and the bytes of sectors that are read in turn.
+
+-- a sector before or after a write's range has no bytes of it
+pub written-none : (first sector : ℕ) (bytes : List ℕ)
+    → (sector < first) ⊎ (length bytes / 512 ≤ sector - first) → writes first bytes sector ≡ None
+written-none first sector bytes outside = elim outside [
+  | inl before ↦ over-before first (length bytes / 512) (sector_of bytes) sector before
+  | inr after ↦ early after
+]
+  where
+    early : length bytes / 512 ≤ sector - first → writes first bytes sector ≡ None
+    early after = grind (arith, cases_lt, over-before, over-after)
+
+-- a sector within it has its part
+pub written-some : (first sector : ℕ) (bytes : List ℕ) → first ≤ sector
+    → sector - first < length bytes / 512
+    → writes first bytes sector ≡ Some (take 512 (drop ((sector - first) * 512) bytes))
+written-some first sector bytes low high =
+    let place : sector ≡ first + (sector - first) = omega arith in
+    let from : 512 * (sector - first) ≡ (sector - first) * 512 = omega arith in
+    ap (over first (length bytes / 512) (sector_of bytes)) place
+    ∙ over-in first (length bytes / 512) (sector_of bytes) (sector - first) high
+    ∙ ap (λ (n : ℕ). Some (take 512 (drop n bytes))) from
+
+-- a discard leaves zeroes, where it has no value too
+pub discarded : (first count sector : ℕ)
+    → unwrap_or (discards first count sector) (replicate 512 0) ≡ replicate 512 0
+discarded first count sector = grind (arith, over_cases, over-in)
+
+-- the next sector that is read comes after those before it
+pub gather-next : (content : Content) (first index : ℕ) (old new value : List ℕ)
+    → 512 * (index + 1) ≤ length old → length value ≡ 512
+    → new ≡ put_mid (index * 512) (index * 512 + 512 - index * 512) old value
+    → value ≡ content (first + index)
+    → take (512 * index) old ≡ gather content first index
+    → take (512 * (index + 1)) new ≡ gather content first (index + 1)
+gather-next content first index old new value within size is read earlier =
+    grind (arith, take-put_mid)
+
+-- each value of a call is a whole sector
+pub length-value_at : (calls : List Call) (place sector : ℕ)
+    → length (value_at calls place sector) ≡ 512
+length-value_at calls place sector = at (slice_get calls place)
+  where
+    values : (call : Call) → HasWholeValues (values_of call)
+    values call = by_change call.first call.change
+      where
+        by_change : (from : ℕ) (change : Change) → HasWholeValues (change_values from change)
+        by_change from (Write bytes) = writes-whole from bytes
+        by_change from (Image bytes) = writes-whole from bytes
+        by_change from (Discard count) = discards-whole from count
+
+    there : (o : Option (List ℕ)) → ((x : List ℕ) → o ≡ Some x → length x ≡ 512)
+        → length (unwrap_or o (replicate 512 0)) ≡ 512
+    there None whole = refl
+    there (Some x) whole = whole x refl
+
+    at : (o : Option Call) → length (value_in o sector) ≡ 512
+    at None = refl
+    at (Some call) = there (values_of call sector) (values call sector)
+
+-- Laws of the chain of a sector's calls, from its newest back to the durable one.
+
+-- the parts of a chain of several
+chain_parts : (calls : List Call) (synced s n place : ℕ)
+    → is_chain calls synced s (suc (suc n)) place ≡ true
+    → (nat_lt place (length calls) ≡ true) × (is_open calls synced place ≡ true)
+    × (is_chain calls synced s (suc n) (before_at calls place s) ≡ true)
+chain_parts calls synced s n place e = grind (arith, and_parts)
+
+-- a chain begins within the calls
+pub chain-within : (calls : List Call) (synced s n place : ℕ)
+    → is_chain calls synced s n place ≡ true → place < length calls
+chain-within calls synced s zero place e = let never : ⊥ = cc in absurd never
+chain-within calls synced s (suc zero) place e = grind (arith, ltb-true, and_parts)
+chain-within calls synced s (suc (suc n)) place e = grind (arith, ltb-true, chain_parts)
+
+-- an open call isn't the last of a chain
+pub chain-open : (calls : List Call) (synced s n place : ℕ) → is_chain calls synced s n place ≡ true
+    → is_open calls synced place ≡ true
+    → (1 < n) × (is_chain calls synced s (n - 1) (before_at calls place s) ≡ true)
+chain-open calls synced s zero place e open_there = let never : ⊥ = cc in absurd never
+chain-open calls synced s (suc zero) place e open_there = grind (arith, and_parts)
+chain-open calls synced s (suc (suc n)) place e open_there =
+    let parts = chain_parts calls synced s n place e in
+    let less : suc (suc n) - 1 ≡ suc n = omega arith in (
+      omega arith,
+      rw less parts.2,
+    )
+
+-- a durable one is
+pub chain-closed : (calls : List Call) (synced s n place : ℕ)
+    → is_chain calls synced s n place ≡ true → is_open calls synced place ≡ false → n ≡ 1
+chain-closed calls synced s zero place e closed = let never : ⊥ = cc in absurd never
+chain-closed calls synced s (suc zero) place e closed = refl
+chain-closed calls synced s (suc (suc n)) place e closed = grind (arith, chain_parts)
+
+-- each call of a chain is within the calls
+pub walk-within : (calls : List Call) (synced s n place k : ℕ)
+    → is_chain calls synced s n place ≡ true → k < n → walk calls s k place < length calls
+walk-within calls synced s n place zero e h = chain-within calls synced s n place e
+walk-within calls synced s zero place (suc k) e h = absurd (omega arith)
+walk-within calls synced s (suc zero) place (suc k) e h = absurd (omega arith)
+walk-within calls synced s (suc (suc n)) place (suc k) e h =
+    walk-within calls synced s (suc n) (before_at calls place s) k
+    (chain_parts calls synced s n place e).2 (omega arith)
+
+-- so many values are that many
+pub length-back : (calls : List Call) (s n place : ℕ) → length (back calls s n place) ≡ n
+length-back calls s zero place = refl
+length-back calls s (suc n) place =
+    grind (arith, length-back calls s n (before_at calls place s), length-snoc)
+
+-- each of them is the value of the call that is so many back
+pub back-at : (calls : List Call) (s n place j : ℕ) → j < n
+    → slice_get (back calls s n place) j ≡ Some (value_at calls (walk calls s (n - 1 - j) place) s)
+back-at calls s zero place j h = absurd (omega arith)
+back-at calls s (suc n) place j h = elim (last_or_below j n h) [
+  | inl last ↦
+      let old = back calls s n (before_at calls place s) in
+      let value = value_at calls place s in
+      let here : j ≡ length old = last ∙ sym (length-back calls s n (before_at calls place s)) in
+      let none : 0 ≡ suc n - 1 - j = omega arith in
+      ap (slice_get (old ++ value ∷ [])) here ∙ slice_get-append_here old value []
+      ∙ ap (λ (k : ℕ). Some (value_at calls (walk calls s k place) s)) none
+  | inr below ↦
+      let old = back calls s n (before_at calls place s) in
+      let value = value_at calls place s in
+      let size = length-back calls s n (before_at calls place s) in
+      let more : suc (n - 1 - j) ≡ suc n - 1 - j = omega arith in
+      slice_get-append_front old (value ∷ []) j (omega arith)
+      ∙ back-at calls s n (before_at calls place s) j below
+      ∙ ap (λ (k : ℕ). Some (value_at calls (walk calls s k place) s)) more
+]
+
+-- a candidate of a sector is the value of the call that is so many back
+pub candidate-value : (calls : List Call) (synced s place : ℕ) (now : List ℕ) (may : List (List ℕ))
+    (j : ℕ)
+    → IsPlaced calls synced s place now may → j < length may
+    → value_at calls (walk calls s (length may - 1 - j) place) s ≡ unwrap_or (slice_get may j) []
+candidate-value calls synced s place now may j placed h = grind (arith, back-at)
+
+-- which is within the calls
+pub candidate-within : (calls : List Call) (synced s place : ℕ) (now : List ℕ) (may : List (List ℕ))
+    (j : ℕ)
+    → IsPlaced calls synced s place now may → j < length may
+    → walk calls s (length may - 1 - j) place < length calls
+candidate-within calls synced s place now may j placed h = grind (arith, walk-within)

@@ -1,19 +1,35 @@
--- Laws of candidates: the view of a disk, which its candidates define, satisfies the law of
--- devices.
-use Rattle.std.proofs.Common.{◌≡◌, ℕ, suc, zero, ◌<◌, ◌≤◌, Bool, true, false, IsTrue, Option, None}
-use Rattle.std.proofs.Common.{Some, List, [], ◌∷◌, length, refl, ap, subst, sym, ◌∙◌, inl, inr}
-use Rattle.std.proofs.Common.{arith}
+-- Laws of candidates, of the picks of a crash, and of the view of a disk.
+use Rattle.std.proofs.Common.{true, false, IsTrue, Option, None, subst, sym, ◌∙◌, inl, inr, ◌≡◌, ℕ}
+use Rattle.std.proofs.Common.{suc, zero, ◌+◌, ◌-◌, ◌<◌, ◌≤◌, Bool, ◌++◌, arith, length-append, Some}
+use Rattle.std.proofs.Common.{List, [], ◌∷◌, length, replicate, refl, ap}
+use Rattle.std.specs.Prelude.{Contains, MatchBool, if◌then◌else◌, ◌⊎◌, nat_lt, slice_get}
+use Rattle.std.specs.Prelude.{slice_index_or, unwrap_or}
 use Rattle.std.proofs.lemmas.Bool.{cases_lt, le-ltb, lt-ltb}
 use Rattle.std.proofs.lemmas.List.Elements.{Contains-append_cases, Contains-append_left}
 use Rattle.std.proofs.lemmas.List.Elements.{Contains-append_right}
-use Rattle.std.specs.Prelude.{◌⊎◌, nat_lt, slice_index_or, unwrap_or, Contains, MatchBool}
+use Rattle.std.proofs.lemmas.Option.{get_or_from_slice_get, slice_get-get_or}
+use Rattle.std.proofs.Math.Nat.{mod-eq_of_lt, mod-lt}
 use Rattle.bio.specs.Content.{Content, HasWholeSectors, HasWholeValues, Patch, nothing}
-use Rattle.bio.specs.ContentLaws.{patched-same, patched-whole, whole-patched}
+use Rattle.bio.specs.ContentLaws.{discards-whole, patched-same, patched-whole, whole-patched}
+use Rattle.bio.specs.ContentLaws.{writes-whole}
+use Rattle.bio.specs.PlaceLaws.{last_or_below, slice_get-append_front, slice_get-append_here}
+use Rattle.bio.specs.PlaceLaws.{slice_get-within}
 use Rattle.blockdev.specs.Law.{AfterPatch, AfterWhole, DeviceFrame, WriteDone, FlushDone}
 use Rattle.blockdev.specs.View.{IsLawful}
 use Rattle.sector_disk.specs.Candidates.{Cache, Flushes, LeftDuring, LeftSince, MayLeave, Puts}
-use Rattle.sector_disk.specs.Candidates.{Step, after_step, cache_after, candidates_after, settled}
-use Rattle.sector_disk.specs.Candidates.{view_of}
+use Rattle.sector_disk.specs.Candidates.{Step, after_step, cache_after, candidates_after, choice_of}
+use Rattle.sector_disk.specs.Candidates.{left_by, settled, unsynced_below, view_of}
+use Rattle.sector_disk.specs.declared.call.Call.{Call}
+use Rattle.sector_disk.specs.declared.call.Change.{Change}
+use Rattle.sector_disk.specs.declared.call.Change.TheVariants.{Write, Image, Discard}
+use Rattle.sector_disk.specs.declared.disk.SectorDisk.{SectorDisk}
+use Rattle.sector_disk.specs.DiskView.{shown_of, start_of}
+use Rattle.sector_disk.specs.DiskView as shown
+use Rattle.sector_disk.specs.inside.Storage.{change_values, flushed_if, step_after, steps_of}
+use Rattle.sector_disk.specs.inside.Storage.{value_at, value_in, values_of}
+
+-- Laws of candidates: the view of a disk, which its candidates define, satisfies the law of
+-- devices.
 
 -- A list of one element contains this element and no other.
 pub contains_one : {X : Type 0} (x : X) → Contains (x ∷ []) x
@@ -308,3 +324,155 @@ pub view-lawful : (size : ℕ) (start : Content) (past : List Step) → 0 < size
     → HasWholeSteps past → IsLawful (view_of size start past)
 view-lawful size start past some few whole steps =
     grind (arith, is_current, since-nested, since-now, since-whole)
+
+-- Laws of the picks of a crash: all picks leave a content that a crash may leave, and some picks
+-- leave each such content.
+
+-- If `k` is an index of the list, the list contains the element at `k`.
+at-contains : (xs : List (List ℕ)) (k : ℕ) → k < length xs
+    → Contains xs (unwrap_or (slice_get xs k) [])
+at-contains xs k h =
+    let there = slice_get-get_or xs k [] h in
+    let same : unwrap_or (slice_get xs k) [] ≡ slice_index_or xs k [] =
+    rw there in (
+      k,
+      h,
+      get_or_from_slice_get xs k (unwrap_or (slice_get xs k) [])
+          (unwrap_or (slice_get xs k) []) (there ∙ rw (← same)),
+    )
+
+-- A crash may leave the content that `picks` leave, whatever `picks` are.
+pub picks_leave_one : (cache : Cache) (picks : List ℕ) → IsCurrent cache
+    → MayLeave cache (left_by cache picks)
+picks_leave_one cache picks current = λ sector.
+    let one = current sector in
+    let some : 0 < length (cache.may sector) = let h = one.1 in omega arith in
+    at-contains (cache.may sector) (choice_of cache picks sector)
+    (mod-lt (unwrap_or (slice_get picks (unsynced_below cache sector)) 0) some)
+
+-- the picks by which each unsynced sector below a number takes its candidate at `index sector`
+abbrev picks_for : Cache → (ℕ → ℕ) → ℕ → List ℕ
+picks_for cache index zero = []
+picks_for cache index (suc sector) =
+    picks_for cache index sector
+    ++ (if nat_lt 1 (length (cache.may sector)) then index sector ∷ [] else [])
+
+length-picks : (cache : Cache) (index : ℕ → ℕ) (n : ℕ)
+    → length (picks_for cache index n) ≡ unsynced_below cache n
+length-picks cache index zero = refl
+length-picks cache index (suc n) =
+    length-append (picks_for cache index n)
+    (if nat_lt 1 (length (cache.may n)) then index n ∷ [] else [])
+    ∙ ap (λ (m : ℕ). m + length (if nat_lt 1 (length (cache.may n)) then index n ∷ [] else []))
+    (length-picks cache index n)
+    ∙ ap (λ (m : ℕ). unsynced_below cache n + m) (one (nat_lt 1 (length (cache.may n))))
+  where
+    one : (b : Bool) → length (if b then index n ∷ [] else []) ≡ (if b then 1 else 0)
+    one true = refl
+    one false = refl
+
+-- In the picks, the index of an unsynced sector's pick is the number of unsynced sectors below it.
+pick-there : (cache : Cache) (index : ℕ → ℕ) (n sector : ℕ) → sector < n
+    → 1 < length (cache.may sector)
+    → slice_get (picks_for cache index n) (unsynced_below cache sector) ≡ Some (index sector)
+pick-there cache index zero sector h many = absurd (omega arith)
+pick-there cache index (suc n) sector h many = elim (last_or_below sector n h) [
+  | inl last ↦
+      let more = picks_for cache index n in
+      let unsynced : nat_lt 1 (length (cache.may n)) ≡ true =
+      ap (λ k. nat_lt 1 (length (cache.may k))) (sym last)
+      ∙ lt-ltb 1 (length (cache.may sector)) many in
+      let place : unsynced_below cache sector ≡ length more =
+      ap (unsynced_below cache) last ∙ sym (length-picks cache index n) in
+      ap (λ b. slice_get (more ++ (if b then index n ∷ [] else []))
+      (unsynced_below cache sector)) unsynced
+      ∙ ap (slice_get (more ++ index n ∷ [])) place
+      ∙ slice_get-append_here more (index n) []
+      ∙ ap (λ k. Some (index k)) (sym last)
+  | inr below ↦
+      let earlier = pick-there cache index n sector below many in
+      slice_get-append_front (picks_for cache index n)
+      (if nat_lt 1 (length (cache.may n)) then index n ∷ [] else [])
+      (unsynced_below cache sector)
+      (slice_get-within (picks_for cache index n) (unsynced_below cache sector)
+      (index sector) earlier)
+      ∙ earlier
+]
+
+-- With the picks of `picks_for`, each sector below `n` takes its candidate at `index sector`.
+choice-there : (cache : Cache) (index : ℕ → ℕ) (n sector : ℕ) → sector < n
+    → index sector < length (cache.may sector)
+    → choice_of cache (picks_for cache index n) sector ≡ index sector
+choice-there cache index n sector h within =
+    grind (arith, cases_lt, pick-there, mod-eq_of_lt, mod-lt)
+
+-- For each content that a crash may leave, some picks leave it in all sectors of the disk.
+pub each_is_picked : (size : ℕ) (cache : Cache) (left : Content) → MayLeave cache left
+    → (picks : List ℕ) × ((sector : ℕ) → sector < size → left_by cache picks sector ≡ left sector)
+each_is_picked size cache left may =
+    let index : ℕ → ℕ = λ sector. (may sector).0 in (
+      picks_for cache index size,
+      λ sector h.
+          let there = may sector in
+          ap (λ (k : ℕ). unwrap_or (slice_get (cache.may sector) k) [])
+          (choice-there cache index size sector h there.1)
+          ∙ ap (λ (o : Option (List ℕ)). unwrap_or o [])
+          (slice_get-get_or (cache.may sector) there.0 (left sector) there.1)
+          ∙ there.2,
+    )
+
+-- The view of a `SectorDisk` is lawful.
+
+-- each value that a call puts has 512 bytes
+values-whole : (call : Call) → HasWholeValues (values_of call)
+values-whole call = at call.first call.change
+  where
+    at : (first : ℕ) (change : Change) → HasWholeValues (change_values first change)
+    at first (Write bytes) = writes-whole first bytes
+    at first (Image bytes) = writes-whole first bytes
+    at first (Discard count) = discards-whole first count
+
+-- The value of a sector by the call at any index has 512 bytes.
+pub value_at-whole : (calls : List Call) (place sector : ℕ)
+    → length (value_at calls place sector) ≡ 512
+value_at-whole calls place sector = at (slice_get calls place)
+  where
+    there : (o : Option (List ℕ)) → ((x : List ℕ) → o ≡ Some x → length x ≡ 512)
+        → length (unwrap_or o (replicate 512 0)) ≡ 512
+    there None whole = refl
+    there (Some x) whole = whole x refl
+
+    at : (o : Option Call) → length (value_in o sector) ≡ 512
+    at None = refl
+    at (Some call) = there (values_of call sector) (values-whole call sector)
+
+flushed-whole : (flushed : Bool) (past : List Step) → HasWholeSteps past
+    → HasWholeSteps (flushed_if flushed past)
+flushed-whole true past whole = whole
+flushed-whole false past whole = whole
+
+-- Each value that the steps of a disk's past put has 512 bytes.
+steps-whole : (calls : List Call) (begun n : ℕ) → HasWholeSteps (steps_of calls begun n)
+steps-whole calls begun zero = tt
+steps-whole calls begun (suc n) = at (slice_get calls (begun + n)) (steps-whole calls begun n)
+  where
+    at : (o : Option Call) → HasWholeSteps (steps_of calls begun n)
+        → HasWholeSteps (step_after o (steps_of calls begun n))
+    at None earlier = earlier
+    at (Some call) earlier = grind (arith, values-whole, flushed-whole)
+
+-- The view of each disk is lawful.
+pub disk_lawful : (disk : SectorDisk) → IsLawful (shown_of disk)
+disk_lawful disk =
+    view-lawful disk.sectors (start_of disk) (shown.steps_of disk) disk.kept.some disk.kept.few
+    (λ sector h. value_at-whole disk.calls.items _ sector)
+    (flushed-whole disk.flushed _
+    (steps-whole disk.calls.items disk.begun (length disk.calls.items - disk.begun)))
+
+-- The content of a disk has whole sectors.
+pub content_whole : (disk : SectorDisk) → HasWholeSectors disk.sectors (shown_of disk).content
+content_whole disk =
+    let lawful = disk_lawful disk in
+    let view = shown_of disk in
+    lawful.whole view.moment view.content (omega arith)
+    (lawful.nested view.moment view.content (omega arith) lawful.current)

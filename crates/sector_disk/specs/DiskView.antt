@@ -1,13 +1,14 @@
 -- The view of a `SectorDisk`: its first content, its past, and the exact effect of each call.
-use Rattle.std.specs.Prelude.{◌≡◌, ℕ, ◌/◌, false, Result, Ok, Err, List, [], ◌∷◌, length}
+use Rattle.std.specs.Prelude.{◌≡◌, ℕ, ◌/◌, ◌%◌, ◌<◌, ◌≤◌, false, Result, Ok, Err, List, [], ◌∷◌}
+use Rattle.std.specs.Prelude.{length}
+use Rattle.bio.specs.Content.{Content, discards, gather, writes}
 use Rattle.bio.specs.declared.outcome.DevError.{DevError}
 use Rattle.bio.specs.declared.outcome.DevError.TheVariants.{Io, Memory}
-use Rattle.blockdev.specs.Calls as calls
-use Rattle.blockdev.specs.Calls.{Call}
-use Rattle.blockdev.specs.View.{View}
-use Rattle.bio.specs.Content.{Content, discards, gather, writes}
-use Rattle.sector_disk.specs.declared.disk.SectorDisk.{SectorDisk}
+use Rattle.blockdev.specs.View.{Call, View}
+use Rattle.blockdev.specs.View as calls
+use Rattle.blockdev.specs.Law.{FlushDone}
 use Rattle.sector_disk.specs.Candidates.{Cache, Flushes, Puts, Step, cache_after, view_of}
+use Rattle.sector_disk.specs.declared.disk.SectorDisk.{SectorDisk}
 use Rattle.sector_disk.specs.inside.Storage.{content_at, past_of}
 
 -- the content when the disk's past began
@@ -58,3 +59,24 @@ Does old (calls.Discards first count) now result new =
     (HasPast old new (steps_of old))
 Does old calls.Flushes now result new =
     (result ≡ Ok now) × HasPast old new (flushed_after (steps_of old))
+
+-- The sizes that a disk and its image may have, and the view of a disk whose past begins.
+
+-- a disk may have `sectors` sectors
+pub record IsDiskSize (sectors : ℕ) : Type 0 where
+  pub some : 0 < sectors
+  pub few : sectors ≤ 1048576
+
+-- an image of a disk may have `length` bytes: 1 to 1,048,576 whole sectors
+pub record IsImageSize (length : ℕ) : Type 0 where
+  pub whole : length % 512 ≡ 0
+  pub some : 0 < length
+  pub few : length / 512 ≤ 1048576
+
+-- The past of a device of `sectors` sectors begins with the content `start`: a crash leaves only
+-- this content, and the clock is at 0.
+pub record Begins (sectors : ℕ) (start : Content) (v : View) : Type 0 where
+  pub size : v.size ≡ sectors
+  pub content : (sector : ℕ) → sector < sectors → v.content sector ≡ start sector
+  pub only : FlushDone v
+  pub moment : v.moment ≡ 0

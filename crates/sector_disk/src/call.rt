@@ -3,10 +3,9 @@
 ghost use Rattle.std.specs.Prelude.{true, ◌∷◌, ◌++◌, ◌≡◌, ◌%◌, ◌*◌, ◌+◌, ◌/◌, ◌≤◌, IfOk};
 ghost use Rattle.std.specs.Prelude.{None, OnErr, OnOk, Some, [], drop, length};
 ghost use Rattle.std.specs.Prelude.{replicate, slice_get, take, unwrap_or};
-ghost use Rattle.sector_disk.specs.inside.CallTable.{IsFilled, count_of};
-ghost use Rattle.sector_disk.specs.inside.Overlay.{is_image_in, is_write_of, put_over};
-ghost use Rattle.sector_disk.specs.inside.Storage.{before_at, content_at, is_open, place_of};
-ghost use Rattle.sector_disk.specs.inside.Storage.{value_at, value_in};
+ghost use Rattle.sector_disk.specs.inside.Storage.{IsFilled, before_at, content_at, count_of};
+ghost use Rattle.sector_disk.specs.inside.Storage.{is_image_in, is_open, is_write_of, place_of};
+ghost use Rattle.sector_disk.specs.inside.Storage.{put_over, value_at, value_in};
 ghost use Rattle.bio.specs.Content.{gather, writes};
 
 use crate::filled::FilledBytes;
@@ -85,7 +84,7 @@ fn read_image(image: &Image, first: u64, sector: u64, buffer: &mut [u8])
 }
 
 // Reads the value that the call put in the sector; zeroes if it put none.
-#[tactic(auto, using(crate::specs::inside::Storage::change_values, crate::proofs::SectorValues::discarded))]
+#[tactic(auto, using(crate::specs::inside::Storage::change_values, crate::proofs::ImageBack::discarded))]
 fn read_call(call: &Call, sector: u64, buffer: &mut [u8])
     requires { length buffer.old ≡ 512 }
     ensures { buffer.new ≡ value_in (Some call.now) sector }

@@ -1,8 +1,7 @@
 //! Finds, for each sector, the candidate that the picks of a crash name. `crash` calls `choose`.
 ghost use Rattle.std.specs.Prelude.{◌≡◌, ◌-◌, ◌%◌, ◌<◌, ◌≤◌, length, slice_get, true, unwrap_or, ℕ};
 ghost use Rattle.sector_disk.specs.Candidates.{Cache};
-ghost use Rattle.sector_disk.specs.inside.Choice.{AreChosen};
-ghost use Rattle.sector_disk.specs.inside.Storage.{ArePlaced, is_chain, walk};
+ghost use Rattle.sector_disk.specs.inside.Storage.{AreChosen, ArePlaced, is_chain, walk};
 
 use crate::call::{Call, before, is_open};
 

@@ -2,21 +2,21 @@
 //! have old values, and a crash tears a running call.
 ghost use Rattle.std.specs.Prelude.{◌∷◌, ◌++◌, ◌≡◌, ◌+◌, ◌-◌, ◌/◌, ◌<◌, ◌≤◌, Bool, List, Ok, []};
 ghost use Rattle.std.specs.Prelude.{false, length, replicate, true, ℕ};
-ghost use Rattle.blockdev.specs.Calls.{Discards, Flushes, Writes};
+ghost use Rattle.blockdev.specs.View.{Discards, Flushes, Writes};
 ghost use Rattle.sector_disk.specs.Candidates.{left_by};
 ghost use Rattle.sector_disk.specs.declared.disk.SectorDisk.{SectorDisk};
 ghost use Rattle.sector_disk.specs.DiskView.{Does, cache_of, shown_of};
 ghost use Rattle.bio.specs.Content.{Content, Patched, discards, sector_of, writes};
 
 /// A crash may leave the content that `picks` leave, whatever `picks` are.
-#[tactic(auto, using(crate::proofs::Lawful::picks_leave))]
+#[tactic(auto, using(crate::proofs::DeviceLaw::picks_leave))]
 pub fn picks_leave_one()
     ensures { (disk : SectorDisk) (picks : List ℕ)
         → (shown_of disk).crash (left_by (cache_of disk) picks) }
 {}
 
 /// For each content that a crash may leave, some picks leave it in all sectors of the disk.
-#[tactic(auto, using(crate::specs::PickLaws::each_is_picked, crate::specs::DiskView::cache_of))]
+#[tactic(auto, using(crate::specs::CandidateLaws::each_is_picked, crate::specs::DiskView::cache_of))]
 pub fn each_crash_is_picked()
     ensures { (disk : SectorDisk) (left : Content) → (shown_of disk).crash left →
         (picks : List ℕ) × ((sector : ℕ) → sector < (shown_of disk).size →

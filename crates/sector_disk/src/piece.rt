@@ -25,7 +25,7 @@ impl Model for Piece {
 
     ghost Value = { List ℕ };
 
-    ghost use Rattle.sector_disk.specs.inside.Held.{held_bytes};
+    ghost use Rattle.sector_disk.specs.inside.Pieces.{held_bytes};
 
     ghost view = { λ p. held_bytes p.held };
 }

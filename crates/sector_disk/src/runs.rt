@@ -1,7 +1,7 @@
 //! A list of numbers, stored as runs: a number, and how often it repeats.
 ghost use Rattle.std.specs.Prelude.{◌≡◌, ◌≤◌, ◌<◌, ◌++◌, [], IfOk, drop, length, replicate};
 ghost use Rattle.std.specs.Prelude.{slice_get};
-ghost use Rattle.sector_disk.specs.inside.Runs.{unrolled};
+ghost use Rattle.sector_disk.specs.inside.Packed.{unrolled};
 
 use std::alloc::{AllocError, Global};
 use std::marker::Model;
@@ -33,7 +33,7 @@ impl Model for Runs {
 
     ghost Value = { List ℕ };
 
-    ghost use Rattle.sector_disk.specs.inside.Runs.{held_values};
+    ghost use Rattle.sector_disk.specs.inside.Packed.{held_values};
 
     ghost view = { λ r. held_values r.held };
 }

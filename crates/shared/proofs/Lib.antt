@@ -2,4 +2,3 @@
 pub mod ClosedLog
 pub mod PostedStatus
 mod Examples
-mod Counterexamples

@@ -1,17 +1,16 @@
 // The close of a recorder: what it compares, and what it returns.
 ghost use Rattle.std.specs.Prelude.{◌≡◌, ◌<◌, ◌≤◌, List, [], length, IfErr, IfOk};
 ghost use Rattle.std.specs.Prelude.{MatchBool, None, Some, is_some, true, false};
-ghost use Rattle.bio.specs.Lawful.{has_no_close};
+ghost use Rattle.bio.specs.Events.{has_no_close};
 ghost use Rattle.log_format.specs.LogOf.{status_of};
 ghost use Rattle.bio.specs.Content.{Content};
-ghost use Rattle.refusals.specs.declared.end.End.{End as Cause};
-ghost use Rattle.refusals.specs.declared.end.End.TheVariants.{Full};
+ghost use Rattle.refusals.specs.declared.run_error.End.{End as Cause};
+ghost use Rattle.refusals.specs.declared.run_error.End.TheVariants.{Full};
 ghost use Rattle.lock_state.specs.Calls.{Holds};
-ghost use Rattle.lock_state.specs.Close.{HasNoRoom, LeftUnplaced, StopsWithLog};
-ghost use Rattle.lock_state.specs.Comparison.{IsTakenPrefix, Each, Receipt as Naming};
+ghost use Rattle.lock_state.specs.Comparison.{LegalHistory, IsTakenPrefix, Each, Receipt as Naming};
+ghost use Rattle.lock_state.specs.Comparison.{HasNoRoom, LeftUnplaced, StopsWithLog};
 ghost use Rattle.lock_state.specs.FirstStop.{HasStopCause};
 ghost use Rattle.lock_state.specs.History.{KeepsCause, Part, first_cause, named, recorded_count};
-ghost use Rattle.lock_state.specs.LegalHistory.{LegalHistory};
 ghost use Rattle.lock_state.specs.PlacedItems.{HasCause, LeavesPrefix, KeepsGround, Stay};
 ghost use Rattle.lock_state.specs.PlacedItems.{entries_in};
 ghost use Rattle.shared.specs.Close.{Agrees, Differs, IfBusy, IfForeign, IsReceipt, LeavesLog};
@@ -20,8 +19,7 @@ ghost use Rattle.shared.specs.Posts.{ArePosted, IsCurrent, IsLatest, StatusHasCa
 use crate::desk::Desk;
 use crate::log_desk::LogDesk;
 use crate::posts::Posts;
-use crate::seat::WriterSeat;
-use crate::shared::Shared;
+use crate::shared::{Shared, WriterSeat};
 use bio::{End, Status};
 use blockdev::BlockDev;
 use board::Names;

@@ -12,8 +12,7 @@ pub use board::{Names, StatusSeat};
 pub use closing::{Closed, Ending, Mismatch, Open, Unclosed};
 pub use lock_state::{Done, Item, Receipt, Run, Seat};
 pub use posts::Posts;
-pub use seat::WriterSeat;
-pub use shared::{Shared, Started};
+pub use shared::{Shared, Started, WriterSeat};
 pub use unnamed::Unnamed;
 
 mod answer;
@@ -23,7 +22,6 @@ mod desk;
 mod log_desk;
 mod marks;
 mod posts;
-mod seat;
 mod shared;
 mod unnamed;
 mod waiters;

@@ -2,7 +2,7 @@
 //! reused.
 ghost use Rattle.std.specs.Prelude.{◌<◌, ◌≡◌, ◌==◌, IsTrue, None, length};
 ghost use Rattle.std.specs.List.{list_any};
-ghost use Rattle.pending.specs.Edits.{chain_in};
+ghost use Rattle.pending.specs.ChainsView.{chain_in};
 
 use pending::chains::Chains;
 use std::alloc::{AllocError, Global};

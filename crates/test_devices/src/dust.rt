@@ -12,13 +12,13 @@ use std::test::Fail;
 mod orders;
 
 // Returns a dust layer with blocks of 1,024 bytes over a device.
-#[tactic(auto, using(dust_layer::specs::Sizes::of_1024))]
+#[tactic(auto, using(dust_layer::specs::Orders::of_1024))]
 fn over<D: BlockDev + Drop>(alloc: Global, lower: D) -> Dust<D> {
     Dust::new(alloc, lower, 1024)
 }
 
 // Returns a dust layer with blocks of one sector over a device.
-#[tactic(auto, using(dust_layer::specs::Sizes::of_512))]
+#[tactic(auto, using(dust_layer::specs::Orders::of_512))]
 fn by_sector<D: BlockDev + Drop>(alloc: Global, lower: D) -> Dust<D> {
     Dust::new(alloc, lower, 512)
 }

@@ -2,7 +2,7 @@
 ghost use Rattle.std.specs.Prelude.{◌≡◌};
 ghost use Rattle.std.specs.List.{AllByRecursion};
 ghost use Rattle.fault_layers.specs.declared.target.Target.TheVariants.{Linear};
-ghost use Rattle.layer_table.specs.Ranges.{IsLayerSpec};
+ghost use Rattle.layer_table.specs.TableLines.{IsLayerSpec};
 
 use crate::calls::{Call, ask, asked};
 use crate::is_same;

@@ -1,8 +1,9 @@
-//! Tests of which status a reader reads from a board.
+//! Tests of which status a reader reads from a board, and of a keeper and its holders.
 ghost use Rattle.std.specs.Prelude.{◌≡◌};
 
 use bio::{End, Status};
 use board::{Blank, Board, Names, StatusSeat, WriterSeat};
+use lock_state::{Fresh, Whose};
 use std::alloc::{AllocError, Global};
 use std::io::Print;
 use std::marker::Brand;
@@ -117,5 +118,27 @@ fn a_reader_reads_what_was_posted_last(rt: HostRuntime) -> Result<(), Fail> {
 fn sixty_four_readers_read_the_same(rt: HostRuntime) -> Result<(), Fail> {
     let blank = Blank::new(rt.alloc())?;
     assert!(rt; are_reading::<Brand>(rt.alloc(), blank, 64)?);
+    Ok(())
+}
+
+// Two holders begin and finish numbers in turn. The keeper agrees with the first holder before it
+// finishes.
+fn are_held<W: Whose>(fresh: Fresh)
+    requires { fresh ≡ W.table }
+{
+    let mut keeper = fresh.named::<W>();
+    let mut one = keeper.enrol();
+    let mut other = keeper.enrol();
+    keeper.begin(&mut one, 7);
+    keeper.begin(&mut other, 9);
+    keeper.agree(&mut one);
+    keeper.finish(&mut one);
+    keeper.begin(&mut one, u64::MAX);
+    keeper.finish(&mut other);
+}
+
+#[test]
+fn two_holders_take_and_let_go(rt: HostRuntime) -> Result<(), Fail> {
+    are_held::<Brand>(Fresh::new(rt.alloc())?);
     Ok(())
 }

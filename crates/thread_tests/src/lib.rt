@@ -11,8 +11,6 @@ mod gate;
 #[cfg(test)]
 mod histories;
 #[cfg(test)]
-mod holding;
-#[cfg(test)]
 mod large;
 #[cfg(test)]
 mod moments;

@@ -1,9 +1,9 @@
 //! Two seats record requests in the values that the locks guard, but without locks or threads. What
 //! they queue is placed, and in the end everything is compared with the history.
 ghost use Rattle.std.specs.Prelude.{◌≡◌, None};
-ghost use Rattle.bio.specs.Sizes.{bytes_of};
+ghost use Rattle.bio.specs.Requests.{bytes_of};
 ghost use Rattle.lock_state.specs.PlacedItems.{ground_of};
-ghost use Rattle.log_store.specs.Fields.{store_of};
+ghost use Rattle.log_store.specs.Calls.{store_of};
 ghost use Rattle.sector_disk.specs.DiskView.{shown_of};
 
 use bio::{Bio, Bytes, Ms, SectorSize, check, check_sized};

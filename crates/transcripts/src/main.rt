@@ -16,7 +16,6 @@
 mod bytes;
 mod calls;
 mod images;
-mod names;
 mod scene;
 mod series;
 mod tally;

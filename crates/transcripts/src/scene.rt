@@ -1,15 +1,17 @@
-// The commands that a transcript may have.
+// The commands that a transcript may have, and the files in memory, with two names each, that they
+// use.
+ghost use Rattle.std.specs.Prelude.{None, false};
+
 use crate::bytes::{push_sectors, unescaped};
 use crate::calls::{ask_disk, ask_stack};
 use crate::images::change;
-use crate::names::Here;
-use dmlw_cli::execute;
+use dmlw::execute;
 use dmlw_commands::Ended;
-use dmlw_files::{Output, Session};
+use dmlw_files::{FileError, FileFailure, Files, Output, Session};
 use dmlw_script::{print_run_script, print_script, read_run_script, read_script};
 use layer_table::{parse_line, push_line};
 use refusals::Refusal;
-use sector_disk::SectorDisk;
+use sector_disk::{Image, SectorDisk};
 use std::alloc::{AllocError, Global};
 use std::sync::Wait;
 use std::thread::Threads;
@@ -17,6 +19,42 @@ use test_devices::{Folder, Outlet};
 
 // A disk may have at most this many sectors.
 const MAX_SECTORS: u64 = 1_048_576;
+
+/// The files of `folder`. `./NAME` is another name of the file `NAME`.
+#[derive(Drop)]
+pub struct Here<'a> {
+    /// The files, by the name without `./`.
+    pub folder: &'a mut Folder,
+}
+
+impl Files for Here<'_> {
+    ghost contents = { λ _ _. None };
+
+    ghost writes = { λ _. None };
+
+    ghost has_failure = { λ _. false };
+
+    fn read(&mut self, alloc: Global, name: &str, limit: u64) -> Result<Image, FileError> {
+        self.folder.read(alloc, plain(name), limit)
+    }
+
+    fn write(&mut self, alloc: Global, name: &str, disk: SectorDisk) -> Result<(), FileError> {
+        self.folder.write(alloc, plain(name), disk)
+    }
+
+    fn failure(&self) -> Option<&FileFailure> {
+        None
+    }
+
+    fn is_same(&self, first: &str, second: &str) -> bool {
+        first == second || plain(first) == plain(second)
+    }
+}
+
+// Returns the file's name without a leading `./`.
+fn plain(name: &str) -> &str {
+    name.strip_prefix("./").unwrap_or(name)
+}
 
 /// A folder of files, and the output of the last command. `rt` starts threads and waits for them.
 #[derive(Drop)]

@@ -1,19 +1,26 @@
--- Laws of the submissions and ends among a machine's calls, and of the events that they are for.
-use Rattle.std.proofs.Common.{◌≡◌, ℕ, zero, suc, ◌<◌, ◌==◌, Bool, true, false, ◌&&◌, ◌||◌, Option}
+-- What a step leaves unchanged, what each test of a step implies, and laws of the calls of a
+-- machine.
 use Rattle.std.proofs.Common.{Some, None, List, [], ◌∷◌, ◌++◌, refl, ap, sym, ◌∙◌, inl, inr, arith}
+use Rattle.std.proofs.Common.{◌≡◌, ℕ, ◌+◌, ◌-◌, zero, suc, ◌<◌, ◌==◌, Bool, true, false, not, ◌&&◌}
+use Rattle.std.proofs.Common.{◌||◌, Option}
+use Rattle.std.specs.Prelude.{slice_get, ◌⊎◌}
 use Rattle.std.proofs.lemmas.Bool.{and_parts, eq-eqb, eqb-true}
+use Rattle.std.proofs.lemmas.Bool.Decides.{eqb_tells}
 use Rattle.std.proofs.lemmas.List.Folds.{list_all-append, list_any-append}
 use Rattle.std.specs.List.{list_all, list_any}
-use Rattle.std.specs.Prelude.{slice_get}
-use Rattle.bio.specs.PlaceLaws.{last_or_below, or_cases, or_second}
-use Rattle.bio.specs.declared.request.Bio.{Bio}
 use Rattle.bio.specs.declared.event.CoreEvent.{CoreEvent}
 use Rattle.bio.specs.declared.event.CoreEvent.TheVariants as core_events
-use Rattle.bio.specs.EventLaws.{differ-eqb}
+use Rattle.bio.specs.declared.request.Bio.{Bio}
+use Rattle.bio.specs.PlaceLaws.{all_below-each, differ-eqb, last_or_below, or_cases, or_second}
+use Rattle.bio.specs.Possible.{covers_at}
+use Rattle.bio.specs.RequestLaws.{covers-parts}
+use Rattle.bio.specs.Requests.{first_sector, sector_count}
 use Rattle.world.specs.declared.step.Step.{Step}
 use Rattle.world.specs.declared.step.Step.TheVariants.{Submit, Land, Destage, End, Power}
-use Rattle.world.specs.Machine.{before_submit, is_end, is_submit}
-use Rattle.world.specs.Runs.{call_of, calls_below}
+use Rattle.world.specs.Machine.{before_submit, call_of, calls_below, each_sector, is_among, is_end}
+use Rattle.world.specs.Machine.{is_submit, with_sector}
+
+-- Laws of the submissions and ends among a machine's calls, and of the events that they are for.
 
 -- the step ends the request of this place with success
 abbrev pub is_good_end : ℕ → Step → Bool
@@ -210,3 +217,56 @@ pub all_calls : (test : Step → Bool) (events : List CoreEvent) (n : ℕ)
 all_calls test events zero each = refl
 all_calls test events (suc n) each =
     grind (arith, all_calls test events n (λ k h. each k (omega arith)), list_all-append)
+
+-- Parts of the machine that a step leaves unchanged, and what each test of a step implies.
+
+-- what isn't so
+pub not_true : (b : Bool) → not b ≡ true → b ≡ false
+not_true true h = cc
+not_true false h = refl
+
+-- what holds and doesn't
+pub clash : {A : Type 0} (b : Bool) → b ≡ true → b ≡ false → A
+clash b yes_so not_so = absurd (let contra : true ≡ false = sym yes_so ∙ not_so in cc)
+
+-- a list that one sector alone has another of: what holds there
+-- of the one, and elsewhere of the old ones, holds in each
+pub with_cases : (P : List ℕ → Type 0) (sector : ℕ) (ids : List ℕ) (old : ℕ → List ℕ) (other : ℕ)
+    → (other ≡ sector → P ids) → P (old other) → P (with_sector sector ids old other)
+with_cases P sector ids old other here there = grind (arith, eqb_tells)
+
+-- the sector has the list
+pub with_here : (sector : ℕ) (ids : List ℕ) (old : ℕ → List ℕ)
+    → with_sector sector ids old sector ≡ ids
+with_here sector ids old = grind (arith, eq-eqb)
+
+-- a request is among these and one more just where it is that one or among these
+pub among_cases : (new id : ℕ) (ids : List ℕ) → is_among (new ∷ ids) id ≡ true
+    → (new ≡ id) ⊎ (is_among ids id ≡ true)
+among_cases new id ids
+    h = grind (arith, or_cases, eqb-true)
+
+pub among_more : (new id : ℕ) (ids : List ℕ) → is_among ids id ≡ true
+    → is_among (new ∷ ids) id ≡ true
+among_more new id ids h = or_second (new == id) (is_among ids id) h
+
+pub among_new : (id : ℕ) (ids : List ℕ) → is_among (id ∷ ids) id ≡ true
+among_new id ids = grind (arith, eq-eqb)
+
+-- a test of each sector of a request holds at a sector that it covers
+pub each_covered : (test : ℕ → Bool) (event : Option CoreEvent) (sector : ℕ)
+    → each_sector test event ≡ true → covers_at sector event ≡ true
+    → test sector ≡ true
+each_covered test (Some (core_events.Submit bio)) sector each covered =
+    let range = covers-parts bio sector covered in
+    let low = range.1 in
+    let high = range.2 in
+    let place : first_sector bio + (sector - first_sector bio) ≡ sector = omega arith in
+    ap test (sym place)
+    ∙ all_below-each (λ place. test (first_sector bio + place)) (sector_count bio) each
+    (sector - first_sector bio) (omega arith)
+each_covered test (Some (core_events.Complete id ok)) sector each covered = cc
+each_covered test (Some (core_events.Mark text)) sector each covered = cc
+each_covered test (Some (core_events.Stop cause)) sector each covered = cc
+each_covered test (Some core_events.Close) sector each covered = cc
+each_covered test None sector each covered = cc

@@ -7,14 +7,14 @@ use Rattle.std.proofs.lemmas.Bool.{and_parts, eq-eqb, eqb-true, lt-ltb}
 use Rattle.std.specs.List.{list_all, list_any}
 use Rattle.std.specs.Prelude.{slice_get}
 use Rattle.bio.specs.Places.{collect}
-use Rattle.bio.specs.PlaceLaws.{any_below-at, bool_cases, each_all_below, last_or_below}
-use Rattle.bio.specs.PlaceLaws.{or_cases, or_second, slice_get-within}
+use Rattle.bio.specs.PlaceLaws.{IsEnded, any_below-at, bool_cases, each_all_below, last_or_below}
+use Rattle.bio.specs.PlaceLaws.{or_cases, or_second, slice_get-within, well_formed-each}
+use Rattle.bio.specs.PlaceLaws.{well_formed-end}
 use Rattle.bio.specs.declared.request.Bio.{Bio}
 use Rattle.bio.specs.declared.event.CoreEvent.{CoreEvent}
 use Rattle.bio.specs.declared.event.CoreEvent.TheVariants as core_events
-use Rattle.bio.specs.EventLaws.{IsEnded, well_formed-each, well_formed-end}
-use Rattle.bio.specs.Events.{end_of, is_before, is_flush_submit, is_request, submits}
-use Rattle.bio.specs.Lawful.{is_recording, is_well_formed}
+use Rattle.bio.specs.Events.{end_of, is_before, is_flush_submit, is_recording, is_request}
+use Rattle.bio.specs.Events.{is_well_formed, submits}
 use Rattle.bio.specs.Possible.{covers_at, ended_ok, has_kept, is_durable, is_flushed, is_kept}
 use Rattle.bio.specs.Possible.{is_replaced, is_success, is_success_at}
 use Rattle.bio.specs.RequestLaws.{covers-within}
@@ -22,15 +22,13 @@ use Rattle.bio.specs.Requests.{covers, has_fua, is_tracked}
 use Rattle.judge.specs.Laws.{kept_within}
 use Rattle.world.specs.declared.step.Step.{Step}
 use Rattle.world.specs.declared.step.Step.TheVariants.{Submit, End}
-use Rattle.world.specs.Machine.{Machine, after, before_submit, each_sector, has_landed, has_settled}
-use Rattle.world.specs.Machine.{has_step, is_among, is_end, is_pending, is_submit, may_succeed}
-use Rattle.world.specs.Machine.{newest, settled_if_ended, start}
-use Rattle.world.specs.Runs.{call_of, calls_below}
-use Rattle.world.specs.inside.Plan.{IsChoice, by_sector, is_wanted, lands_early, lands_late}
-use Rattle.world.specs.inside.Plan.{steps_of}
-use Rattle.world.proofs.Calls.{all_calls, any_call, before_submit_at, end_from, submit_from}
+use Rattle.world.specs.Machine.{Machine, after, before_submit, call_of, calls_below, each_sector}
+use Rattle.world.specs.Machine.{has_landed, has_settled, has_step, is_among, is_end, is_pending}
+use Rattle.world.specs.Machine.{is_submit, may_succeed, newest, settled_if_ended, start}
+use Rattle.world.specs.inside.{IsChoice, by_sector, is_wanted, lands_early, lands_late, steps_of}
+use Rattle.world.proofs.Calls.{all_calls, among_new, any_call, before_submit_at, clash, end_from}
+use Rattle.world.proofs.Calls.{submit_from}
 use Rattle.world.proofs.RunIsPossible.{end_found}
-use Rattle.world.proofs.Steps.{among_new, clash}
 use Rattle.world.proofs.SectorSteps.{StepsFrame, by_cases, go_none, go_on, go_one, landed_from}
 use Rattle.world.proofs.SectorSteps.{lands_there, more_landed, more_settled, settles_there}
 use Rattle.world.proofs.SectorSteps.{still_within, touch_all}

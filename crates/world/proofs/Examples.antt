@@ -12,14 +12,13 @@ use Rattle.bio.specs.declared.request.Bio.TheVariants.{Write, Flush, Discard, Re
 use Rattle.world.specs.declared.step.Step.{Step}
 use Rattle.world.specs.declared.step.Step.TheVariants.{Submit, Land, Destage, End, Power}
 use Rattle.refusals.specs.declared.refusal.Refusal.TheVariants as refusals
-use Rattle.world.specs.declared.step_error.StepError.TheVariants as step_errors
+use Rattle.world.specs.declared.step.StepError.TheVariants as step_errors
 use Rattle.world.specs.Cells.{AllSteps, IsFresh, IsPut, IsRun, Steps, WorldState}
 use Rattle.world.specs.Cells.{empty_cell, landing, put_at, settling}
-use Rattle.world.specs.Refusals.{step_refusal}
-use Rattle.world.proofs.ImageSector.{put_none}
-use Rattle.world.specs.Machine.{before_submit, has_step, newest, start}
-use Rattle.world.specs.Texts.{end_text, step_text}
-use Rattle.world.specs.Runs.{IsReachable, Leaves, calls_below, durable, is_run, taken, values_of_id}
+use Rattle.world.specs.Texts.{end_text, step_refusal, step_text}
+use Rattle.world.proofs.Lists.{put_none}
+use Rattle.world.specs.Machine.{IsReachable, Leaves, before_submit, calls_below, durable, has_step}
+use Rattle.world.specs.Machine.{is_run, newest, start, taken, values_of_id}
 
 -- the writes have the bytes 1 and 2; the flush is submitted
 -- at the fourth moment and has ended at the sixth

@@ -1,13 +1,23 @@
 -- Laws of lists that the code keeps oldest first and contracts see newest first.
-use Rattle.std.proofs.Common.{◌≡◌, ℕ, zero, suc, Bool, true, false, ◌&&◌, ◌||◌, Some, List, [], ◌∷◌}
-use Rattle.std.proofs.Common.{◌++◌, take, refl, ap, ◌∙◌, arith}
-use Rattle.std.proofs.lemmas.List.{reverse-append}
+use Rattle.std.proofs.Common.{length-append, length-drop, Bool, true, false, ◌&&◌, ◌||◌, Some, None}
+use Rattle.std.proofs.Common.{List, [], ◌∷◌, ◌++◌, length, append_assoc, take, drop, refl, ap, sym}
+use Rattle.std.proofs.Common.{◌∙◌, arith, ◌≡◌, ℕ, ◌+◌, ◌-◌, ◌*◌, ◌/◌, ◌<◌, ◌≤◌, zero, suc}
+use Rattle.std.specs.Prelude.{reverse, slice_get, ◌⊎◌}
+use Rattle.std.proofs.lemmas.Bool.{cases_lt}
+use Rattle.std.proofs.lemmas.Bool.Decides.{eqb_tells}
+use Rattle.std.proofs.lemmas.List.{drop-take, length-take-le, reverse-append, take-append-drop}
 use Rattle.std.proofs.lemmas.List.Folds.{list_all-append, list_any-append}
+use Rattle.std.proofs.lemmas.Slice.{drop-put_mid, take-put_mid, take-put_mid_below}
+use Rattle.std.proofs.Math.Seq.{drop-append_seam}
 use Rattle.std.specs.List.{list_all, list_any}
-use Rattle.std.specs.Prelude.{reverse, slice_get}
+use borrow.Rule.Slice.PartMut.{put_mid}
+use Rattle.bio.specs.Content.{Patch, over, sector_of}
+use Rattle.bio.specs.ContentLaws.{over-after, over-before, over-in}
+use Rattle.bio.specs.Places.{collect}
+use Rattle.world.specs.Cells.{IsPut}
 use Rattle.world.specs.declared.step.Step.{Step}
+use Rattle.world.specs.inside.{IsBefore}
 use Rattle.world.specs.Machine.{is_submit}
-use Rattle.world.specs.inside.StepTests.{IsBefore}
 
 -- one more at the end of a list is the first of it the other way round
 pub reverse_snoc : {A : Type 0} (xs : List A) (x : A) → reverse (xs ++ x ∷ []) ≡ x ∷ reverse xs
@@ -91,3 +101,90 @@ pub all_more : {A : Type 0} (test : A → Bool) (xs : List A) (k next : ℕ) (x 
     → list_all test (take k xs) ≡ true → list_all test (take next xs) ≡ true
 all_more test xs k next x is there passes before =
     grind (arith, take_next xs k x there, list_all-append test (take k xs) (x ∷ []), take k xs)
+
+-- If a run grows by the steps for one index, it has the steps for all indices up to there.
+
+-- the steps of one more place come behind those of the places before it
+pub grown : {A : Type 0} (f : ℕ → List A) (n next : ℕ) (old mid new : List A) → next ≡ suc n
+    → mid ≡ old ++ collect f n → new ≡ mid ++ f n
+    → new ≡ old ++ collect f next
+grown f n next old mid new is before here = cc (append_assoc old (collect f n) (f n))
+
+-- An image after one of its sectors gets other bytes.
+
+-- a sector that the call has no value for stays as it was
+pub put_none : (patch : Patch) (at : ℕ) (image : List ℕ) → patch at ≡ None
+    → IsPut patch at image image
+put_none patch at image none = grind (arith, eqb_tells)
+
+-- nor does one outside the call's range change
+pub put_outside : (first count : ℕ) (value : ℕ → List ℕ) (at : ℕ) (image : List ℕ)
+    → (at < first) ⊎ (first + count ≤ at)
+    → IsPut (over first count value) at image image
+put_outside first count value at image outside = grind (arith, put_none, over-before, over-after)
+
+-- the value that a range has for one of its sectors
+pub range_value : (first count : ℕ) (value : ℕ → List ℕ) (at place : ℕ) (part : List ℕ)
+    → at ≡ first + place → place < count → part ≡ value place
+    → over first count value at ≡ Some part
+range_value first count value at place part is within same = grind (arith, over-in)
+
+-- the front of the image, with the new bytes
+front_is : (at : ℕ) (old part : List ℕ) → at < length old / 512 → length part ≡ 512
+    → take (512 * at + 512) (put_mid (at * 512) (at * 512 + 512 - at * 512) old part)
+    ≡ take (at * 512) old ++ part
+front_is at old part within size = grind (arith, take-put_mid)
+
+-- and what is behind them
+back_is : (at n : ℕ) (old part : List ℕ) → at < length old / 512 → length part ≡ 512
+    → 512 * at + 512 ≤ n
+    → drop n (put_mid (at * 512) (at * 512 + 512 - at * 512) old part) ≡ drop n old
+back_is at n old part within size past = grind (arith, drop-put_mid)
+
+-- the image is as long as it was
+length_put : (at : ℕ) (old part : List ℕ) → at < length old / 512 → length part ≡ 512
+    → length (put_mid (at * 512) (at * 512 + 512 - at * 512) old part) ≡ length old
+length_put at old part within size =
+    grind (
+      arith,
+      put_mid,
+      length-take-le,
+      length-drop,
+      front_is,
+      length-append,
+      back_is,
+      take-append-drop,
+    )
+
+-- a sector before the one that gets the bytes
+sector_before : (at sector : ℕ) (old part : List ℕ) → at < length old / 512 → length part ≡ 512
+    → sector < at
+    → sector_of (put_mid (at * 512) (at * 512 + 512 - at * 512) old part) sector
+    ≡ sector_of old sector
+sector_before at sector old part within size less =
+    let new = put_mid (at * 512) (at * 512 + 512 - at * 512) old part in
+    sym (drop-take (512 * sector) 512 new)
+    ∙ ap (drop (512 * sector))
+    (take-put_mid_below (at * 512) (at * 512 + 512 - at * 512) old part (512 * sector + 512)
+    (omega arith) (omega arith))
+    ∙ drop-take (512 * sector) 512 old
+
+-- the one that gets them
+sector_here : (at : ℕ) (old part : List ℕ) → at < length old / 512 → length part ≡ 512
+    → sector_of (put_mid (at * 512) (at * 512 + 512 - at * 512) old part) at ≡ part
+sector_here at old part within size =
+    let new = put_mid (at * 512) (at * 512 + 512 - at * 512) old part in
+    let cut : length (take (at * 512) old) ≡ 512 * at =
+    length-take-le (at * 512) old (omega arith) ∙ omega arith in
+    sym (drop-take (512 * at) 512 new)
+    ∙ ap (drop (512 * at)) (front_is at old part within size)
+    ∙ ap (λ (n : ℕ). drop n (take (at * 512) old ++ part)) (sym cut)
+    ∙ drop-append_seam (take (at * 512) old) part
+
+-- the call's value in one sector
+pub is_put : (patch : Patch) (at : ℕ) (old part new : List ℕ) → at < length old / 512
+    → length part ≡ 512
+    → new ≡ put_mid (at * 512) (at * 512 + 512 - at * 512) old part → patch at ≡ Some part
+    → IsPut patch at old new
+is_put patch at old part new within size is value =
+    grind (arith, length_put, eqb_tells, put_mid, sector_here, cases_lt, sector_before, back_is)

@@ -1,25 +1,35 @@
--- If a world takes a step of some kind, the machine that it models takes the same step.
-use Rattle.std.proofs.Common.{◌≡◌, ℕ, zero, suc, ◌*◌, ◌/◌, ◌<◌, true, not, ◌&&◌, Option, Some}
-use Rattle.std.proofs.Common.{List, [], ◌∷◌, length, get_or, set, refl, ap, sym, ◌∙◌, subst, inl}
-use Rattle.std.proofs.Common.{inr, arith}
+-- The steps of a world are steps of the machine that it models, and those of a fresh world are a
+-- run.
+use Rattle.std.proofs.Common.{None, Option, Some, subst, inl, ◌≡◌, ℕ, Bool, zero, suc, ◌*◌, ◌/◌}
+use Rattle.std.proofs.Common.{◌<◌, true, not, ◌&&◌, inr, arith, List, [], ◌∷◌, length, replicate}
+use Rattle.std.proofs.Common.{get_or, set, refl, ap, sym, ◌∙◌}
+use Rattle.std.specs.Prelude.{is_some, slice_get, unwrap_or}
 use Rattle.std.proofs.lemmas.Bool.{and_parts, cases_lt}
 use Rattle.std.proofs.lemmas.Bool.Decides.{eqb_tells}
-use Rattle.std.proofs.lemmas.List.{length-set}
+use Rattle.std.proofs.lemmas.List.{length-replicate, length-set}
 use Rattle.std.proofs.lemmas.Option.{slice_get-get_or, slice_get_past}
-use Rattle.std.specs.Prelude.{slice_get}
+use Rattle.std.proofs.Math.Path.{fun_ext}
+use Rattle.std.specs.List.{list_all}
+use Rattle.bio.specs.Content.{Content, put, sector_of}
 use Rattle.bio.specs.declared.event.CoreEvent.{CoreEvent}
-use Rattle.bio.specs.Lawful.{is_lawful}
-use Rattle.bio.specs.Possible.{covers_at}
-use Rattle.bio.specs.RequestLaws.{event_within}
+use Rattle.bio.specs.Events.{is_lawful}
 use Rattle.bio.specs.PlaceLaws.{option_cases, slice_get-within}
-use Rattle.world.specs.declared.step.Step.TheVariants.{Land, Destage}
-use Rattle.world.specs.Cells.{CellState, IsPut, Steps, WorldState, empty_cell, landed_of, landing}
-use Rattle.world.specs.Cells.{machine_of, settled_of, settling}
-use Rattle.world.specs.Machine.{Machine, has_step, is_among, is_pending, may_take, newest}
-use Rattle.world.specs.Machine.{with_sector}
-use Rattle.world.specs.Runs.{values_of_id}
+use Rattle.bio.specs.Possible.{covers_at}
+use Rattle.bio.specs.RequestLaws.{covered_value, event_within}
 use Rattle.world.proofs.PossibleChoice.{each_within}
-use Rattle.world.proofs.Steps.{clash}
+use Rattle.world.proofs.RunIsPossible.{IsSound, keeps, start_sound}
+use Rattle.world.proofs.Calls.{among_new, clash}
+use Rattle.world.specs.Cells.{AllSteps, CellState, IsFresh, IsSameMachine, IsRun, IsPut, Steps}
+use Rattle.world.specs.Cells.{WorldState, empty_cell, landed_of, left_after, landing, machine_in}
+use Rattle.world.specs.Cells.{machine_of, settled_of, settling}
+use Rattle.world.specs.declared.step.Step.{Step}
+use Rattle.world.specs.declared.step.Step.TheVariants.{Submit, Land, Destage, End, Power}
+use Rattle.world.specs.inside.{end_settled, is_allowed, succeeds}
+use Rattle.world.specs.Machine.{Machine, after, durable, has_step, is_among, is_pending, is_run}
+use Rattle.world.specs.Machine.{may_succeed, may_take, newest, settled_if_ended, start, taken}
+use Rattle.world.specs.Machine.{values_of_id, with_sector}
+
+-- If a world takes a step of some kind, the machine that it models takes the same step.
 
 -- the element that was set, and the others
 get_set_same : {A : Type 0} (xs : List A) (k : ℕ) (x : A) → k < length xs
@@ -140,3 +150,151 @@ destage_steps events at old new may within size is image =
       sectors = length-set old.cells at (settling cell);
       size = image.size;
     })
+
+-- The tests on the cells and calls of a world agree with the tests of the machine that it models.
+
+settled_is : (events : List CoreEvent) (cells : List CellState) (calls : List Step) (off : Bool)
+    (step : Step)
+    → settled_if_ended events (machine_in cells calls off) step ≡ end_settled events cells step
+settled_is events cells calls off (End id ok) = refl
+settled_is events cells calls off (Submit id) = refl
+settled_is events cells calls off (Land id sector) = refl
+settled_is events cells calls off (Destage sector) = refl
+settled_is events cells calls off Power = refl
+
+all_settled : (events : List CoreEvent) (cells : List CellState) (calls : List Step) (off : Bool)
+    (steps : List Step)
+    → list_all (settled_if_ended events (machine_in cells calls off)) steps
+    ≡ list_all (end_settled events cells) steps
+all_settled events cells calls off [] = refl
+all_settled events cells calls off (step ∷ steps) =
+    simp (all_settled events cells calls off steps, settled_is)
+
+succeeds_is : (events : List CoreEvent) (cells : List CellState) (calls : List Step) (off : Bool)
+    (id : ℕ)
+    → may_succeed events (machine_in cells calls off) id
+    ≡ succeeds events cells calls id (slice_get events id)
+succeeds_is events cells calls off id =
+    simp (all_settled)
+
+pub allowed_is : (events : List CoreEvent) (cells : List CellState) (calls : List Step) (off : Bool)
+    (step : Step)
+    → may_take events (machine_in cells calls off) step ≡ is_allowed events cells calls step
+allowed_is events cells calls off (Submit id) = refl
+allowed_is events cells calls off (Land id sector) = refl
+allowed_is events cells calls off (Destage sector) = refl
+allowed_is events cells calls off (End id ok) = simp (succeeds_is)
+allowed_is events cells calls off Power = refl
+
+-- The steps that a fresh world takes are a run, and its image is the content that the run leaves.
+
+-- machines that are alike are one
+like : (a b : Machine) → IsSameMachine a b → a ≡ b
+like a b same = grind (arith, fun_ext)
+
+-- the values of a request that landed in a sector, put over
+-- one content or another, are the same there
+put_newest : (events : List CoreEvent) (m : Machine) (at : ℕ) (old first : Content)
+    → IsSound events m → is_some (newest (m.landed at)) ≡ true
+    → put (values_of_id events (newest (m.landed at))) old at
+    ≡ put (values_of_id events (newest (m.landed at))) first at
+put_newest events m at old first sound some = of_list (m.landed at) refl
+  where
+    of_list : (ids : List ℕ) → m.landed at ≡ ids
+        → put (values_of_id events (newest (m.landed at))) old at
+        ≡ put (values_of_id events (newest (m.landed at))) first at
+    of_list [] is = grind arith
+    of_list (id ∷ ids) is =
+        let covered =
+        sound.covers at id (ap (λ (list : List ℕ). is_among list id) is ∙ among_new id ids) in
+        let value = covered_value (slice_get events id) at covered in
+        let there : values_of_id events (newest (m.landed at)) at ≡ Some value.0 =
+        ap (λ (list : List ℕ). values_of_id events (newest list) at) is ∙ value.1 in
+        ap (λ (o : Option (List ℕ)). unwrap_or o (old at)) there
+        ∙ sym (ap (λ (o : Option (List ℕ)). unwrap_or o (first at)) there)
+
+-- a step of the image is one of what is durable
+left_durable : (events : List CoreEvent) (m : Machine) (step : Step) (first old : Content)
+    (sector : ℕ) → IsSound events m → may_take events m step ≡ true
+    → old sector ≡ durable events first m sector
+    → left_after events m step old sector ≡ durable events first (after m step) sector
+left_durable events m (Submit id) first old sector sound may same = same
+left_durable events m (Land id at) first old sector sound may same = same
+left_durable events m (End id ok) first old sector sound may same = same
+left_durable events m Power first old sector sound may same = same
+left_durable events m (Destage at) first old sector sound may same =
+    grind (arith, eqb_tells, put_newest)
+
+-- steps that a world took are a run of the machine that it was
+runs_on : (events : List CoreEvent) (first : Content) (steps : List Step) (old new : WorldState)
+    → IsSound events (machine_of old)
+    → ((sector : ℕ) → sector < length old.cells
+    → sector_of old.image sector ≡ durable events first (machine_of old) sector)
+    → AllSteps events steps old new
+    → (is_run events (machine_of old) steps ≡ true)
+    × (taken (machine_of old) steps ≡ machine_of new) × (length new.cells ≡ length old.cells)
+    × ((sector : ℕ) → sector < length old.cells
+    → sector_of new.image sector ≡ durable events first (machine_of new) sector)
+runs_on events first [] old new sound image same = grind arith
+runs_on events first (step ∷ steps) old new sound image all =
+    let mid = all.0 in
+    let took = all.1 in
+    let may = (and_parts (not old.off) (may_take events (machine_of old) step) took.may).1 in
+    let is : machine_of mid ≡ after (machine_of old) step =
+    like (machine_of mid) (after (machine_of old) step) took.after in
+    let rest = runs_on events first steps mid new
+    (subst (IsSound events) (sym is) (keeps events (machine_of old) step sound may))
+    (λ sector within.
+    took.left sector (let size = took.sectors in omega arith)
+    ∙ left_durable events (machine_of old) step first (sector_of old.image) sector sound may
+    (image sector (let size = took.sectors in omega arith))
+    ∙ ap (λ (m : Machine). durable events first m sector) (sym is))
+    all.2 in (
+      ap (λ b. b && is_run events (after (machine_of old) step) steps) took.may
+          ∙ ap (λ m. is_run events m steps) (sym is) ∙ rest.0,
+      ap (λ m. taken m steps) (sym is) ∙ rest.1,
+      rest.2 ∙ took.sectors,
+      λ sector within. rest.3 sector (let size = took.sectors in omega arith),
+    )
+
+-- nothing is in the cells of a fresh world
+empty_seen : (see : Option CellState → List ℕ) (n sector : ℕ) → see None ≡ []
+    → see (Some empty_cell) ≡ [] → see (slice_get (replicate n empty_cell) sector) ≡ []
+empty_seen see zero sector none empty = none
+empty_seen see (suc n) zero none empty = empty
+empty_seen see (suc n) (suc sector) none empty = empty_seen see n sector none empty
+
+fresh_start : (first : List ℕ) (world : WorldState) → IsFresh first world → machine_of world ≡ start
+fresh_start first world fresh = like (machine_of world) start (record {
+  landed =
+      λ sector. ap (λ (cells : List CellState). landed_of (slice_get cells sector)) fresh.cells
+      ∙ empty_seen landed_of (length first / 512) sector refl refl;
+  settled =
+      λ sector. ap (λ (cells : List CellState). settled_of (slice_get cells sector)) fresh.cells
+      ∙ empty_seen settled_of (length first / 512) sector refl refl;
+  calls = fresh.calls;
+  off = fresh.off;
+})
+
+-- a fresh world's steps are a run
+pub fresh_runs : (events : List CoreEvent) (first : List ℕ) (steps : List Step)
+    (old new : WorldState) → IsFresh first old → AllSteps events steps old new
+    → IsRun events first steps new
+fresh_runs events first steps old new fresh all =
+    let is = fresh_start first old fresh in
+    let sectors : length old.cells ≡ length first / 512 =
+    ap length fresh.cells ∙ length-replicate {A = CellState} (length first / 512) empty_cell in
+    let runs =
+    runs_on events (sector_of first) steps old new
+    (subst (IsSound events) (sym is) (start_sound events))
+    (λ sector within.
+    ap (λ (bytes : List ℕ). sector_of bytes sector) fresh.image
+    ∙ ap (λ (m : Machine). durable events (sector_of first) m sector) (sym is)) all in
+    record {
+      runs = rw (← is) runs.0;
+      reached = rw (← is) runs.1;
+      left = λ sector within.
+          runs.3 sector (omega arith)
+          ∙ ap (λ (m : Machine). durable events (sector_of first) m sector)
+          (sym (ap (λ (m : Machine). taken m steps) (sym is) ∙ runs.1));
+    }

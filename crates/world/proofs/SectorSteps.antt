@@ -14,11 +14,10 @@ use Rattle.bio.specs.Possible.{covers_at}
 use Rattle.bio.specs.RequestLaws.{covers-within}
 use Rattle.bio.specs.Requests.{covers, first_sector, is_tracked, sector_count}
 use Rattle.world.specs.declared.step.Step.{Step}
-use Rattle.world.specs.Machine.{Machine, after, has_step, is_among, is_end, is_pending, is_submit}
-use Rattle.world.specs.Machine.{with_sector}
-use Rattle.world.specs.Runs.{is_run, taken}
-use Rattle.world.specs.inside.Plan.{by_sector, touch}
-use Rattle.world.proofs.Steps.{among_cases, among_more, clash, with_here}
+use Rattle.world.specs.Machine.{Machine, after, has_step, is_among, is_end, is_pending, is_run}
+use Rattle.world.specs.Machine.{is_submit, taken, with_sector}
+use Rattle.world.specs.inside.{by_sector, touch}
+use Rattle.world.proofs.Calls.{among_cases, among_more, clash, with_here}
 
 -- the steps are a run from the one machine to the other
 pub record StepsFrame (events : List CoreEvent) (old : Machine) (steps : List Step)

@@ -5,8 +5,8 @@ use Rattle.bio.specs.Content.{Content, Patch, put, sector_of}
 use Rattle.bio.specs.declared.event.CoreEvent.{CoreEvent}
 use Rattle.world.specs.declared.step.Step.{Step}
 use Rattle.world.specs.declared.step.Step.TheVariants.{Destage}
-use Rattle.world.specs.Machine.{Machine, after, has_step, newest, start}
-use Rattle.world.specs.Runs.{durable, is_run, taken, values_of_id}
+use Rattle.world.specs.Machine.{Machine, after, durable, has_step, is_run, newest, start, taken}
+use Rattle.world.specs.Machine.{values_of_id}
 
 -- The cell of one sector. `landed` lists the requests that landed there, newest first. `settled`
 -- lists those that had landed when the sector was last destaged.

@@ -1,15 +1,21 @@
 -- A device with a volatile cache, as a machine that takes steps. A request is submitted, lands in a
 -- sector, or ends; a sector is destaged; or power fails. A request's id is the index of the event
 -- that submits it.
-use Rattle.std.specs.Prelude.{ℕ, ◌+◌, ◌==◌, Bool, true, false, not, ◌&&◌, ◌||◌, Option, Some, None}
-use Rattle.std.specs.Prelude.{is_some, List, [], ◌∷◌, slice_get, if◌then◌else◌}
+use Rattle.std.specs.Prelude.{is_some, List, [], ◌∷◌, ◌++◌, length, slice_get, ◌≡◌, if◌then◌else◌}
+use Rattle.std.specs.Prelude.{ℕ, zero, suc, ◌+◌, ◌==◌, Bool, true, false, not, ◌&&◌, ◌||◌, Option}
+use Rattle.std.specs.Prelude.{Some, None}
 use Rattle.std.specs.List.{list_all, list_any}
-use Rattle.bio.specs.Places.{all_below}
+use Rattle.bio.specs.Content.{Content, Patch, nothing, put}
 use Rattle.bio.specs.declared.event.CoreEvent.{CoreEvent}
 use Rattle.bio.specs.declared.event.CoreEvent.TheVariants as core_events
 use Rattle.bio.specs.Events.{is_flush_submit, is_request, submits}
-use Rattle.bio.specs.Possible.{covers_at}
+use Rattle.bio.specs.Places.{all_below}
+use Rattle.bio.specs.Possible.{covers_at, values_at}
 use Rattle.bio.specs.Requests.{first_sector, has_fua, sector_count}
+use Rattle.judge.specs.declared.verdict.Verdict.TheVariants as verdicts
+use Rattle.judge.specs.Verdicts.{IsVerdict}
+use Rattle.world.specs.declared.reaching.Finding.{Finding}
+use Rattle.world.specs.declared.reaching.Finding.TheVariants.{Run, RuledOut}
 use Rattle.world.specs.declared.step.Step.{Step}
 use Rattle.world.specs.declared.step.Step.TheVariants.{Submit, Land, Destage, End, Power}
 
@@ -112,3 +118,60 @@ may_take events m Power = true
 -- the machine can take the step: power hasn't failed, and the step may be taken
 abbrev pub has_step : List CoreEvent → Machine → Step → Bool
 has_step events m step = not m.off && may_take events m step
+
+-- The runs of the machine, the events that a run fits, and the content that a run leaves.
+
+-- the machine `m` after the steps, one after another
+abbrev pub taken : Machine → List Step → Machine
+taken m [] = m
+taken m (step ∷ steps) = taken (after m step) steps
+
+-- `m` can take the steps, one after another
+abbrev pub is_run : List CoreEvent → Machine → List Step → Bool
+is_run events m [] = true
+is_run events m (step ∷ steps) = has_step events m step && is_run events (after m step) steps
+
+-- the step for the event at index `place`, if it is a submission or an end; no step for other
+-- events
+abbrev pub call_of : ℕ → Option CoreEvent → List Step
+call_of place (Some (core_events.Submit bio)) = Submit place ∷ []
+call_of place (Some (core_events.Complete id ok)) = End id ok ∷ []
+call_of place _ = []
+
+-- the steps for the submissions and ends among the events before index `place`, newest first
+abbrev pub calls_below : List CoreEvent → ℕ → List Step
+calls_below events zero = []
+calls_below events (suc place) = call_of place (slice_get events place) ++ calls_below events place
+
+-- the values that the request `id` puts in sectors; none without an id
+abbrev pub values_of_id : List CoreEvent → Option ℕ → Patch
+values_of_id events None = nothing
+values_of_id events (Some id) = values_at (slice_get events id)
+
+-- The durable content. Each sector has the value of the newest request that had landed when the
+-- sector was last destaged. If no request had landed, the sector has its value in `first`.
+abbrev pub durable : List CoreEvent → Content → Machine → Content
+durable events first m sector = put (values_of_id events (newest (m.settled sector))) first sector
+
+-- `run` is a run of the machine from its start, and its submissions and ends are exactly those of
+-- the events, in order. At its end power has failed, and the durable content is `now`.
+pub record Leaves (events : List CoreEvent) (first : Content) (run : List Step)
+    (now : Content) : Type 0 where
+  pub runs : is_run events start run ≡ true
+  pub fits : (taken start run).calls ≡ calls_below events (length events)
+  pub off : (taken start run).off ≡ true
+  pub left : (sector : ℕ) → durable events first (taken start run) sector ≡ now sector
+
+-- some run of the machine fits the events and leaves the content `now`
+abbrev pub IsReachable : List CoreEvent → Content → Content → Type 0
+IsReachable events first now = (run : List Step) × Leaves events first run now
+
+-- What a `Finding` about an image means.
+
+-- What a finding means for an image `now` of `sectors` sectors after the events, if `first` was on
+-- the device before the events. `Run`: the run fits the events and leaves `now`. `RuledOut`: the
+-- verdict on `now` is No with this sector and request.
+abbrev pub IsFinding : ℕ → List CoreEvent → Content → Content → Finding → Type 0
+IsFinding sectors events first now (Run run) = Leaves events first run.items now
+IsFinding sectors events first now (RuledOut sector by) =
+    IsVerdict sectors events first now (verdicts.No sector by)

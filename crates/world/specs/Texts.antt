@@ -1,8 +1,12 @@
 -- How a step is printed.
 use Rattle.std.specs.Prelude.{ℕ, Bool, true, false, List, ◌++◌, codes}
 use Rattle.std.specs.Fmt.{decimal}
+use Rattle.refusals.specs.declared.refusal.Refusal.{Refusal}
+use Rattle.refusals.specs.declared.refusal.Refusal.TheVariants as refusals
 use Rattle.world.specs.declared.step.Step.{Step}
 use Rattle.world.specs.declared.step.Step.TheVariants.{Submit, Land, Destage, End, Power}
+use Rattle.world.specs.declared.step.StepError.{StepError}
+use Rattle.world.specs.declared.step.StepError.TheVariants as errors
 
 -- the word for how a request ended
 abbrev pub end_text : Bool → List ℕ
@@ -16,3 +20,10 @@ step_text (Land id sector) = codes "land " ++ decimal id ++ codes " " ++ decimal
 step_text (Destage sector) = codes "destage " ++ decimal sector
 step_text (End id ok) = codes "end " ++ decimal id ++ codes " " ++ end_text ok
 step_text Power = codes "power"
+
+-- The refusal that reports an error of a step.
+
+-- the refusal that reports the error
+abbrev pub step_refusal : StepError → Refusal
+step_refusal errors.BadStep = refusals.BadStep
+step_refusal errors.Memory = refusals.Memory

@@ -10,10 +10,8 @@ ghost use Rattle.bio.specs.Possible.{covers_at};
 ghost use Rattle.bio.specs.Requests.{covers, first_sector, sector_count};
 ghost use Rattle.world.specs.Cells.{landed_of, settled_of};
 ghost use Rattle.world.specs.Machine.{before_submit, is_among, is_end, is_submit, newest};
-ghost use Rattle.world.specs.inside.StepTests.{end_settled, is_allowed, is_in, is_landed};
-ghost use Rattle.world.specs.inside.StepTests.{is_settled};
-ghost use Rattle.world.specs.inside.StepTests.{is_pending_in, succeeds};
-ghost use Rattle.world.specs.inside.Plan.{EndsFit};
+ghost use Rattle.world.specs.inside.{EndsFit, end_settled, is_allowed, is_in, is_landed};
+ghost use Rattle.world.specs.inside.{is_pending_in, is_settled, succeeds};
 
 use crate::cell::Cell;
 use crate::step::Step;

@@ -5,19 +5,17 @@
 ghost use Rattle.std.specs.Prelude.{◌≡◌, ◌∷◌, ◌*◌, ◌/◌, ◌%◌, ◌<◌, Err, IfOk, OnErr, OnOk};
 ghost use Rattle.std.specs.Prelude.{false, true, length, replicate, get_or, reverse, slice_get};
 ghost use Rattle.std.specs.Prelude.{slice_set};
-ghost use Rattle.bio.specs.Lawful.{is_lawful};
+ghost use Rattle.bio.specs.Events.{is_lawful};
 ghost use Rattle.world.specs.Cells.{IsFresh, IsPut, Steps, WorldState, empty_cell};
 ghost use Rattle.world.specs.Cells.{landed_of, landing, machine_of, settling};
-ghost use Rattle.world.specs.Machine.{has_step, newest};
-ghost use Rattle.world.specs.Runs.{values_of_id};
-ghost use Rattle.world.specs.declared.step_error.StepError.TheVariants as errors;
-ghost use Rattle.world.specs.inside.StepTests.{is_allowed};
+ghost use Rattle.world.specs.Machine.{has_step, newest, values_of_id};
+ghost use Rattle.world.specs.declared.step.StepError.TheVariants as errors;
+ghost use Rattle.world.specs.inside.{is_allowed};
 
 use crate::allowed::{is_allowed, newest_at};
 use crate::cell::{Cell, land_in, settle_in};
 use crate::putting::put_newest;
-use crate::step::Step;
-use crate::step_error::StepError;
+use crate::step::{Step, StepError};
 use bio::CoreEvent;
 use judge::SECTOR;
 use std::alloc::{AllocError, Global};
@@ -97,7 +95,7 @@ impl World {
     }
 
     // Returns whether the device can take the step.
-    #[tactic(auto, using(crate::proofs::PossibleChoice::lawful_ends, crate::proofs::StepTests::allowed_is))]
+    #[tactic(auto, using(crate::proofs::PossibleChoice::lawful_ends, crate::proofs::MachineSteps::allowed_is))]
     fn has_step(&self, events: &[CoreEvent], step: &Step) -> bool
         requires { is_lawful (length self.now.image / 512) events.now ≡ true }
         ensures has { result ≡ has_step events.now (machine_of self.now) step.now }

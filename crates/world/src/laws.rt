@@ -3,12 +3,12 @@
 //! `possible_is_exact`.
 ghost use Rattle.std.specs.Prelude.{◌≡◌, List, take, true, ℕ};
 ghost use Rattle.bio.specs.declared.event.CoreEvent.{CoreEvent};
-ghost use Rattle.bio.specs.Lawful.{is_well_formed};
+ghost use Rattle.bio.specs.Events.{is_well_formed};
 ghost use Rattle.bio.specs.Possible.{Possible};
 ghost use Rattle.bio.specs.Content.{Content};
 ghost use Rattle.world.specs.declared.step.Step.{Step};
 ghost use Rattle.world.specs.Cells.{AllSteps, IsFresh, IsRun, WorldState};
-ghost use Rattle.world.specs.Runs.{IsReachable};
+ghost use Rattle.world.specs.Machine.{IsReachable};
 
 /// Let the events be well formed. A device could hold a content after the first `moment` events
 /// exactly if some run of the machine fits these events and leaves the content. For any events, a

@@ -7,8 +7,8 @@ ghost use Rattle.std.specs.Prelude.{◌≡◌, ◌+◌, ◌^◌, ◌<◌, ◌++�
 ghost use Rattle.bio.specs.declared.event.CoreEvent.TheVariants as core_events;
 ghost use Rattle.bio.specs.Requests.{first_sector, sector_count};
 ghost use Rattle.judge.specs.Accounts.{place_at};
-ghost use Rattle.world.specs.inside.Plan.{by_sector, is_upto, is_wanted, lands_if, lands_late};
-ghost use Rattle.world.specs.inside.Plan.{sure_by, touch};
+ghost use Rattle.world.specs.inside.{by_sector, is_upto, is_wanted, lands_if, lands_late, sure_by};
+ghost use Rattle.world.specs.inside.{touch};
 
 use crate::step::Step;
 use bio::{Bio, Id};

@@ -3,7 +3,7 @@ ghost use Rattle.std.specs.Prelude.{◌≡◌, ◌/◌, ◌<◌, Some, length, s
 ghost use Rattle.bio.specs.Possible.{values_at, values_of};
 ghost use Rattle.bio.specs.Content.{Patch, discards, writes};
 ghost use Rattle.world.specs.Cells.{IsPut};
-ghost use Rattle.world.specs.Runs.{values_of_id};
+ghost use Rattle.world.specs.Machine.{values_of_id};
 
 use bio::{Bio, CoreEvent, Id};
 use judge::{SECTOR, place_in, sector_bytes};

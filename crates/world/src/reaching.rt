@@ -1,28 +1,36 @@
-//! Makes a run that leaves an image, from the judge's account of the image.
+//! Makes a run that leaves an image, from the judge's account of the image. `dmlw_commands` prints
+//! the answer (`Finding`).
 //!
 //! The plan has steps for each event, then for each request that hasn't ended. Its last step is
 //! that power fails.
 ghost use Rattle.std.specs.Prelude.{◌≡◌, ℕ, ◌/◌, ◌%◌, ◌++◌, IfOk, MatchOption, OnOk, Some, length};
 ghost use Rattle.std.specs.Prelude.{slice_get, take, true};
-ghost use Rattle.bio.specs.Events.{end_of, is_open_at};
-ghost use Rattle.bio.specs.Lawful.{is_lawful};
+ghost use Rattle.bio.specs.Events.{end_of, is_lawful, is_open_at};
 ghost use Rattle.bio.specs.Possible.{ended_ok, is_success};
-ghost use Rattle.judge.specs.Accounts.{place_at};
-ghost use Rattle.judge.specs.Firsts.{IsFirstOf, first_on};
+ghost use Rattle.judge.specs.Accounts.{IsFirstOf, first_on, place_at};
 ghost use Rattle.bio.specs.Content.{sector_of};
 ghost use Rattle.bio.specs.Places.{collect};
-ghost use Rattle.world.specs.Findings.{IsFinding};
-ghost use Rattle.world.specs.Runs.{IsReachable, Leaves};
-ghost use Rattle.world.specs.inside.Plan.{EndsFit, by_sector, lands_late, plan, steps_left};
-ghost use Rattle.world.specs.inside.Plan.{steps_of, sure_by};
+ghost use Rattle.world.specs.Machine.{IsFinding, IsReachable, Leaves};
+ghost use Rattle.world.specs.inside.{EndsFit, by_sector, lands_late, plan, steps_left, steps_of};
+ghost use Rattle.world.specs.inside.{sure_by};
 
 use crate::allowed::is_request;
-use crate::finding::Finding;
 use crate::plan::{land_early, land_late};
 use crate::step::Step;
 use bio::{CoreEvent, Id};
 use judge::{Account, First, Verdict, beginning};
 use std::alloc::{AllocError, Global};
+
+/// The answer about an image.
+#[derive(Debug, Drop)]
+pub enum Finding {
+    /// The steps of a run of the cache machine that fits the events and leaves the image, in order.
+    Run(Vec<Step>),
+    /// No run leaves the image. `sector` is the lowest sector whose value the device could not
+    /// hold. `by` is the durable request over this sector that was submitted last; none if no
+    /// durable request covers it.
+    RuledOut { sector: u64, by: Option<Id> },
+}
 
 /// Makes a machine run that fits the first `moment` events and leaves the image, if `first` was on
 /// the device before the first event. Returns none if there is no such run. A recorder of the

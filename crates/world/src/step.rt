@@ -1,8 +1,11 @@
-//! A step of a device with a cache, and its text.
-ghost use Rattle.std.specs.Prelude.{Some};
-ghost use Rattle.world.specs.Texts.{end_text, step_text};
+//! A step of a device with a cache, its text, and why a step isn't taken.
+ghost use Rattle.std.specs.Prelude.{Some, ◌≡◌};
+ghost use Rattle.world.specs.declared.step.StepError.TheVariants as errors;
+ghost use Rattle.world.specs.Texts.{end_text, step_refusal, step_text};
 
 use bio::Id;
+use refusals::Refusal;
+use std::alloc::AllocError;
 use std::fmt;
 
 /// A step of a device with a cache. An id is the index of the request's submission in the event
@@ -59,5 +62,33 @@ impl fmt::Display for Ended {
         } else {
             f.write_str("failed")
         }
+    }
+}
+
+/// Why a step isn't taken.
+#[derive(Clone, Copy, Debug, PartialEq, Eq)]
+pub enum StepError {
+    /// The device can't take this step.
+    BadStep,
+    /// An allocation failed.
+    Memory,
+}
+
+impl From<StepError> for Refusal {
+    ghost from_gives = { λ error refusal. refusal ≡ step_refusal error };
+
+    fn from(error: StepError) -> Refusal {
+        match error {
+            StepError::BadStep => Refusal::BadStep,
+            StepError::Memory => Refusal::Memory,
+        }
+    }
+}
+
+impl From<AllocError> for StepError {
+    ghost from_gives = { λ _ error. error ≡ errors.Memory };
+
+    fn from(_error: AllocError) -> StepError {
+        StepError::Memory
     }
 }

@@ -4,11 +4,9 @@ ghost use Rattle.std.specs.Io.KnownBytes.{Appends};
 ghost use Rattle.refusals.specs.Errors.{IsFileError, refused_by};
 ghost use Rattle.dmlw_commands.specs.declared.exit.Exit.{Exit};
 ghost use Rattle.refusals.specs.declared.refusal.Refusal.TheVariants as refusals;
-ghost use Rattle.dmlw_commands.specs.Ends.{Ends, ReportsLine, err_stream};
-ghost use Rattle.dmlw_commands.specs.Exits.{exit_by, fault_line};
+ghost use Rattle.dmlw_commands.specs.Ends.{Ends, ReportsLine, err_stream, exit_by, fault_line};
 ghost use Rattle.dmlw_commands.specs.Seen.{seen};
-ghost use Rattle.dmlw_files.specs.Files.{KeepsFiles};
-ghost use Rattle.dmlw_files.specs.Images.{image_of};
+ghost use Rattle.dmlw_files.specs.Files.{KeepsFiles, image_of};
 ghost use Rattle.dmlw_commands.specs.LogCopies.{Copies, FailsCopy, IsCopiedFrom, copied_line};
 
 use crate::copy_log::images::{Copied, copy_image};

@@ -1,11 +1,10 @@
 // Copies the log in an image to a new log, on disks in memory.
 ghost use Rattle.std.specs.Prelude.{◌≡◌, ◌≤◌, IfErr, IfOk};
 ghost use Rattle.sector_disk.specs.DiskView.{shown_of};
-ghost use Rattle.log_store.specs.Fields.{store_of};
+ghost use Rattle.log_store.specs.Calls.{store_of};
 ghost use Rattle.refusals.specs.Errors.{memory_error};
-ghost use Rattle.dmlw_files.specs.Images.{IsImage, image_of};
-ghost use Rattle.dmlw_commands.specs.LogCopies.{FailsOnImage, IsCopied, copy_stopped};
-ghost use Rattle.dmlw_commands.specs.DiskCopy.{IsBegun};
+ghost use Rattle.dmlw_files.specs.Files.{IsImage, image_of};
+ghost use Rattle.dmlw_commands.specs.LogCopies.{FailsOnImage, IsBegun, IsCopied, copy_stopped};
 
 use crate::opened::open_image;
 use bio::{End, SectorSize};

@@ -6,7 +6,7 @@ ghost use Rattle.log_format.specs.declared.decode.Super.{Super};
 ghost use Rattle.log_format.specs.declared.entry.Entry.{Entry};
 ghost use Rattle.log_format.specs.Replay.{replay};
 ghost use Rattle.log_reader.specs.declared.fault.LogFault.{LogFault};
-ghost use Rattle.log_reader.specs.ImageLog.{IsReading};
+ghost use Rattle.log_reader.specs.DiskLog.{IsReading};
 ghost use Rattle.dmlw_commands.specs.LogCopies.{IsCopied};
 
 /// The log in a copy's image has no fault and as many entries as the log that was copied. For each

@@ -3,7 +3,7 @@ ghost use Rattle.std.specs.Prelude.{◌≡◌, ◌/◌, ◌%◌, IfOk, OnOk, [],
 ghost use Rattle.std.specs.String.{string_bytes};
 ghost use Rattle.dmlw_files.specs.Files.{KeepsFiles};
 ghost use Rattle.std.specs.Io.KnownBytes.{Appends};
-ghost use Rattle.bio.specs.Lawful.{is_lawful};
+ghost use Rattle.bio.specs.Events.{is_lawful};
 ghost use Rattle.bio.specs.Content.{sector_of};
 ghost use Rattle.dmlw_commands.specs.Judgements.{Meaning, blank};
 

@@ -2,7 +2,7 @@
 ghost use Rattle.std.specs.Prelude.{OnOk};
 ghost use Rattle.std.specs.Io.KnownBytes.{Appends};
 ghost use Rattle.std.specs.List.{flat_map};
-ghost use Rattle.dmlw_commands.specs.Paths.{finding_meaning, step_line};
+ghost use Rattle.dmlw_commands.specs.Judgements.{finding_meaning, step_line};
 
 use crate::Exit;
 use crate::judge_image::answer::Answer;

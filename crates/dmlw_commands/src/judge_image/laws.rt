@@ -1,19 +1,19 @@
 //! Laws of verdicts: each is a function that does nothing, and its contract is the law.
 ghost use Rattle.std.specs.Prelude.{◌≡◌, ◌/◌, IsTrue, List, take, true, ℕ};
 ghost use Rattle.bio.specs.declared.event.CoreEvent.{CoreEvent};
-ghost use Rattle.bio.specs.Lawful.{all_aligned, is_well_formed};
-ghost use Rattle.bio.specs.Sizes.{bytes_of};
+ghost use Rattle.bio.specs.Events.{all_aligned, is_well_formed};
+ghost use Rattle.bio.specs.Requests.{bytes_of};
 ghost use Rattle.log_format.specs.Entries.{is_sector_size};
 ghost use Rattle.dmlw_script.specs.Plans.{ScriptValue};
 ghost use Rattle.judge.specs.declared.verdict.Verdict.{Verdict};
 ghost use Rattle.judge.specs.declared.verdict.Verdict.TheVariants.{Yes};
 ghost use Rattle.judge.specs.Verdicts.{IsVerdict};
 ghost use Rattle.bio.specs.Content.{Content};
-ghost use Rattle.world.specs.Findings.{IsFinding};
-ghost use Rattle.world.specs.declared.finding.Finding.{Finding};
-ghost use Rattle.dmlw_commands.specs.PrefixImages.{BeginsLog, IsReplayedTo, replayed_first};
-ghost use Rattle.dmlw_commands.specs.Judgements.{HasVerdict, IsJudged, Question, blank};
-ghost use Rattle.dmlw_commands.specs.Paths.{IsFound, verdict_of};
+ghost use Rattle.world.specs.Machine.{IsFinding};
+ghost use Rattle.world.specs.declared.reaching.Finding.{Finding};
+ghost use Rattle.dmlw_commands.specs.Judgements.{BeginsLog, HasVerdict, IsFound, IsJudged};
+ghost use Rattle.dmlw_commands.specs.Judgements.{IsReplayedTo, Question, blank, replayed_first};
+ghost use Rattle.dmlw_commands.specs.Judgements.{verdict_of};
 
 use judge::laws::verdicts_differ;
 use pending::laws::prefixes_are_possible;

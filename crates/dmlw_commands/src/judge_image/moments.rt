@@ -4,7 +4,7 @@ ghost use Rattle.std.specs.Prelude.{◌≡◌, ◌≤◌, [], Some, false, lengt
 ghost use Rattle.std.specs.String.{string_bytes};
 ghost use Rattle.bio.specs.Events.{is_stop};
 ghost use Rattle.dmlw_files.specs.Files.{KeepsFiles};
-ghost use Rattle.pending.specs.Moments.{last_moment};
+ghost use Rattle.pending.specs.CompletionList.{last_moment};
 
 use crate::explain::{Counted, counted_sectors};
 use crate::judge_image::answering::Asked;

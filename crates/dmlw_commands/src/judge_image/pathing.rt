@@ -1,7 +1,6 @@
 //! `path SCRIPT M IMAGE`: prints how a power failure could leave an image on a script's data disk.
 ghost use Rattle.dmlw_commands.specs.Ends.{Ends};
-ghost use Rattle.dmlw_commands.specs.Judgements.{AnswersOf, exit_answered};
-ghost use Rattle.dmlw_commands.specs.Paths.{finding_meaning};
+ghost use Rattle.dmlw_commands.specs.Judgements.{AnswersOf, exit_answered, finding_meaning};
 ghost use Rattle.dmlw_commands.specs.Seen.{seen};
 
 use crate::Ended;

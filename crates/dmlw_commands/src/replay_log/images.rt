@@ -1,12 +1,10 @@
 //! Replays the log in an image on the disk that another image becomes.
 ghost use Rattle.std.specs.Prelude.{◌≡◌, ◌/◌, IfErr, IfOk, length};
-ghost use Rattle.sector_disk.specs.DiskView.{shown_of};
-ghost use Rattle.sector_disk.specs.Sizes.{Begins};
+ghost use Rattle.sector_disk.specs.DiskView.{Begins, shown_of};
 ghost use Rattle.bio.specs.Content.{sector_of};
 ghost use Rattle.refusals.specs.Errors.{memory_error};
-ghost use Rattle.dmlw_files.specs.Images.{IsImage, image_of};
-ghost use Rattle.dmlw_commands.specs.DiskReplay.{stop_by};
-ghost use Rattle.dmlw_commands.specs.Replays.{FailsOnImages, IsReplayed};
+ghost use Rattle.dmlw_files.specs.Files.{IsImage, image_of};
+ghost use Rattle.dmlw_commands.specs.Replays.{FailsOnImages, IsReplayed, stop_by};
 
 use headline::{ReopenError, reopen_and_replay};
 use refusals::{Refusal, RunError};

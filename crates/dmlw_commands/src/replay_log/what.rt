@@ -1,6 +1,6 @@
 //! The word of `replay` that names the end of the replay.
 ghost use Rattle.std.specs.Prelude.{◌≡◌, IfSome, None};
-ghost use Rattle.dmlw_commands.specs.Whats.{IsNoWhat, IsWhat};
+ghost use Rattle.dmlw_commands.specs.Replays.{IsNoWhat, IsWhat};
 
 use refusals::number_of;
 use replay::Upto;

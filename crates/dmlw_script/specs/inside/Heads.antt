@@ -1,15 +1,15 @@
 -- What the readers of both kinds of scripts do with each line of a head, step by step.
 use Rattle.std.specs.Prelude.{ℕ, Bool, true, false, ◌∷◌, [], List, Result, Ok, Err, length, nat_le}
 use Rattle.std.specs.Prelude.{nat_lt, if◌then◌else◌}
-use Rattle.bio.specs.Sizes.{bytes_of}
-use Rattle.bio.specs.declared.sector_size.SectorSize.{SectorSize}
+use Rattle.bio.specs.Requests.{bytes_of}
+use Rattle.bio.specs.declared.request.SectorSize.{SectorSize}
 use Rattle.refusals.specs.declared.refusal.Refusal.{Refusal}
 use Rattle.refusals.specs.declared.refusal.Refusal.TheVariants.{BadLine, OutOfRange}
 use Rattle.layer_table.specs.declared.layer_spec.LayerSpec.{LayerSpec}
 use Rattle.layer_table.specs.declared.table_error.TableError.{TableError}
 use Rattle.layer_table.specs.TableLines.{table_refusal}
-use Rattle.dmlw_script.specs.declared.disk_name.DiskName.{DiskName}
-use Rattle.dmlw_script.specs.declared.disk_name.DiskName.TheVariants as disks
+use Rattle.dmlw_script.specs.declared.command.DiskName.{DiskName}
+use Rattle.dmlw_script.specs.declared.command.DiskName.TheVariants as disks
 use Rattle.dmlw_script.specs.declared.head.Head.{Head}
 use Rattle.dmlw_script.specs.declared.head.Part.{Part}
 use Rattle.dmlw_script.specs.declared.head.Part.TheVariants as parts

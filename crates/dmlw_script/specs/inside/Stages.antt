@@ -1,6 +1,6 @@
 -- How much of a script was read, without its body.
 use Rattle.std.specs.Prelude.{ℕ, List}
-use Rattle.bio.specs.declared.sector_size.SectorSize.{SectorSize}
+use Rattle.bio.specs.declared.request.SectorSize.{SectorSize}
 use Rattle.dmlw_script.specs.Plans.{Disk}
 
 -- `Empty`: nothing was read. `Data`: the line of the data disk was read. `Whole`: the lines of both

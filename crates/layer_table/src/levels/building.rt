@@ -1,8 +1,8 @@
 //! Puts a layer into the lowest free slot of a `One`, a `Two` or a `Three`, and returns the disk
 //! below. stack/building builds a `Stack` with these functions.
 ghost use Rattle.std.specs.Prelude.{◌≡◌, ◌∷◌, List, false, true};
-ghost use Rattle.blockdev.specs.Calls.{IsRange};
-ghost use Rattle.layer_table.specs.Ranges.{IsLayerSpec};
+ghost use Rattle.blockdev.specs.View.{IsRange};
+ghost use Rattle.layer_table.specs.TableLines.{IsLayerSpec};
 ghost use Rattle.layer_table.specs.Layers.{layer_asked, layers_one, layers_three, layers_two};
 ghost use Rattle.layer_table.specs.Layers.{layers_with, IsPut, Layer};
 ghost use Rattle.layer_table.specs.Levels.{disk_one, disk_three, disk_two, shape_one, shape_three};
@@ -122,7 +122,7 @@ impl Three {
 }
 
 // Returns a slot with the layer that `spec` asks for, over the device `lower`.
-#[tactic(auto, using(crate::specs::Ranges::has_cycle))]
+#[tactic(auto, using(crate::specs::TableLines::has_cycle))]
 pub(crate) fn layer<D: BlockDev + Drop>(
     alloc: Global,
     lower: D,

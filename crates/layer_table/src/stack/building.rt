@@ -3,14 +3,13 @@
 ghost use Rattle.std.specs.Prelude.{◌≡◌, ◌⊎◌, ◌<◌, ◌≤◌, ◌+◌, [], ◌∷◌, IfErr, IfOk, IsOk, OnErr};
 ghost use Rattle.std.specs.Prelude.{OnOk, false, length, true};
 ghost use Rattle.refusals.specs.declared.refusal.Refusal.TheVariants as refusals;
-ghost use Rattle.blockdev.specs.Calls.{IsRange};
+ghost use Rattle.blockdev.specs.View.{IsRange};
 ghost use Rattle.sector_disk.specs.DiskView.{shown_of};
-ghost use Rattle.layer_table.specs.Ranges.{IsLayerSpec};
-ghost use Rattle.layer_table.specs.LayerOrder.{IsAllowed};
+ghost use Rattle.layer_table.specs.TableLines.{IsLayerSpec};
+ghost use Rattle.layer_table.specs.Layers.{IsPartlyUnder, IsPut, IsSeenAs, layers_under};
+ghost use Rattle.layer_table.specs.Layers.{layers_with, stack_shown, AreOver, IsAllowed, disk_of};
+ghost use Rattle.layer_table.specs.Layers.{layer_asked, layers_of, layers_three};
 ghost use Rattle.std.specs.List.{AllByRecursion};
-ghost use Rattle.layer_table.specs.Layers.{disk_of, layer_asked, layers_of, layers_three};
-ghost use Rattle.layer_table.specs.Layers.{layers_under, layers_with, stack_shown, AreOver};
-ghost use Rattle.layer_table.specs.Layers.{IsPartlyUnder, IsPut, IsSeenAs};
 ghost use Rattle.layer_table.specs.Levels.{disk_three, shape_of};
 ghost use Rattle.layer_table.specs.Slots.{device_of, has_layer, has_no_gap, slot_shown};
 

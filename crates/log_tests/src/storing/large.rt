@@ -1,7 +1,6 @@
 // Tests of logs with sectors of 4,096 bytes.
 ghost use Rattle.std.specs.Prelude.{IfOk, IsTrue};
-ghost use Rattle.bio.specs.Requests.{is_tracked};
-ghost use Rattle.bio.specs.Sizes.{bytes_of};
+ghost use Rattle.bio.specs.Requests.{bytes_of, is_tracked};
 ghost use Rattle.log_format.specs.Entries.{is_readable};
 
 use bio::{Bio, Bytes, End, SectorSize, check_sized};

@@ -1,7 +1,7 @@
 //! The values of one chain, in order.
 ghost use Rattle.std.specs.Prelude.{◌≡◌, ◌==◌, ◌<◌, None, Some, length, if◌then◌else◌};
 ghost use Rattle.std.specs.Iterator.{YieldsFirstRef, item_count};
-ghost use Rattle.pending.specs.Edits.{chain_in};
+ghost use Rattle.pending.specs.ChainsView.{chain_in};
 
 use crate::chains::links::Links;
 use crate::chains::table::Chains;
@@ -24,7 +24,7 @@ pub struct Iter<'a, T> {
 
 impl<'a, T> Model for Iter<'a, T> {
     ghost use Rattle.std.specs.Prelude.{List};
-    ghost use Rattle.pending.specs.inside.Looks.{IsLook, values_left};
+    ghost use Rattle.pending.specs.inside.Tables.{IsLook, values_left};
 
     ghost Value = { List T };
 

@@ -2,8 +2,7 @@
 ghost use Rattle.std.specs.Prelude.{◌≡◌, ℕ, ◌+◌, ◌-◌, ◌^◌, ◌<◌, ◌≤◌, min, None, [], ◌∷◌, ◌++◌};
 ghost use Rattle.std.specs.Prelude.{length, replicate, slice_set, IfOk, IfSome, IsOk, OnErr, OnOk};
 ghost use Rattle.std.specs.Prelude.{vec_capacity, vec_len};
-ghost use Rattle.pending.specs.inside.Rings.{after, last_in};
-ghost use Rattle.pending.specs.inside.Changes.{IsWithin, lasts_after, next_after};
+ghost use Rattle.pending.specs.inside.Tables.{IsWithin, after, last_in, lasts_after, next_after};
 
 use std::alloc::{AllocError, Global};
 use std::fmt::{self, Debug, Formatter};

@@ -2,9 +2,10 @@
 //! out, or join two chains.
 ghost use Rattle.std.specs.Prelude.{◌≡◌, ◌≢◌, ℕ, ◌+◌, ◌<◌, None, Some, Option, List, ◌∷◌};
 ghost use Rattle.std.specs.Prelude.{◌++◌, length, slice_set, IfSome};
-ghost use Rattle.pending.specs.Edits.{chain_in, fronted, joined, lengthened, preceded, shortened};
-ghost use Rattle.pending.specs.inside.Rings.{after, last_in, Holds, IsRing};
-ghost use Rattle.pending.specs.inside.ChainSteps.{Changes, IsKept, IsLast, IsLoose, IsLooseRing};
+ghost use Rattle.pending.specs.ChainsView.{chain_in, fronted, joined, lengthened, preceded};
+ghost use Rattle.pending.specs.ChainsView.{shortened};
+ghost use Rattle.pending.specs.inside.Tables.{Changes, IsKept, IsLast, IsLoose, IsLooseRing, after};
+ghost use Rattle.pending.specs.inside.Tables.{last_in, Holds, IsRing};
 
 use crate::chains::links::{Change, Links};
 

@@ -3,7 +3,7 @@ ghost use Rattle.std.specs.Prelude.{◌≡◌, ℕ, IsSome, ◌+◌, ◌-◌, �
 ghost use Rattle.std.specs.Prelude.{map, max, slice_set, vec_capacity};
 ghost use Rattle.std.specs.Borrow.{Lends, sem};
 ghost use Rattle.std.specs.contracts.option.Option.{the_row};
-ghost use Rattle.pending.specs.Edits.{chain_in, shortened};
+ghost use Rattle.pending.specs.ChainsView.{chain_in, shortened};
 ghost use Rattle.pending.specs.inside.Tables.{HasRow, IsOpen, IsTable, spare_in, value_at};
 ghost use Rattle.pending.specs.inside.Tables.{values_of};
 

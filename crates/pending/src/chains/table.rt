@@ -3,9 +3,9 @@ ghost use Rattle.std.specs.Prelude.{◌≡◌, ◌≢◌, ◌+◌, ◌<◌, ◌�
 ghost use Rattle.std.specs.Prelude.{◌∷◌, ◌++◌, length, replicate, max, IfOk, IsOk, OnOk, OnErr};
 ghost use Rattle.std.specs.Prelude.{OnSome, slice_get};
 ghost use Rattle.std.specs.Option.{option_copied};
-ghost use Rattle.pending.specs.Edits.{chain_in, fronted, joined, lengthened, shortened};
-ghost use Rattle.pending.specs.Edits.{with_first};
-ghost use Rattle.pending.specs.ChainsView.{ChangesFew, KeepsRoom, count_in, new_rows_room};
+ghost use Rattle.pending.specs.ChainsView.{ChangesFew, KeepsRoom, chain_in, count_in, fronted};
+ghost use Rattle.pending.specs.ChainsView.{joined, lengthened, new_rows_room, shortened};
+ghost use Rattle.pending.specs.ChainsView.{with_first};
 
 use crate::chains::links::Links;
 use crate::chains::rings;

@@ -1,8 +1,6 @@
 //! How far a walk over a chain has come.
 ghost use Rattle.std.specs.Prelude.{◌≡◌, ℕ, ◌<◌, IsSome, Some, length};
-ghost use Rattle.pending.specs.inside.Rings.{after, last_in};
-ghost use Rattle.pending.specs.inside.ChainSteps.{IsKept};
-ghost use Rattle.pending.specs.inside.Tables.{seen_lasts};
+ghost use Rattle.pending.specs.inside.Tables.{IsKept, after, last_in, seen_lasts};
 
 use crate::chains::links::Links;
 

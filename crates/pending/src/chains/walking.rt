@@ -4,8 +4,7 @@
 //! without changing a link: it only changes `Walk::at`, which counts as the chain's last row. When
 //! the walk ends, this row is stored as the last row.
 ghost use Rattle.std.specs.Prelude.{◌≡◌, ◌≢◌, ℕ, ◌<◌, None, Some, length};
-ghost use Rattle.pending.specs.Edits.{lifted, turned};
-ghost use Rattle.pending.specs.ChainsView.{ChangesFew, KeepsRoom};
+ghost use Rattle.pending.specs.ChainsView.{ChangesFew, KeepsRoom, lifted, turned};
 
 use crate::chains::links::Change;
 use crate::chains::rings;

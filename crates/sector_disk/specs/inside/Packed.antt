@@ -1,8 +1,11 @@
 -- Whole sectors, each stored without the bytes at the sector's end that repeat the byte before
 -- them.
-use Rattle.std.specs.Prelude.{◌≡◌, ℕ, ◌+◌, ◌-◌, ◌*◌, ◌<◌, ◌≤◌, List, ◌++◌, length, replicate}
-use Rattle.std.specs.Prelude.{slice_index, slice_range}
+use Rattle.std.specs.Prelude.{slice_index, slice_range, ◌≡◌, ℕ, ◌+◌, ◌-◌, ◌*◌, ◌<◌, ◌≤◌, List, []}
+use Rattle.std.specs.Prelude.{◌∷◌, ◌++◌, length, replicate}
 use Rattle.bio.specs.Content.{AgreeBelow, Content, gather, sector_of}
+use Rattle.sector_disk.specs.declared.runs.Held.{Held}
+use Rattle.sector_disk.specs.declared.runs.Held.TheVariants.{More, One}
+use Rattle.sector_disk.specs.declared.runs.Run.{Run}
 
 -- the sector that begins with `part`; the last byte of `part` fills the rest
 abbrev pub refilled : List ℕ → List ℕ
@@ -46,3 +49,15 @@ pub record IsPackedTo (image bytes bounds : List ℕ) (count : ℕ) : Type 0 whe
   pub few : length bytes ≤ 512 * count
   pub parts : AreParts bytes bounds
   pub same : AgreeBelow count (sector_of image) (packed bytes bounds)
+
+-- The list of numbers that `Runs` stores.
+
+-- the numbers of the runs, one after another
+abbrev pub unrolled : List Run → List ℕ
+unrolled [] = []
+unrolled (run ∷ rest) = replicate run.count run.value ++ unrolled rest
+
+-- the numbers that a `Held` stores
+abbrev pub held_values : Held → List ℕ
+held_values (One count value) = replicate count value
+held_values (More runs) = unrolled runs.value.items

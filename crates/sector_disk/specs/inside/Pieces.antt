@@ -1,5 +1,7 @@
 -- A list of bytes in pieces of 65,536 bytes; the last piece may have fewer.
 use Rattle.std.specs.Prelude.{◌≡◌, ℕ, ◌<◌, ◌≤◌, List, [], ◌∷◌, ◌++◌, length}
+use Rattle.sector_disk.specs.declared.piece.Held.{Held}
+use Rattle.sector_disk.specs.declared.piece.Held.TheVariants.{Filled, Packed}
 
 -- the bytes of the pieces, one after another
 abbrev pub joined : List (List ℕ) → List ℕ
@@ -16,3 +18,10 @@ AreWhole (piece ∷ (next ∷ rest)) = (length piece ≡ 65536) × AreWhole (nex
 pub record IsHeldIn (pieces : List (List ℕ)) (count : ℕ) : Type 0 where
   pub whole : AreWhole pieces
   pub counted : count ≡ length (joined pieces)
+
+-- The bytes of a piece, in either of the ways in which it is stored.
+
+-- the bytes that are stored
+abbrev pub held_bytes : Held → List ℕ
+held_bytes (Filled bytes) = bytes
+held_bytes (Packed bytes) = bytes

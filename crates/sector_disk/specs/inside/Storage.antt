@@ -1,13 +1,13 @@
 -- How a disk stores its past: its calls in order, and for each sector the index of the newest call
 -- that put a value there.
-use Rattle.std.specs.Prelude.{◌≡◌, ℕ, suc, zero, ◌+◌, ◌-◌, ◌<◌, ◌≤◌, ◌==◌, ◌&&◌, not, nat_le}
-use Rattle.std.specs.Prelude.{nat_lt, Bool, true, false, Option, None, Some, unwrap_or, List, []}
-use Rattle.std.specs.Prelude.{◌∷◌, ◌++◌, length, replicate, slice_get}
-use Rattle.bio.specs.Content.{Content, Patch, discards, writes}
+use Rattle.std.specs.Prelude.{replicate, slice_get, nat_lt, Bool, true, false, unwrap_or, List, []}
+use Rattle.std.specs.Prelude.{◌≡◌, ◌⊎◌, ℕ, suc, zero, ◌*◌, ◌+◌, ◌∷◌, ◌++◌, length, ◌/◌, ◌-◌, ◌<◌}
+use Rattle.std.specs.Prelude.{◌≤◌, ◌==◌, ◌&&◌, not, nat_le, Option, None, Some}
+use Rattle.bio.specs.Content.{Content, Patch, discards, sector_of, writes}
+use Rattle.sector_disk.specs.Candidates.{Cache, Flushes, Puts, Step, cache_after, left_by}
 use Rattle.sector_disk.specs.declared.call.Call.{Call}
 use Rattle.sector_disk.specs.declared.call.Change.{Change}
 use Rattle.sector_disk.specs.declared.call.Change.TheVariants.{Write, Image, Discard}
-use Rattle.sector_disk.specs.Candidates.{Cache, Flushes, Puts, Step, cache_after}
 
 -- the values that a change puts from sector `first` on
 abbrev pub change_values : ℕ → Change → Patch
@@ -136,3 +136,52 @@ pub record IsKept (sectors : ℕ) (calls : List Call) (newest base : List ℕ) (
   pub synced_now : flushed ≡ true → synced ≡ length calls
   pub base_within : AreWithin calls base
   pub placed : ArePlaced calls synced sectors newest (cache_of calls base begun flushed)
+
+-- The number of sectors of a change, and the table of newest calls after a call is added.
+
+-- the number of sectors that a change covers
+abbrev pub count_of : Change → ℕ
+count_of (Write bytes) = length bytes / 512
+count_of (Image bytes) = length bytes / 512
+count_of (Discard count) = count
+
+-- `new` is `old`, except that each of the `count` sectors from `first` on has `place`
+pub record IsFilled (first count place : ℕ) (old new : List ℕ) : Type 0 where
+  pub size : length new ≡ length old
+  pub within : (sector : ℕ) → first ≤ sector → sector < first + count → place_of new sector ≡ place
+  pub outside : (sector : ℕ) → (sector < first) ⊎ (first + count ≤ sector)
+      → place_of new sector ≡ place_of old sector
+
+-- The table that `choose` makes: for each sector, the call whose value the picks of a crash leave.
+
+-- `chosen` has, for each sector below `count`, the index of a call whose value in the sector is the
+-- one that the picks leave
+pub record AreChosen (calls : List Call) (cache : Cache) (picks : List ℕ) (count : ℕ)
+    (chosen : List ℕ) : Type 0 where
+  pub value : (sector : ℕ) → sector < count
+      → value_at calls (place_of chosen sector) sector ≡ left_by cache picks sector
+  pub within : (sector : ℕ) → sector < count → place_of chosen sector < length calls
+
+-- The content of an image after later calls put their values over it. The image is the data of a
+-- disk's first call; `later` are the calls after it.
+
+-- the change is a write of `count` sectors
+abbrev pub is_write_of : Change → ℕ → Bool
+is_write_of (Write bytes) count = length bytes == count * 512
+is_write_of (Image bytes) count = false
+is_write_of (Discard n) count = false
+
+-- the call is a write of `count` sectors from sector 0 on
+abbrev pub is_image_in : Option Call → ℕ → Bool
+is_image_in None count = false
+is_image_in (Some call) count = (call.first == 0) && is_write_of call.change count
+
+-- the sector's value by the call at index `place`: the image's value for the first call, or else
+-- the value of a later call
+abbrev pub left_at : List Call → List ℕ → ℕ → Content
+left_at later image zero sector = sector_of image sector
+left_at later image (suc place) sector = value_at later place sector
+
+-- the content in which each sector has the value of the call whose index `places` has for it
+abbrev pub put_over : List Call → List ℕ → List ℕ → Content
+put_over later places image sector = left_at later image (place_of places sector) sector

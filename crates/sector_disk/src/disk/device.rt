@@ -2,9 +2,8 @@
 ghost use Rattle.std.specs.Prelude.{◌≡◌, ◌∷◌, ◌+◌, ◌≤◌, OnErr, OnOk, length};
 ghost use Rattle.sector_disk.specs.Candidates.{Puts};
 ghost use Rattle.sector_disk.specs.DiskView.{Does, HasPast, shown_of, steps_of};
-ghost use Rattle.sector_disk.specs.inside.CallTable.{count_of};
-ghost use Rattle.sector_disk.specs.inside.Storage.{change_values};
-ghost use Rattle.sector_disk.specs.DiskViewLaws.{disk_lawful};
+ghost use Rattle.sector_disk.specs.inside.Storage.{change_values, count_of};
+ghost use Rattle.sector_disk.specs.CandidateLaws.{disk_lawful};
 
 use crate::call::{Call, Change, add_call, copy_places, read_places};
 use crate::disk::SectorDisk;

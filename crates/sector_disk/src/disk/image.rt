@@ -1,9 +1,7 @@
 //! Makes a disk of zeroes or of an image, and returns a disk's image.
 ghost use Rattle.std.specs.Prelude.{◌≡◌, ◌*◌, ◌/◌, ◌%◌, ◌≤◌, IfOk, length, replicate};
-ghost use Rattle.sector_disk.specs.DiskView.{shown_of};
-ghost use Rattle.sector_disk.specs.Sizes.{Begins, IsDiskSize, IsImageSize};
-ghost use Rattle.sector_disk.specs.inside.CallTable.{count_of};
-ghost use Rattle.sector_disk.specs.inside.Storage.{change_values, content_at};
+ghost use Rattle.sector_disk.specs.DiskView.{Begins, IsDiskSize, IsImageSize, shown_of};
+ghost use Rattle.sector_disk.specs.inside.Storage.{change_values, content_at, count_of};
 ghost use Rattle.bio.specs.Content.{AgreeBelow, gather, put, sector_of};
 
 use crate::call::{Call, Change, SECTOR, begins_with_image, read_places, take_image};

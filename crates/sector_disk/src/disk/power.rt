@@ -1,8 +1,7 @@
 //! Power failure: `crash` leaves in each unsynced sector the candidate that its pick names.
 ghost use Rattle.std.specs.Prelude.{◌≡◌, ◌≤◌, length, vec_capacity};
 ghost use Rattle.sector_disk.specs.Candidates.{left_by};
-ghost use Rattle.sector_disk.specs.DiskView.{cache_of, shown_of};
-ghost use Rattle.sector_disk.specs.Sizes.{Begins};
+ghost use Rattle.sector_disk.specs.DiskView.{Begins, cache_of, shown_of};
 
 use crate::choice::choose;
 use crate::disk::SectorDisk;

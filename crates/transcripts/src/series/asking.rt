@@ -1,5 +1,5 @@
 // Runs a command line over files in memory, and captures what it prints.
-use dmlw_cli::execute;
+use dmlw::execute;
 use dmlw_files::Session;
 use std::alloc::{AllocError, Global};
 use std::sync::Wait;

@@ -1,4 +1,4 @@
-use Rattle.bio.specs.SizeLaws.{sized_passed, sized_passes}
+use Rattle.bio.specs.RequestLaws.{sized_passed, sized_passes}
 use Rattle.bio.proofs.laws.sized_requests_pass_both.Goals as goal
 
 pub returns : goal.returns

@@ -1,4 +1,4 @@
-use Rattle.bio.specs.SizeLaws.{lawful_small, small_answer}
+use Rattle.bio.specs.RequestLaws.{lawful_small, small_answer}
 use Rattle.bio.proofs.laws.small_sectors_take_each_request.Goals as goal
 
 pub returns-clause-answer : goal.returns-clause-answer

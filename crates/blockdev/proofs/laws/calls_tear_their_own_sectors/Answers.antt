@@ -1,4 +1,4 @@
-use Rattle.blockdev.specs.DurableLaws.{after-torn}
+use Rattle.blockdev.specs.JoinLaws.{after-torn}
 use Rattle.blockdev.proofs.laws.calls_tear_their_own_sectors.Goals as goal
 
 pub returns : goal.returns

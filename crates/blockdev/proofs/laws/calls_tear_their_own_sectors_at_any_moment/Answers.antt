@@ -1,4 +1,4 @@
-use Rattle.blockdev.specs.DurableLaws.{gained-torn}
+use Rattle.blockdev.specs.JoinLaws.{gained-torn}
 use Rattle.blockdev.proofs.laws.calls_tear_their_own_sectors_at_any_moment.Goals as goal
 
 pub returns : goal.returns

@@ -1,4 +1,4 @@
-use Rattle.blockdev.specs.DurableLaws.{landed-flushed}
+use Rattle.blockdev.specs.JoinLaws.{landed-flushed}
 use Rattle.blockdev.proofs.laws.flushed_writes_outlive_crashes.Goals as goal
 
 pub returns : goal.returns

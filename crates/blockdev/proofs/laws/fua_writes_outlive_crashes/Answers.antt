@@ -1,4 +1,4 @@
-use Rattle.blockdev.specs.DurableLaws.{landed-durable}
+use Rattle.blockdev.specs.JoinLaws.{landed-durable}
 use Rattle.blockdev.proofs.laws.fua_writes_outlive_crashes.Goals as goal
 
 pub returns : goal.returns

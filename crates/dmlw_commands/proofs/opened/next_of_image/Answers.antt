@@ -1,5 +1,5 @@
 use Rattle.std.proofs.Common.{◌≡◌, ◌∙◌, Err, true, false, refl, sym, ap}
-use Rattle.log_reader.specs.ReaderView.{reader_of}
+use Rattle.log_reader.specs.Reader.{reader_of}
 use Rattle.refusals.specs.Errors.{refused_by}
 use Rattle.dmlw_commands.proofs.ImageLog.{gives_found, gives_refused, never_failed}
 use Rattle.dmlw_commands.proofs.opened.next_of_image.Goals as goal

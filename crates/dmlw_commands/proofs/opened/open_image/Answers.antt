@@ -1,5 +1,5 @@
 use Rattle.std.proofs.Common.{◌∙◌, ap, refl}
-use Rattle.log_reader.specs.ReaderView.{reader_of}
+use Rattle.log_reader.specs.Reader.{reader_of}
 use Rattle.refusals.specs.Errors.{refused_by}
 use Rattle.sector_disk.specs.DiskView.{shown_of}
 use Rattle.dmlw_commands.proofs.ImageLog.{never_failed, opened_on, unopened_on}

@@ -1,9 +1,8 @@
 use Rattle.std.proofs.Common.{◌∙◌}
 use Rattle.dmlw_commands.specs.EndLaws.{ends_told}
-use Rattle.dmlw_commands.specs.Exits.{exit_after}
+use Rattle.dmlw_commands.specs.Ends.{exit_after}
 use Rattle.dmlw_commands.specs.Records.{of_recorder}
-use Rattle.dmlw_commands.proofs.RecordEnds.{disks_kept, failure_kept}
-use Rattle.dmlw_commands.proofs.CommandEnds.{fault_told, makes_end}
+use Rattle.dmlw_commands.proofs.CommandEnds.{disks_kept, failure_kept, fault_told, makes_end}
 use Rattle.dmlw_commands.proofs.record.record.Goals as goal
 
 pub returns-clause-ends : goal.returns-clause-ends

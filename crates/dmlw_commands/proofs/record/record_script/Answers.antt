@@ -1,11 +1,9 @@
 use Rattle.std.proofs.Common.{◌∙◌, subst, sym}
 use Rattle.refusals.specs.Errors.{IsFileError}
-use Rattle.dmlw_files.specs.Files.{MatchesContents}
-use Rattle.dmlw_files.specs.Images.{image_of}
+use Rattle.dmlw_files.specs.Files.{MatchesContents, image_of}
 use Rattle.dmlw_commands.specs.Makings.{unmade, unwritten}
 use Rattle.dmlw_commands.specs.Records.{FailsRecording, file, of_recorder}
-use Rattle.dmlw_commands.proofs.CommandEnds.{asks_for, makes_none}
-use Rattle.dmlw_commands.proofs.RecordEnds.{file_told}
+use Rattle.dmlw_commands.proofs.CommandEnds.{asks_for, file_told, makes_none}
 use Rattle.dmlw_commands.proofs.record.record_script.Goals as goal
 
 pub returns-in_err-text-clause-did : goal.returns-in_err-text-clause-did

@@ -1,8 +1,8 @@
-use Rattle.dmlw_files.specs.Images.{image_of}
+use Rattle.dmlw_files.specs.Files.{image_of}
 use Rattle.script_runner.specs.CallLaws.{on_error}
 use Rattle.dmlw_commands.specs.Records.{of_recorder}
 use Rattle.dmlw_script.specs.FirstFault.{IsFaultOf}
-use Rattle.dmlw_commands.proofs.RecordEnds.{fails_by_file, fails_run, fails_unread, log_printed}
+use Rattle.dmlw_commands.proofs.CommandEnds.{fails_by_file, fails_run, fails_unread, log_printed}
 use Rattle.dmlw_commands.proofs.record.run_text.Goals as goal
 
 pub returns-in_err-script-clause-faults : goal.returns-in_err-script-clause-faults

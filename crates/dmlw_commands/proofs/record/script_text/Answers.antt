@@ -1,4 +1,4 @@
-use Rattle.dmlw_commands.proofs.RecordEnds.{not_too_long}
+use Rattle.dmlw_commands.proofs.CommandEnds.{not_too_long}
 use Rattle.dmlw_commands.proofs.record.script_text.Goals as goal
 
 pub returns-clause-within : goal.returns-clause-within

@@ -1,6 +1,6 @@
 use Rattle.std.proofs.Common.{◌+◌, ◌<◌, arith, length}
 use Rattle.std.proofs.lemmas.Option.{slice_get-get_or}
-use Rattle.dmlw_commands.proofs.SeatLines.{prints_next}
+use Rattle.dmlw_commands.proofs.CommandEnds.{prints_next}
 use Rattle.dmlw_commands.proofs.run.print_seats.Goals as goal
 
 pub loop-number-preserved : goal.loop-number-preserved

@@ -1,6 +1,6 @@
 use Rattle.std.proofs.Common.{take}
 use Rattle.std.specs.Io.KnownBytes.{Appends}
-use Rattle.dmlw_commands.specs.LogRuns.{seat_lines}
+use Rattle.dmlw_commands.specs.Records.{seat_lines}
 use Rattle.dmlw_commands.proofs.run.print_seats.Given as goal
 
 abbrev pub invariant-loop-number : goal.invariant-loop-number

@@ -1,9 +1,8 @@
 use Rattle.std.proofs.Common.{◌∙◌}
 use Rattle.dmlw_commands.specs.EndLaws.{ends_told}
-use Rattle.dmlw_commands.specs.Exits.{exit_after}
-use Rattle.dmlw_commands.specs.LogRuns.{of_seats}
-use Rattle.dmlw_commands.proofs.RecordEnds.{failure_kept, seats_kept}
-use Rattle.dmlw_commands.proofs.CommandEnds.{fault_told, makes_end}
+use Rattle.dmlw_commands.specs.Ends.{exit_after}
+use Rattle.dmlw_commands.specs.Records.{of_seats}
+use Rattle.dmlw_commands.proofs.CommandEnds.{failure_kept, fault_told, makes_end, seats_kept}
 use Rattle.dmlw_commands.proofs.run.run.Goals as goal
 
 pub returns-clause-ends : goal.returns-clause-ends

@@ -1,7 +1,7 @@
 use Rattle.std.proofs.Common.{◌≡◌, ◌∙◌, ◌+◌, ◌++◌, ap, rules, subst, sym, take, List, ℕ}
 use Rattle.std.proofs.Math.Seq.{take-append-add}
 use Rattle.std.specs.Io.KnownBytes.{Consumes}
-use Rattle.dmlw_files.proofs.Rests.{consumed_more}
+use Rattle.dmlw_files.proofs.Ranges.{consumed_more}
 use Rattle.dmlw_files.proofs.host_files.fill.Goals as goal
 
 pub loop-count-preserved : goal.loop-count-preserved

@@ -1,4 +1,4 @@
-use Rattle.dmlw_script.specs.Lines.{lines_of}
+use Rattle.dmlw_script.specs.Words.{lines_of}
 use Rattle.dmlw_script.proofs.ReaderLaws.{one_script}
 use Rattle.dmlw_script.proofs.RecorderLaws.{recorder}
 use Rattle.dmlw_script.proofs.laws.one_script.Goals as goal

@@ -1,6 +1,6 @@
 use Rattle.std.proofs.Common.{◌≡◌, ◌++◌, drop}
 use Rattle.std.specs.Prelude.{flat_map, map}
-use Rattle.dmlw_script.specs.CanonicalText.{ended_line}
+use Rattle.dmlw_script.specs.Grammar.{ended_line}
 use Rattle.dmlw_script.specs.Plans.{layer_line}
 use Rattle.dmlw_script.proofs.printed_head.push_layers.Given as goal
 

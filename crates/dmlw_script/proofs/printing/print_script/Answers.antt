@@ -1,6 +1,5 @@
 use Rattle.std.proofs.Common.{◌≡◌, List, sym, subst, ℕ}
-use Rattle.dmlw_script.specs.Grammar.{IsTextOf}
-use Rattle.dmlw_script.specs.CanonicalText.{canonical_text}
+use Rattle.dmlw_script.specs.Grammar.{IsTextOf, canonical_text}
 use Rattle.dmlw_script.proofs.Spelling.{text_in_parts}
 use Rattle.dmlw_script.proofs.printing.print_script.Goals as goal
 

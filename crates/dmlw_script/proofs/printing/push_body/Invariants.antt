@@ -1,8 +1,8 @@
 use Rattle.std.proofs.Common.{◌≡◌, ◌+◌, ◌++◌, length, take, drop}
 use Rattle.std.specs.Prelude.{flat_map}
 use Rattle.dmlw_script.specs.Plans.{lines_of_body, submissions, top_of, IsWellFormed}
-use Rattle.bio.specs.Sizes.{bytes_of}
-use Rattle.dmlw_script.specs.CanonicalText.{ended_line}
+use Rattle.bio.specs.Requests.{bytes_of}
+use Rattle.dmlw_script.specs.Grammar.{ended_line}
 use Rattle.dmlw_script.proofs.printing.push_body.Given as goal
 
 abbrev pub invariant-loop-command : goal.invariant-loop-command

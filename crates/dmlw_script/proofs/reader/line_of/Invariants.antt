@@ -1,6 +1,6 @@
 use Rattle.std.proofs.Common.{◌≡◌, ◌≤◌, ◌+◌, length}
 use Rattle.std.specs.Prelude.{slice_get}
-use Rattle.dmlw_script.specs.Lines.{command_line, unskipped_numbers, lines_of}
+use Rattle.dmlw_script.specs.Words.{command_line, unskipped_numbers, lines_of}
 use Rattle.dmlw_script.proofs.reader.line_of.Given as goal
 
 abbrev pub invariant-loop-line : goal.invariant-loop-line

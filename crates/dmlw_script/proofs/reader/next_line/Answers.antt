@@ -1,7 +1,7 @@
 use Rattle.std.proofs.Common.{◌≡◌, ◌<◌, [], length, arith, sym, ap, ◌∙◌}
 use Rattle.std.specs.Prelude.{unwrap_or, option_copied}
 use Rattle.std.proofs.lemmas.Bool.{eqb-false}
-use Rattle.dmlw_script.proofs.LineLemmas.{after_line, first_line_of}
+use Rattle.dmlw_script.proofs.WordLaws.{after_line, first_line_of}
 use Rattle.dmlw_script.proofs.reader.next_line.Goals as goal
 
 pub returns-in-Some : goal.returns-in-Some

@@ -1,5 +1,5 @@
 use Rattle.std.proofs.Common.{◌≡◌, ap, sym, ◌∙◌, []}
-use Rattle.dmlw_script.specs.Lines.{lines_of}
+use Rattle.dmlw_script.specs.Words.{lines_of}
 use Rattle.dmlw_script.specs.inside.Readers.{progress_of, read_lines, read_text}
 use Rattle.dmlw_script.proofs.ReaderLaws.{end_is_script}
 use Rattle.dmlw_script.proofs.RecorderLaws.{recorder}

@@ -1,5 +1,5 @@
 use Rattle.std.proofs.Common.{◌≡◌, ◌≤◌, ◌+◌, length}
-use Rattle.dmlw_script.specs.Lines.{lines_of}
+use Rattle.dmlw_script.specs.Words.{lines_of}
 use Rattle.dmlw_script.specs.inside.Readers.{progress_of, read_lines, read_text, IsReader}
 use Rattle.dmlw_script.proofs.reader.read.Given as goal
 

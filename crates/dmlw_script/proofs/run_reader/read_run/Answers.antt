@@ -1,6 +1,6 @@
 use Rattle.std.proofs.Common.{◌≡◌, ap, sym, ◌∙◌, []}
-use Rattle.dmlw_script.specs.Lines.{lines_of}
-use Rattle.dmlw_script.specs.inside.RunReaders.{read_run_lines, read_run_text, run_progress}
+use Rattle.dmlw_script.specs.Words.{lines_of}
+use Rattle.dmlw_script.specs.inside.Readers.{read_run_lines, read_run_text, run_progress}
 use Rattle.dmlw_script.proofs.ReaderLaws.{end_is_script}
 use Rattle.dmlw_script.proofs.RunLaws.{runner}
 use Rattle.dmlw_script.proofs.run_reader.read_run.Goals as goal

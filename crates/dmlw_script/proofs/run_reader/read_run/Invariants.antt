@@ -1,6 +1,6 @@
 use Rattle.std.proofs.Common.{◌≡◌, ◌≤◌, ◌+◌, length}
-use Rattle.dmlw_script.specs.Lines.{lines_of}
-use Rattle.dmlw_script.specs.inside.RunReaders.{read_run_lines, read_run_text, run_progress}
+use Rattle.dmlw_script.specs.Words.{lines_of}
+use Rattle.dmlw_script.specs.inside.Readers.{read_run_lines, read_run_text, run_progress}
 use Rattle.dmlw_script.proofs.run_reader.read_run.Given as goal
 
 abbrev pub invariant-loop-line : goal.invariant-loop-line

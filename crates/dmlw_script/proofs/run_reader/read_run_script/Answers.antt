@@ -1,4 +1,4 @@
-use Rattle.dmlw_script.specs.Lines.{lines_of}
+use Rattle.dmlw_script.specs.Words.{lines_of}
 use Rattle.dmlw_script.specs.RunFirstFault.{IsRunFaultAt, IsReadAsRun}
 use Rattle.dmlw_script.proofs.FaultLaws.{fault_found}
 use Rattle.dmlw_script.proofs.ReaderLaws.{found, only}

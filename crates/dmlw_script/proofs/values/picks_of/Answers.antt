@@ -2,7 +2,7 @@ use Rattle.std.proofs.Common.{List, ℕ, refl, ap, sym, ◌∙◌, arith}
 use Rattle.std.specs.Prelude.{option_copied}
 use Rattle.dmlw_script.specs.inside.LineParser.{picks_of as the_picks}
 use Rattle.refusals.specs.Words.{number_of as the_number}
-use Rattle.dmlw_script.proofs.PickLaws.{left_behind, no_pick, pick_read, picks_after}
+use Rattle.dmlw_script.proofs.WordLaws.{left_behind, no_pick, pick_read, picks_after}
 use Rattle.dmlw_script.proofs.values.picks_of.Goals as goal
 
 pub returns-in-None-clause-none : goal.returns-in-None-clause-none

@@ -1,7 +1,7 @@
 use Rattle.std.proofs.Common.{◌≡◌}
 use Rattle.std.specs.Prelude.{option_copied}
 use Rattle.dmlw_script.specs.inside.LineParser.{picks_of}
-use Rattle.dmlw_script.proofs.PickLaws.{left_of, picks_after}
+use Rattle.dmlw_script.proofs.WordLaws.{left_of, picks_after}
 use Rattle.dmlw_script.proofs.values.picks_of.Given as goal
 
 abbrev pub invariant-loop-rest : goal.invariant-loop-rest

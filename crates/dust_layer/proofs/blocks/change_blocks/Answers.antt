@@ -1,5 +1,5 @@
 use Rattle.std.proofs.Common.{refl, sym, ◌∙◌, arith}
-use Rattle.dust_layer.specs.BadBlocks.{listed}
+use Rattle.dust_layer.specs.Walk.{listed}
 use Rattle.dust_layer.proofs.BlockWalk.{changes_failed, changes_fails, changes_first, changes_goes}
 use Rattle.dust_layer.proofs.BlockWalk.{changes_land, changes_step}
 use Rattle.dust_layer.proofs.blocks.change_blocks.Goals as goal

@@ -1,5 +1,4 @@
-use Rattle.dust_layer.specs.BadBlocks.{listed}
-use Rattle.dust_layer.specs.Change.{call_of, fua_of}
+use Rattle.dust_layer.specs.Walk.{call_of, fua_of, listed}
 use Rattle.dust_layer.proofs.BlockWalk.{Changes}
 use Rattle.dust_layer.proofs.blocks.change_blocks.Given as goal
 

@@ -1,7 +1,7 @@
 use Rattle.std.proofs.Common.{refl, sym, ◌∙◌, arith}
 use Rattle.blockdev.specs.JoinLaws.{goes_both}
 use Rattle.bio.specs.Content.{nothing}
-use Rattle.dust_layer.specs.BadBlocks.{listed}
+use Rattle.dust_layer.specs.Walk.{listed}
 use Rattle.dust_layer.proofs.ReadParts.{reading_bytes, reading_failed, reading_step}
 use Rattle.dust_layer.proofs.blocks.read_blocks.Goals as goal
 

@@ -1,5 +1,5 @@
 use Rattle.std.proofs.Common.{◌≡◌, length}
-use Rattle.dust_layer.specs.BadBlocks.{listed}
+use Rattle.dust_layer.specs.Walk.{listed}
 use Rattle.dust_layer.proofs.ReadParts.{Reading}
 use Rattle.dust_layer.proofs.blocks.read_blocks.Given as goal
 

@@ -1,8 +1,8 @@
 use Rattle.std.proofs.Common.{length, ap, sym, ◌∙◌, inl, inr, arith}
 use Rattle.bio.specs.Content.{sector_of}
 use Rattle.bio.specs.PlaceLaws.{last_or_below}
-use Rattle.judge.specs.Firsts.{first_on}
-use Rattle.judge.specs.inside.Accounts.{could_hold_value}
+use Rattle.judge.specs.Accounts.{first_on}
+use Rattle.judge.specs.inside.{could_hold_value}
 use Rattle.judge.proofs.accounts.lowest_failing.Goals as goal
 
 pub loop-sector-preserved : goal.loop-sector-preserved

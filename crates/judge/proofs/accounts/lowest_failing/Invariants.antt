@@ -1,7 +1,7 @@
 use Rattle.std.proofs.Common.{◌≡◌, ℕ, ◌<◌, length, true}
 use Rattle.bio.specs.Content.{sector_of}
-use Rattle.judge.specs.Firsts.{first_on}
-use Rattle.judge.specs.inside.Accounts.{could_hold_value}
+use Rattle.judge.specs.Accounts.{first_on}
+use Rattle.judge.specs.inside.{could_hold_value}
 use Rattle.judge.proofs.accounts.lowest_failing.Given as goal
 
 abbrev pub invariant-loop-sector : goal.invariant-loop-sector

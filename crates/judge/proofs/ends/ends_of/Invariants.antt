@@ -1,4 +1,4 @@
-use Rattle.judge.specs.inside.Last.{AreEnds}
+use Rattle.judge.specs.inside.{AreEnds}
 use Rattle.judge.proofs.ends.ends_of.Given as goal
 
 abbrev pub invariant-loop-place : goal.invariant-loop-place

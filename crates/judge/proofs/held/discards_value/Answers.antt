@@ -1,5 +1,5 @@
 use Rattle.std.proofs.Common.{replicate, ◌∙◌}
-use Rattle.judge.proofs.Values.{some_value}
+use Rattle.judge.proofs.HeldValues.{some_value}
 use Rattle.judge.proofs.held.discards_value.Goals as goal
 
 pub returns-in-Some : goal.returns-in-Some

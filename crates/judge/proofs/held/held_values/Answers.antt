@@ -1,7 +1,7 @@
 use Rattle.std.proofs.Common.{◌≡◌, ℕ, suc, ◌+◌, ◌/◌, length, ◌∙◌, subst, arith}
 use Rattle.bio.specs.Content.{sector_of}
 use Rattle.bio.specs.PlaceLaws.{slice_get-of_get_or}
-use Rattle.judge.specs.inside.Accounts.{AreHeld}
+use Rattle.judge.specs.inside.{AreHeld}
 use Rattle.judge.proofs.HeldValues.{held_next}
 use Rattle.judge.proofs.held.held_values.Goals as goal
 

@@ -1,6 +1,6 @@
 use Rattle.std.proofs.Common.{◌/◌, length}
 use Rattle.bio.specs.Content.{sector_of}
-use Rattle.judge.specs.inside.Accounts.{AreHeld}
+use Rattle.judge.specs.inside.{AreHeld}
 use Rattle.judge.proofs.held.held_values.Given as goal
 
 abbrev pub invariant-loop-place : goal.invariant-loop-place

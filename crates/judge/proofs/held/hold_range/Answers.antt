@@ -1,6 +1,6 @@
 use Rattle.std.proofs.Common.{◌≡◌, ℕ, suc, ◌+◌, Some, sym, ◌∙◌, subst, arith}
 use Rattle.bio.specs.Content.{sector_of}
-use Rattle.judge.specs.inside.Accounts.{AreFit}
+use Rattle.judge.specs.inside.{AreFit}
 use Rattle.judge.proofs.HeldValues.{fit_here, fit_not}
 use Rattle.judge.proofs.held.hold_range.Goals as goal
 use Rattle.judge.proofs.held.hold_range.Goals.{then-fits, else-fits}

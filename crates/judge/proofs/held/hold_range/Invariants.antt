@@ -1,6 +1,6 @@
 use Rattle.std.proofs.Common.{Some}
 use Rattle.bio.specs.Content.{sector_of}
-use Rattle.judge.specs.inside.Accounts.{AreFit}
+use Rattle.judge.specs.inside.{AreFit}
 use Rattle.judge.proofs.held.hold_range.Given as goal
 
 abbrev pub invariant-loop-sector : goal.invariant-loop-sector

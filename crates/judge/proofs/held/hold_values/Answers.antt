@@ -1,6 +1,6 @@
 use Rattle.std.proofs.Common.{◌≡◌, ℕ, Some, length, subst, arith}
 use Rattle.bio.specs.Content.{sector_of}
-use Rattle.judge.specs.inside.Last.{AreCovered}
+use Rattle.judge.specs.inside.{AreCovered}
 use Rattle.judge.proofs.HeldValues.{fit_all}
 use Rattle.judge.proofs.held.hold_values.Goals as goal
 

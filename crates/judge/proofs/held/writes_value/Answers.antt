@@ -1,6 +1,6 @@
 use Rattle.std.proofs.Common.{◌/◌, length, ◌∙◌}
 use Rattle.bio.specs.Content.{sector_of}
-use Rattle.judge.proofs.Values.{some_value}
+use Rattle.judge.proofs.HeldValues.{some_value}
 use Rattle.judge.proofs.held.writes_value.Goals as goal
 
 pub returns-in-Some : goal.returns-in-Some

@@ -1,7 +1,7 @@
 use Rattle.std.proofs.Common.{List, length, ◌/◌, take, subst}
 use Rattle.bio.specs.Content.{sector_of}
 use Rattle.bio.specs.declared.event.CoreEvent.{CoreEvent}
-use Rattle.bio.specs.EventLaws.{lawful-take}
+use Rattle.bio.specs.PlaceLaws.{lawful-take}
 use Rattle.judge.specs.Accounts.{IsAccount}
 use Rattle.judge.proofs.images.could_hold.Goals as goal
 

@@ -1,7 +1,7 @@
 use Rattle.std.proofs.Common.{◌≡◌, ℕ, suc, ◌+◌, sym, ◌∙◌, subst, arith}
-use Rattle.judge.specs.inside.Last.{AreLastKept}
+use Rattle.judge.specs.inside.{AreLastKept}
 use Rattle.bio.specs.PlaceLaws.{slice_get-of_get_or}
-use Rattle.judge.proofs.Last.{last_kept_durable, last_kept_other}
+use Rattle.judge.proofs.HeldValues.{last_kept_durable, last_kept_other}
 use Rattle.judge.proofs.kept.last_kept.Goals as goal
 use Rattle.judge.proofs.kept.last_kept.Goals.{then-is_durable, else-is_durable}
 

@@ -1,4 +1,4 @@
-use Rattle.judge.specs.inside.Last.{AreLastKept}
+use Rattle.judge.specs.inside.{AreLastKept}
 use Rattle.judge.proofs.kept.last_kept.Given as goal
 
 abbrev pub invariant-loop-place : goal.invariant-loop-place

@@ -1,4 +1,4 @@
-use Rattle.judge.specs.inside.Last.{ArePut}
+use Rattle.judge.specs.inside.{ArePut}
 use Rattle.judge.proofs.kept.put_place.Given as goal
 
 abbrev pub invariant-loop-sector : goal.invariant-loop-sector

@@ -1,6 +1,6 @@
 use Rattle.std.proofs.Common.{ℕ, length, ap, sym, ◌∙◌, arith}
 use Rattle.std.specs.Prelude.{slice_get}
-use Rattle.bio.specs.Lawful.{is_within}
+use Rattle.bio.specs.Events.{is_within}
 use Rattle.bio.specs.PlaceLaws.{all_next, not_all, slice_get-of_get_or}
 use Rattle.judge.proofs.lawful.are_within.Goals as goal
 

@@ -1,7 +1,7 @@
 use Rattle.std.proofs.Common.{◌≡◌, true}
 use Rattle.std.specs.Prelude.{slice_get}
 use Rattle.bio.specs.Places.{all_below}
-use Rattle.bio.specs.Lawful.{is_within}
+use Rattle.bio.specs.Events.{is_within}
 use Rattle.judge.proofs.lawful.are_within.Given as goal
 
 abbrev pub invariant-loop-event : goal.invariant-loop-event

@@ -1,5 +1,5 @@
 use Rattle.std.proofs.Common.{◌≡◌, None}
-use Rattle.judge.specs.inside.Last.{end_below}
+use Rattle.judge.specs.inside.{end_below}
 use Rattle.judge.proofs.lawful.has_no_end.Given as goal
 
 abbrev pub invariant-loop-place : goal.invariant-loop-place

@@ -1,6 +1,6 @@
 use Rattle.std.proofs.Common.{ℕ, length, take, ap, sym, ◌∙◌, arith}
 use Rattle.std.specs.Prelude.{slice_get}
-use Rattle.bio.specs.Lawful.{can_follow}
+use Rattle.bio.specs.Events.{can_follow}
 use Rattle.bio.specs.PlaceLaws.{all_next, not_all, slice_get-of_get_or}
 use Rattle.judge.proofs.lawful.is_well_formed.Goals as goal
 

@@ -1,7 +1,7 @@
 use Rattle.std.proofs.Common.{◌≡◌, true, take}
 use Rattle.std.specs.Prelude.{slice_get}
 use Rattle.bio.specs.Places.{all_below}
-use Rattle.bio.specs.Lawful.{can_follow}
+use Rattle.bio.specs.Events.{can_follow}
 use Rattle.judge.proofs.lawful.is_well_formed.Given as goal
 
 abbrev pub invariant-loop-place : goal.invariant-loop-place

@@ -2,7 +2,7 @@ use Rattle.std.proofs.Common.{get_or, subst}
 use Rattle.std.proofs.lemmas.Option.{slice_get-get_or}
 use Rattle.bio.specs.PlaceLaws.{slice_get-within}
 use Rattle.lock_state.specs.Comparison.{Tells}
-use Rattle.lock_state.proofs.CallCounts.{done_as}
+use Rattle.lock_state.proofs.SeatList.{done_as}
 use Rattle.lock_state.proofs.served.is_done_as.Goals as goal
 
 pub returns-in-Submit : goal.returns-in-Submit

@@ -1,7 +1,7 @@
 use Rattle.std.proofs.Common.{get_or, ◌∙◌}
 use Rattle.std.proofs.lemmas.Option.{slice_get-get_or}
 use Rattle.lock_state.specs.declared.served.Seen.TheVariants.{Never}
-use Rattle.lock_state.proofs.CallCounts.{not_noted, nobody_ok, failed_ok, is_noted}
+use Rattle.lock_state.proofs.SeatList.{not_noted, nobody_ok, failed_ok, is_noted}
 use Rattle.lock_state.proofs.served.note.Goals as goal
 
 pub returns-in_default-clause-noted : goal.returns-in_default-clause-noted

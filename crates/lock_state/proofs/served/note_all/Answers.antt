@@ -1,8 +1,7 @@
 use Rattle.std.proofs.Common.{◌≡◌, ◌+◌, ◌<◌, suc, length, take, sym, ◌∙◌, arith}
 use Rattle.bio.specs.PlaceLaws.{slice_get-of_get_or}
 use Rattle.lock_state.proofs.Lists.{take_next}
-use Rattle.lock_state.proofs.SeatList.{take_length, take_past}
-use Rattle.lock_state.proofs.CallCounts.{all_tell-push}
+use Rattle.lock_state.proofs.SeatList.{all_tell-push, take_length, take_past}
 use Rattle.lock_state.proofs.served.note_all.Goals as goal
 
 pub loop-place-preserved : goal.loop-place-preserved

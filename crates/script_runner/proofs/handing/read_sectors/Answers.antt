@@ -3,9 +3,9 @@ use Rattle.std.proofs.Common.{drop, inl, inr, length, refl, rules, subst, sym, t
 use Rattle.std.specs.Prelude.{IfSome, option_map}
 use Rattle.bio.specs.declared.ms.Ms.{Ms}
 use Rattle.bio.specs.declared.outcome.DevError.{DevError}
-use Rattle.blockdev.specs.Calls.{Reads}
-use Rattle.script_runner.specs.HandOver.{ReadsSectors}
-use Rattle.script_runner.proofs.ReadLines.{byte_range, filled, range_parts}
+use Rattle.blockdev.specs.View.{Reads}
+use Rattle.script_runner.specs.Lines.{ReadsSectors}
+use Rattle.script_runner.proofs.LineSteps.{byte_range, filled, range_parts}
 use Rattle.script_runner.proofs.handing.read_sectors.Goals as goal
 
 pub returns-in-Ok-clause-reads : goal.returns-in-Ok-clause-reads

@@ -1,4 +1,4 @@
-use Rattle.script_runner.proofs.BareDisk.{bare_log_fails}
+use Rattle.script_runner.proofs.DiskRun.{bare_log_fails}
 use Rattle.script_runner.proofs.laws.bare_logs_fail_only_by_memory.Goals as goal
 
 pub returns : goal.returns

@@ -1,5 +1,5 @@
 use Rattle.script_runner.specs.Lines.{answering}
-use Rattle.script_runner.proofs.Moments.{lines_together, started_together}
+use Rattle.script_runner.proofs.DiskRun.{lines_together, started_together}
 use Rattle.script_runner.proofs.laws.both_devices_are_called_at_one_time.Goals as goal
 
 pub returns-clause-start : goal.returns-clause-start

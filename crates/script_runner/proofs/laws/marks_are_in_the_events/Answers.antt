@@ -1,6 +1,6 @@
-use Rattle.script_runner.proofs.RequestFates.{queued_stands, stays}
+use Rattle.script_runner.proofs.Logs.{queued_stands, stays}
 use Rattle.script_runner.proofs.laws.marks_are_in_the_events.Goals as goal
-use Rattle.recorder.specs.Fields.{core_of}
+use Rattle.recorder.specs.Calls.{core_of}
 
 pub returns : goal.returns
 returns g c = λ names body mark text more id old mid new line queued ran.

@@ -1,5 +1,5 @@
 use Rattle.script_runner.specs.Lines.{answering}
-use Rattle.script_runner.proofs.RequestFates.{lines_ask, lines_followed}
+use Rattle.script_runner.proofs.Logs.{lines_ask, lines_followed}
 use Rattle.script_runner.proofs.laws.requests_are_in_the_events.Goals as goal
 
 pub returns-clause-asked : goal.returns-clause-asked

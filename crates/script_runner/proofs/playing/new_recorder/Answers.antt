@@ -1,5 +1,5 @@
 use Rattle.std.proofs.Common.{◌∙◌, ap, inr}
-use Rattle.bio.specs.Causes.{end_cause}
+use Rattle.bio.specs.Refusals.{end_cause}
 use Rattle.refusals.specs.declared.run_error.RunError.TheVariants.{LoggingEnded}
 use Rattle.script_runner.proofs.DiskRun.{new_log}
 use Rattle.script_runner.proofs.playing.new_recorder.Goals as goal

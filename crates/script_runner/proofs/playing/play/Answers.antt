@@ -1,10 +1,10 @@
 use Rattle.std.proofs.Common.{◌∙◌, ◌≤◌, ap, subst, sym}
 use Rattle.std.specs.Prelude.{◌/◌}
-use Rattle.bio.specs.Sizes.{bytes_of}
-use Rattle.bio.specs.declared.sector_size.SectorSize.{SectorSize}
+use Rattle.bio.specs.Requests.{bytes_of}
+use Rattle.bio.specs.declared.request.SectorSize.{SectorSize}
 use Rattle.script_runner.specs.CallLaws.{on_error}
-use Rattle.script_runner.specs.inside.Play.{FailsPlaying, run}
-use Rattle.script_runner.proofs.Plays.{fails_at_start, start_bytes, started, unstarted}
+use Rattle.script_runner.specs.inside.{FailsPlaying, run}
+use Rattle.script_runner.proofs.DiskRun.{fails_at_start, start_bytes, started, unstarted}
 use Rattle.script_runner.proofs.LineSteps.{if_failed}
 use Rattle.script_runner.proofs.playing.play.Goals as goal
 

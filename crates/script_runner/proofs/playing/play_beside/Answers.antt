@@ -1,14 +1,14 @@
 use Rattle.std.proofs.Common.{inl, subst, sym}
-use Rattle.bio.specs.Sizes.{bytes_of}
+use Rattle.bio.specs.Requests.{bytes_of}
 use Rattle.dmlw_script.specs.Plans.{Disk}
 use Rattle.layer_table.specs.StackMessages.{StackAnswers}
 use Rattle.script_runner.specs.CallLaws.{on_error}
 use Rattle.script_runner.specs.Lines.{answering}
 use Rattle.layer_table.specs.Layers.{on_stack}
 use Rattle.script_runner.specs.DiskRun.{IsStackOf}
-use Rattle.script_runner.specs.inside.Play.{FailsPlaying}
+use Rattle.script_runner.specs.inside.{FailsPlaying}
+use Rattle.script_runner.proofs.DiskRun.{all_played, fails_at_start, fails_from, on_beside}
 use Rattle.script_runner.proofs.DiskRun.{stack_size}
-use Rattle.script_runner.proofs.Plays.{all_played, fails_at_start, fails_from, on_beside}
 use Rattle.script_runner.proofs.LineSteps.{if_err, if_failed}
 use Rattle.script_runner.proofs.playing.play_beside.Goals as goal
 

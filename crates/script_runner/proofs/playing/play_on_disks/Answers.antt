@@ -3,8 +3,7 @@ use Rattle.dmlw_script.specs.Plans.{top_of, Disk}
 use Rattle.script_runner.specs.CallLaws.{on_error}
 use Rattle.layer_table.specs.Layers.{on_stack, stack_shown}
 use Rattle.script_runner.specs.DiskRun.{stack_answering, FailsOnDisks, IsStackOf, file}
-use Rattle.script_runner.proofs.DiskRun.{stack_size}
-use Rattle.script_runner.proofs.Plays.{all_played, beside_starts, fails_on_disks}
+use Rattle.script_runner.proofs.DiskRun.{all_played, beside_starts, fails_on_disks, stack_size}
 use Rattle.script_runner.proofs.LineSteps.{if_err, if_failed}
 use Rattle.script_runner.proofs.playing.play_on_disks.Goals as goal
 

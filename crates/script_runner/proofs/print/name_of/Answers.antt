@@ -1,4 +1,4 @@
-use Rattle.script_runner.proofs.PrintedLines.{name_is}
+use Rattle.script_runner.proofs.LineSteps.{name_is}
 use Rattle.script_runner.proofs.print.name_of.Goals as goal
 
 pub returns-clause-id : goal.returns-clause-id

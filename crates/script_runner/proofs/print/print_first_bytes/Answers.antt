@@ -1,6 +1,6 @@
 use Rattle.std.proofs.Common.{◌*◌, rules}
 use Rattle.std.specs.Prelude.{slice_index_or}
-use Rattle.script_runner.proofs.ReadLines.{byte_printed}
+use Rattle.script_runner.proofs.LineSteps.{byte_printed}
 use Rattle.script_runner.proofs.print.print_first_bytes.Goals as goal
 
 pub loop-sector-preserved : goal.loop-sector-preserved

@@ -1,5 +1,5 @@
 use Rattle.std.specs.Io.KnownBytes.{Appends}
-use Rattle.script_runner.specs.Texts.{first_bytes}
+use Rattle.script_runner.specs.Lines.{first_bytes}
 use Rattle.script_runner.proofs.print.print_first_bytes.Given as goal
 
 abbrev pub invariant-loop-sector : goal.invariant-loop-sector

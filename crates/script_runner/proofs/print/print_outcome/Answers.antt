@@ -1,4 +1,4 @@
-use Rattle.script_runner.proofs.PrintedLines.{outcome_printed}
+use Rattle.script_runner.proofs.LineSteps.{outcome_printed}
 use Rattle.script_runner.proofs.print.print_outcome.Goals as goal
 
 pub returns-clause-output : goal.returns-clause-output

@@ -2,8 +2,7 @@ use Rattle.std.proofs.Common.{◌≡◌, ◌∙◌, ℕ, ◌*◌, Global, Option
 use Rattle.std.specs.Prelude.{IfSome}
 use Rattle.script_runner.specs.CallLaws.{on_error}
 use Rattle.script_runner.specs.Lines.{StopsForFile}
-use Rattle.script_runner.proofs.ReadLines.{failed_printed, read_printed}
-use Rattle.script_runner.proofs.LineSteps.{on_failed, output_stops}
+use Rattle.script_runner.proofs.LineSteps.{failed_printed, on_failed, output_stops, read_printed}
 use Rattle.script_runner.proofs.print.print_read.Goals as goal
 
 pub print_first_bytes-requires : goal.print_first_bytes-requires

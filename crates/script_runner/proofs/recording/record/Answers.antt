@@ -2,11 +2,11 @@ use Rattle.std.proofs.Common.{◌≡◌, ◌∙◌, ap, subst, sym}
 use Rattle.script_runner.specs.CallLaws.{on_error}
 use Rattle.script_runner.specs.DiskRun.{DiskRecorder, FailsOnDisks, IsCounted}
 use Rattle.log_format.specs.LogOf.{status_of}
-use Rattle.log_store.specs.Fields.{store_of}
+use Rattle.log_store.specs.Calls.{store_of}
 use Rattle.log_store.specs.Store.{entries_of}
 use Rattle.pending.specs.CoreState.{IsSound}
-use Rattle.recorder.specs.CrashReplay.{ReplaysToPossible}
-use Rattle.recorder.specs.Fields.{core_of, recorder_view}
+use Rattle.recorder.specs.Growth.{ReplaysToPossible}
+use Rattle.recorder.specs.Calls.{core_of, recorder_view}
 use Rattle.layer_table.specs.Layers.{stack_shown}
 use Rattle.bio.specs.Content.{Content}
 use Rattle.script_runner.proofs.DiskRun.{image_agrees, image_long, image_of, is_recorded, same_lies}

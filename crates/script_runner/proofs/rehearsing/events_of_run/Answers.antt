@@ -3,19 +3,18 @@ use Rattle.std.proofs.Common.{true, false, ap, inl, inr, not, refl, subst, sym}
 use Rattle.std.proofs.lemmas.Bool.{and_parts}
 use Rattle.std.specs.List.{list_all, list_any}
 use Rattle.bio.specs.declared.event.CoreEvent.{CoreEvent}
-use Rattle.bio.specs.Lawful.{all_aligned, is_lawful, is_well_formed}
-use Rattle.bio.specs.SizeLaws.{lawful_parts}
-use Rattle.bio.specs.Sizes.{bytes_of}
+use Rattle.bio.specs.Events.{all_aligned, is_lawful, is_well_formed}
+use Rattle.bio.specs.RequestLaws.{lawful_parts}
+use Rattle.bio.specs.Requests.{bytes_of}
 use Rattle.dmlw_script.specs.Plans.{top_of}
 use Rattle.pending.specs.CoreState.{CoreState}
 use Rattle.script_runner.specs.CallLaws.{on_error}
-use Rattle.script_runner.specs.DiskRun.{DiskRecorder}
-use Rattle.script_runner.specs.Rehearsals.{FailsRehearsal, is_memory_stop}
+use Rattle.script_runner.specs.DiskRun.{DiskRecorder, FailsRehearsal, is_memory_stop}
 use Rattle.script_runner.specs.Submissions.{is_asked}
 use Rattle.script_runner.proofs.LawfulRuns.{run_lawful}
 use Rattle.script_runner.proofs.LineSteps.{if_failed}
 use Rattle.script_runner.proofs.rehearsing.events_of_run.Goals as goal
-use Rattle.recorder.specs.Fields.{core_of}
+use Rattle.recorder.specs.Calls.{core_of}
 
 pub returns-in_err-played-clause-rehearsed : goal.returns-in_err-played-clause-rehearsed
 returns-in_err-played-clause-rehearsed c =

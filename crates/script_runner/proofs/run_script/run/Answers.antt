@@ -1,9 +1,9 @@
 use Rattle.std.proofs.Common.{◌≡◌, ◌+◌, ℕ, ap, arith, length, subst, sym, ◌∙◌}
 use Rattle.dmlw_script.specs.declared.command.Command.{Command}
-use Rattle.dmlw_script.specs.Lines.{command_line}
+use Rattle.dmlw_script.specs.Words.{command_line}
 use Rattle.dmlw_script.specs.Plans.{HasName}
 use Rattle.refusals.specs.declared.refusal.Refusal.{Refusal}
-use Rattle.recorder.specs.Fields.{core_of}
+use Rattle.recorder.specs.Calls.{core_of}
 use Rattle.refusals.specs.declared.run_error.RunError.TheVariants.{Refused}
 use Rattle.script_runner.specs.declared.step_error.StepError.TheVariants.{AtLine}
 use Rattle.script_runner.specs.Lines.{answering, EndsSubmitted, FitsDevice, HasScriptText}

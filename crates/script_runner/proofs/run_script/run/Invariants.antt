@@ -1,7 +1,7 @@
 use Rattle.std.proofs.Common.{◌≡◌, length, take}
-use Rattle.bio.specs.Sizes.{bytes_of}
+use Rattle.bio.specs.Requests.{bytes_of}
 use Rattle.dmlw_script.specs.Plans.{submissions, top_of}
-use Rattle.recorder.specs.Fields.{core_of}
+use Rattle.recorder.specs.Calls.{core_of}
 use Rattle.script_runner.specs.Lines.{answering}
 use Rattle.script_runner.specs.Runs.{PrintsLines}
 use Rattle.script_runner.proofs.run_script.run.Given as goal

@@ -1,6 +1,6 @@
 use Rattle.std.proofs.Common.{◌≡◌, map}
-use Rattle.script_runner.specs.inside.SeatWork.{Player}
-use Rattle.script_runner.specs.Tallies.{joined}
+use Rattle.script_runner.specs.inside.{Player}
+use Rattle.script_runner.specs.SeatRuns.{joined}
 use Rattle.script_runner.proofs.seat_run.parts_of.Given as goal
 
 abbrev pub invariant-loop-work : goal.invariant-loop-work

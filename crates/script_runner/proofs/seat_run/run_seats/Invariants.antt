@@ -1,4 +1,4 @@
-use Rattle.bio.specs.Sizes.{bytes_of}
+use Rattle.bio.specs.Requests.{bytes_of}
 use Rattle.dmlw_script.specs.Plans.{top_of}
 use Rattle.layer_table.specs.Layers.{stack_shown}
 use Rattle.lock_state.specs.PlacedItems.{ground_of}

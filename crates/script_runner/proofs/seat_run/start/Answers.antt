@@ -1,5 +1,5 @@
 use Rattle.std.proofs.Common.{subst, sym}
-use Rattle.refusals.specs.declared.end.End.{End}
+use Rattle.refusals.specs.declared.run_error.End.{End}
 use Rattle.refusals.specs.declared.run_error.RunError.TheVariants.{LoggingEnded}
 use Rattle.script_runner.specs.SeatRuns.{FailsRun, unmade}
 use Rattle.script_runner.proofs.seat_run.start.Goals as goal

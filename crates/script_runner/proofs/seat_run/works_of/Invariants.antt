@@ -1,5 +1,5 @@
 use Rattle.std.proofs.Common.{length}
-use Rattle.script_runner.specs.inside.SeatWork.{AreNewPlayers}
+use Rattle.script_runner.specs.inside.{AreNewPlayers}
 use Rattle.script_runner.proofs.seat_run.works_of.Given as goal
 
 abbrev pub invariant-loop-seat : goal.invariant-loop-seat

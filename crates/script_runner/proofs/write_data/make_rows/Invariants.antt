@@ -1,5 +1,5 @@
 use Rattle.std.proofs.Common.{◌-◌, length}
-use Rattle.script_runner.specs.inside.WriteData.{AreFilled}
+use Rattle.script_runner.specs.Submissions.{AreFilled}
 use Rattle.script_runner.proofs.write_data.make_rows.Given as goal
 
 abbrev pub invariant-loop-alloc : goal.invariant-loop-alloc

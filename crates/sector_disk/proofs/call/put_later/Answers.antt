@@ -1,8 +1,7 @@
 use Rattle.std.proofs.Common.{◌≡◌, ◌+◌, ◌*◌, ◌∙◌, ◌-◌, ap, arith, drop, length, sym, take}
-use Rattle.sector_disk.specs.inside.Overlay.{put_over}
-use Rattle.sector_disk.specs.inside.Storage.{place_of, value_at}
-use Rattle.sector_disk.proofs.ImageBack.{gather-kept, left_first, left_later, rest-next, rest-put}
-use Rattle.sector_disk.proofs.SectorValues.{gather-next, length-value_at}
+use Rattle.sector_disk.specs.inside.Storage.{place_of, put_over, value_at}
+use Rattle.sector_disk.proofs.ImageBack.{gather-kept, gather-next, left_first, left_later}
+use Rattle.sector_disk.proofs.ImageBack.{length-value_at, rest-next, rest-put}
 use Rattle.sector_disk.proofs.call.put_later.Goals as goal
 use Rattle.sector_disk.proofs.call.put_later.Goals.{then-place-gt0, else-place-gt0}
 

@@ -1,6 +1,6 @@
 use Rattle.std.proofs.Common.{◌≡◌, ◌*◌, drop, take}
 use Rattle.bio.specs.Content.{gather}
-use Rattle.sector_disk.specs.inside.Overlay.{put_over}
+use Rattle.sector_disk.specs.inside.Storage.{put_over}
 use Rattle.sector_disk.proofs.call.put_later.Given as goal
 
 abbrev pub invariant-loop-sector : goal.invariant-loop-sector

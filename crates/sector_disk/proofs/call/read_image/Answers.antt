@@ -1,5 +1,5 @@
 use Rattle.std.proofs.Common.{arith}
-use Rattle.sector_disk.proofs.SectorValues.{written-none, written-some}
+use Rattle.sector_disk.proofs.ImageBack.{written-none, written-some}
 use Rattle.sector_disk.proofs.call.read_image.Goals as goal
 use Rattle.sector_disk.proofs.call.read_image.Goals.{then-sector-first-via-then-sector-first}
 use Rattle.sector_disk.proofs.call.read_image.Goals.{then-sector-first-via-else-sector-first+then-sector-first-2}

@@ -1,5 +1,5 @@
 use Rattle.std.proofs.Common.{arith}
-use Rattle.sector_disk.proofs.SectorValues.{gather-next, length-value_at}
+use Rattle.sector_disk.proofs.ImageBack.{gather-next, length-value_at}
 use Rattle.sector_disk.proofs.call.read_places.Goals as goal
 
 pub loop-index-preserved : goal.loop-index-preserved

@@ -1,6 +1,6 @@
 use Rattle.std.proofs.Common.{◌∙◌, arith}
 use Rattle.std.proofs.lemmas.List.{length-set}
-use Rattle.sector_disk.proofs.NextPick.{chosen-next, unsynced-next}
+use Rattle.sector_disk.proofs.NewPast.{chosen-next, unsynced-next}
 use Rattle.sector_disk.proofs.choice.choose.Goals as goal
 use Rattle.sector_disk.proofs.choice.choose.Goals.{then-count-gt1, else-count-gt1}
 

@@ -1,7 +1,6 @@
 use Rattle.std.proofs.Common.{◌≡◌, ◌≤◌, length}
 use Rattle.sector_disk.specs.Candidates.{Cache, unsynced_below}
-use Rattle.sector_disk.specs.inside.Choice.{AreChosen}
-use Rattle.sector_disk.specs.inside.Storage.{ArePlaced}
+use Rattle.sector_disk.specs.inside.Storage.{AreChosen, ArePlaced}
 use Rattle.sector_disk.proofs.choice.choose.Given as goal
 
 abbrev pub invariant-loop-sector : goal.invariant-loop-sector

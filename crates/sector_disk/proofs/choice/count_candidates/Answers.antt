@@ -1,6 +1,6 @@
 use Rattle.std.proofs.Common.{◌-◌, ap, sym, ◌∙◌, arith}
 use Rattle.sector_disk.specs.inside.Storage.{is_chain}
-use Rattle.sector_disk.proofs.Chains.{chain-closed, chain-open}
+use Rattle.sector_disk.proofs.ImageBack.{chain-closed, chain-open}
 use Rattle.sector_disk.proofs.choice.count_candidates.Goals as goal
 
 pub returns-then-not-is_open-clause-count : goal.returns-then-not-is_open-clause-count

@@ -1,6 +1,6 @@
 use Rattle.std.proofs.Common.{◌-◌, ◌/◌, false, length, replicate, true}
 use Rattle.bio.specs.Content.{discards, sector_of, writes}
-use Rattle.sector_disk.proofs.Lawful.{may-flushed, may-put, over-there}
+use Rattle.sector_disk.proofs.DeviceLaw.{may-flushed, may-put, over-there}
 use Rattle.sector_disk.proofs.laws.calls_make_candidates.Goals as goal
 
 pub returns-clause-plain : goal.returns-clause-plain

@@ -1,6 +1,6 @@
 use Rattle.std.proofs.Common.{false}
 use Rattle.bio.specs.Content.{discards, writes}
-use Rattle.sector_disk.proofs.Lawful.{torn-left}
+use Rattle.sector_disk.proofs.DeviceLaw.{torn-left}
 use Rattle.sector_disk.proofs.laws.running_calls_tear.Goals as goal
 
 pub returns-clause-write : goal.returns-clause-write

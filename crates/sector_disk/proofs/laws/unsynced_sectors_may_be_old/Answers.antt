@@ -1,5 +1,5 @@
 use Rattle.bio.specs.Content.{discards, writes}
-use Rattle.sector_disk.proofs.Lawful.{old-left}
+use Rattle.sector_disk.proofs.DeviceLaw.{old-left}
 use Rattle.sector_disk.proofs.laws.unsynced_sectors_may_be_old.Goals as goal
 
 pub returns-clause-write : goal.returns-clause-write

@@ -2,7 +2,7 @@ use Rattle.std.proofs.Common.{◌≡◌, ℕ, List, ◌+◌, ◌≤◌, ◌/◌,
 use Rattle.std.proofs.lemmas.Bool.{lt-ltb}
 use Rattle.std.proofs.lemmas.Option.{get_or_from_slice_get, slice_get_within}
 use Rattle.sector_disk.specs.inside.Pieces.{AreWhole, joined}
-use Rattle.sector_disk.proofs.PieceAt.{LiesIn, lies_in}
+use Rattle.sector_disk.proofs.PackedParts.{LiesIn, lies_in}
 use Rattle.sector_disk.proofs.pieces.read_piece.Goals as goal
 
 -- where the sector is

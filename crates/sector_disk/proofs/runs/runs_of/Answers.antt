@@ -3,7 +3,7 @@ use Rattle.std.proofs.Common.{drop, length, length-drop, replicate, take}
 use Rattle.std.proofs.lemmas.Grind.{common_steps}
 use Rattle.std.proofs.lemmas.List.{take_all}
 use Rattle.sector_disk.specs.declared.runs.Run.{Run}
-use Rattle.sector_disk.specs.inside.Runs.{unrolled}
+use Rattle.sector_disk.specs.inside.Packed.{unrolled}
 use Rattle.sector_disk.proofs.runs.runs_of.Goals as goal
 
 -- the values of runs, and of one more

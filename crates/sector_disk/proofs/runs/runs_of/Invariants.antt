@@ -1,5 +1,5 @@
 use Rattle.std.proofs.Common.{◌≡◌, ◌++◌, length}
-use Rattle.sector_disk.specs.inside.Runs.{unrolled}
+use Rattle.sector_disk.specs.inside.Packed.{unrolled}
 use Rattle.sector_disk.proofs.runs.runs_of.Given as goal
 
 abbrev pub invariant-loop-rest : goal.invariant-loop-rest

@@ -1,5 +1,5 @@
 use Rattle.std.proofs.Common.{◌≡◌, length, slice_get}
-use Rattle.sector_disk.specs.inside.Runs.{unrolled}
+use Rattle.sector_disk.specs.inside.Packed.{unrolled}
 use Rattle.sector_disk.proofs.runs.value_at.Given as goal
 
 abbrev pub invariant-loop-rest : goal.invariant-loop-rest

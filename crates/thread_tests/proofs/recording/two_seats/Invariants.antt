@@ -1,6 +1,6 @@
-use Rattle.bio.specs.Sizes.{bytes_of}
+use Rattle.bio.specs.Requests.{bytes_of}
 use Rattle.lock_state.specs.PlacedItems.{ground_of}
-use Rattle.log_store.specs.Fields.{store_of}
+use Rattle.log_store.specs.Calls.{store_of}
 use Rattle.thread_tests.proofs.recording.two_seats.Given as goal
 
 abbrev pub ghosts-two_seats_record-R-Ledger : goal.ghosts-two_seats_record-R-Ledger

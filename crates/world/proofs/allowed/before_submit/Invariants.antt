@@ -1,4 +1,4 @@
-use Rattle.world.specs.inside.StepTests.{IsBefore}
+use Rattle.world.specs.inside.{IsBefore}
 use Rattle.world.proofs.allowed.before_submit.Given as goal
 
 abbrev pub invariant-loop-place : goal.invariant-loop-place

@@ -1,6 +1,6 @@
 use Rattle.std.proofs.Common.{◌≡◌, take, true}
 use Rattle.std.specs.List.{list_all}
-use Rattle.world.specs.inside.StepTests.{end_settled}
+use Rattle.world.specs.inside.{end_settled}
 use Rattle.world.proofs.allowed.ends_settled.Given as goal
 
 abbrev pub invariant-loop-call : goal.invariant-loop-call

@@ -1,6 +1,6 @@
 use Rattle.std.proofs.Common.{take}
-use Rattle.bio.specs.EventLaws.{well_formed-take}
-use Rattle.world.proofs.Exact.{possible_reachable}
+use Rattle.bio.specs.PlaceLaws.{well_formed-take}
+use Rattle.world.proofs.PossibleChoice.{possible_reachable}
 use Rattle.world.proofs.RunIsPossible.{reachable_possible}
 use Rattle.world.proofs.laws.possible_is_exact.Goals as goal
 

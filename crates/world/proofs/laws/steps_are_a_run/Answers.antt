@@ -1,4 +1,4 @@
-use Rattle.world.proofs.FreshWorld.{fresh_runs}
+use Rattle.world.proofs.MachineSteps.{fresh_runs}
 use Rattle.world.proofs.laws.steps_are_a_run.Goals as goal
 
 pub returns : goal.returns

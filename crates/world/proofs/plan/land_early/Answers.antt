@@ -2,8 +2,8 @@ use Rattle.std.proofs.Common.{ℕ, ◌+◌, ◌++◌, List, ap, ◌∙◌, arith
 use Rattle.bio.specs.Requests.{first_sector}
 use Rattle.judge.specs.Accounts.{place_at}
 use Rattle.world.specs.declared.step.Step.{Step}
-use Rattle.world.specs.inside.Plan.{lands_if, sure_by}
-use Rattle.world.proofs.RunGrowth.{grown}
+use Rattle.world.specs.inside.{lands_if, sure_by}
+use Rattle.world.proofs.Lists.{grown}
 use Rattle.world.proofs.plan.land_early.Goals as goal
 
 pub loop-place-preserved : goal.loop-place-preserved

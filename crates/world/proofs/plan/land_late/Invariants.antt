@@ -2,7 +2,7 @@ use Rattle.std.proofs.Common.{◌≡◌, ◌++◌, ◌+◌}
 use Rattle.bio.specs.Places.{collect}
 use Rattle.bio.specs.Requests.{first_sector}
 use Rattle.judge.specs.Accounts.{place_at}
-use Rattle.world.specs.inside.Plan.{lands_late}
+use Rattle.world.specs.inside.{lands_late}
 use Rattle.world.proofs.plan.land_late.Given as goal
 
 abbrev pub invariant-loop-place : goal.invariant-loop-place

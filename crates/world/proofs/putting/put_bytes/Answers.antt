@@ -1,5 +1,5 @@
 use Rattle.std.proofs.Common.{length, refl, ap, ◌∙◌}
-use Rattle.world.proofs.ImageSector.{is_put}
+use Rattle.world.proofs.Lists.{is_put}
 use Rattle.world.proofs.putting.put_bytes.Goals as goal
 
 pub returns : goal.returns

@@ -1,7 +1,7 @@
 use Rattle.std.proofs.Common.{◌/◌, ◌*◌, length, drop, ap, ◌∙◌, arith, length-drop}
 use Rattle.std.proofs.lemmas.List.{length-take-le}
 use Rattle.bio.specs.Content.{sector_of, writes}
-use Rattle.world.proofs.ImageSector.{put_outside, range_value}
+use Rattle.world.proofs.Lists.{put_outside, range_value}
 use Rattle.world.proofs.putting.put_written.Goals as goal
 
 pub put_bytes-requires-clause-part : goal.put_bytes-requires-clause-part

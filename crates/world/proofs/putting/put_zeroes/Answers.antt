@@ -1,6 +1,6 @@
 use Rattle.std.proofs.Common.{replicate}
 use Rattle.bio.specs.Content.{discards}
-use Rattle.world.proofs.ImageSector.{put_outside, range_value}
+use Rattle.world.proofs.Lists.{put_outside, range_value}
 use Rattle.world.proofs.putting.put_zeroes.Goals as goal
 
 pub returns-in-Some : goal.returns-in-Some

@@ -1,12 +1,11 @@
 use Rattle.std.proofs.Common.{◌/◌, List, length, take, ap, ◌∙◌, subst, arith}
 use Rattle.bio.specs.Content.{sector_of}
 use Rattle.bio.specs.declared.event.CoreEvent.{CoreEvent}
-use Rattle.bio.specs.EventLaws.{lawful-take}
+use Rattle.bio.specs.PlaceLaws.{lawful-take}
 use Rattle.judge.specs.declared.verdict.Verdict.{Verdict}
-use Rattle.judge.specs.Accounts.{IsAccount, place_at}
-use Rattle.judge.specs.Firsts.{first_on}
+use Rattle.judge.specs.Accounts.{IsAccount, first_on, place_at}
 use Rattle.judge.specs.Verdicts.{IsVerdict}
-use Rattle.world.specs.inside.Plan.{plan, sure_by}
+use Rattle.world.specs.inside.{plan, sure_by}
 use Rattle.world.proofs.PossibleChoice.{account_leaves, lawful_ends}
 use Rattle.world.proofs.reaching.find.Goals as goal
 

@@ -1,7 +1,7 @@
 use Rattle.std.proofs.Common.{◌≡◌, ◌++◌}
 use Rattle.bio.specs.Places.{collect}
 use Rattle.judge.specs.Accounts.{place_at}
-use Rattle.world.specs.inside.Plan.{steps_left}
+use Rattle.world.specs.inside.{steps_left}
 use Rattle.world.proofs.reaching.finish.Given as goal
 
 abbrev pub invariant-loop-id : goal.invariant-loop-id

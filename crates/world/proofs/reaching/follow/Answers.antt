@@ -4,8 +4,8 @@ use Rattle.bio.specs.PlaceLaws.{slice_get-of_get_or}
 use Rattle.bio.specs.declared.event.CoreEvent.{CoreEvent}
 use Rattle.judge.specs.Accounts.{place_at}
 use Rattle.world.specs.declared.step.Step.{Step}
-use Rattle.world.specs.inside.Plan.{steps_of, sure_by}
-use Rattle.world.proofs.RunGrowth.{grown}
+use Rattle.world.specs.inside.{steps_of, sure_by}
+use Rattle.world.proofs.Lists.{grown}
 use Rattle.world.proofs.reaching.follow.Goals as goal
 
 pub loop-place-preserved : goal.loop-place-preserved

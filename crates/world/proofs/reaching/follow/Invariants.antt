@@ -2,7 +2,7 @@ use Rattle.std.proofs.Common.{◌≡◌, ◌++◌}
 use Rattle.std.specs.Prelude.{slice_get}
 use Rattle.bio.specs.Places.{collect}
 use Rattle.judge.specs.Accounts.{place_at}
-use Rattle.world.specs.inside.Plan.{steps_of, sure_by}
+use Rattle.world.specs.inside.{steps_of, sure_by}
 use Rattle.world.proofs.reaching.follow.Given as goal
 
 abbrev pub invariant-loop-place : goal.invariant-loop-place

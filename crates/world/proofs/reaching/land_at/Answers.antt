@@ -3,7 +3,7 @@ use Rattle.std.proofs.lemmas.Bool.{ltb-false}
 use Rattle.std.proofs.lemmas.List.{append-nil}
 use Rattle.std.proofs.lemmas.Option.{slice_get_past}
 use Rattle.judge.specs.Accounts.{place_at}
-use Rattle.world.specs.inside.Plan.{by_sector, lands_late}
+use Rattle.world.specs.inside.{by_sector, lands_late}
 use Rattle.world.proofs.reaching.land_at.Goals as goal
 
 pub returns-in-None : goal.returns-in-None

@@ -1,8 +1,8 @@
 use Rattle.std.proofs.Common.{◌/◌, length, subst, take}
 use Rattle.bio.specs.Content.{sector_of}
-use Rattle.judge.specs.Firsts.{first_on}
-use Rattle.world.specs.declared.finding.Finding.{Finding}
-use Rattle.world.specs.Findings.{IsFinding}
+use Rattle.judge.specs.Accounts.{first_on}
+use Rattle.world.specs.declared.reaching.Finding.{Finding}
+use Rattle.world.specs.Machine.{IsFinding}
 use Rattle.world.proofs.RunIsPossible.{reachable_possible}
 use Rattle.world.proofs.reaching.reach.Goals as goal
 

@@ -2,11 +2,10 @@ use Rattle.std.proofs.Common.{inl, refl, subst, sym}
 use Rattle.script_runner.specs.CallLaws.{on_error}
 use Rattle.sector_disk.specs.declared.disk.SectorDisk.{SectorDisk}
 use Rattle.sector_disk.specs.DiskView.{shown_of}
-use Rattle.sector_disk.specs.DiskViewLaws.{disk_lawful}
-use Rattle.log_reader.specs.ReaderView.{reader_of}
-use Rattle.log_store.specs.Fields.{store_of}
-use Rattle.dmlw_commands.specs.LogCopies.{FailsOnImage, stopped}
-use Rattle.dmlw_commands.specs.DiskCopy.{IsCopiedOn}
+use Rattle.sector_disk.specs.CandidateLaws.{disk_lawful}
+use Rattle.log_reader.specs.Reader.{reader_of}
+use Rattle.log_store.specs.Calls.{store_of}
+use Rattle.dmlw_commands.specs.LogCopies.{FailsOnImage, IsCopiedOn, stopped}
 use Rattle.dmlw_commands.proofs.CopyOnDisks.{content_whole, copied_on, fails_to_open, image_left}
 use Rattle.dmlw_commands.proofs.CopyOnDisks.{log_fits, stopped_on}
 use Rattle.dmlw_commands.proofs.ImageLog.{never_failed}

@@ -1,4 +1,4 @@
-use Rattle.dmlw_commands.proofs.CopyReplay.{copy_alike, copy_whole}
+use Rattle.dmlw_commands.proofs.CopyOnDisks.{copy_alike, copy_whole}
 use Rattle.dmlw_commands.proofs.copy_log.laws.copies_replay_alike.Goals as goal
 
 pub returns-clause-whole : goal.returns-clause-whole

@@ -1,7 +1,6 @@
 use Rattle.std.proofs.Common.{◌∙◌, List, Option, subst, sym, ℕ}
 use Rattle.refusals.specs.Errors.{IsFileError}
-use Rattle.dmlw_files.specs.Files.{MatchesContents}
-use Rattle.dmlw_files.specs.Images.{HoldsImage}
+use Rattle.dmlw_files.specs.Files.{HoldsImage, MatchesContents}
 use Rattle.dmlw_commands.specs.Judgements.{file}
 use Rattle.dmlw_commands.proofs.QuestionEnds.{answered_files, answered_none, failed_file}
 use Rattle.dmlw_commands.proofs.judge_image.answering.answer_files.Goals as goal

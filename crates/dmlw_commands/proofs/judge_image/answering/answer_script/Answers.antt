@@ -1,11 +1,11 @@
 use Rattle.std.proofs.Common.{◌≡◌, ◌∙◌, true, IfErr, IfOk, List, Result, ap, subst, sym}
 use Rattle.bio.specs.declared.event.CoreEvent.{CoreEvent}
-use Rattle.bio.specs.Lawful.{all_aligned, is_lawful}
-use Rattle.bio.specs.Sizes.{bytes_of}
+use Rattle.bio.specs.Events.{all_aligned, is_lawful}
+use Rattle.bio.specs.Requests.{bytes_of}
 use Rattle.dmlw_script.specs.Plans.{top_of}
 use Rattle.refusals.specs.declared.run_error.RunError.{RunError}
 use Rattle.script_runner.specs.CallLaws.{on_error}
-use Rattle.script_runner.specs.Rehearsals.{IsRehearsed}
+use Rattle.script_runner.specs.DiskRun.{IsRehearsed}
 use Rattle.dmlw_commands.specs.Judgements.{HasAnswer, HasNoVerdict, question}
 use Rattle.dmlw_commands.proofs.QuestionEnds.{failed_run, faulted_by, judged_by}
 use Rattle.dmlw_commands.proofs.judge_image.answering.answer_script.Goals as goal

@@ -1,7 +1,7 @@
 use Rattle.std.proofs.Common.{take}
 use Rattle.std.specs.Prelude.{flat_map}
 use Rattle.std.specs.Io.KnownBytes.{Appends}
-use Rattle.dmlw_commands.specs.Paths.{step_line}
+use Rattle.dmlw_commands.specs.Judgements.{step_line}
 use Rattle.dmlw_commands.proofs.judge_image.finding.print_run.Given as goal
 
 abbrev pub invariant-loop-step : goal.invariant-loop-step

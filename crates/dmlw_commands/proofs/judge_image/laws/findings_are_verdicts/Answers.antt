@@ -1,4 +1,4 @@
-use Rattle.dmlw_commands.proofs.Agreement.{same_judged, same_verdict}
+use Rattle.dmlw_commands.proofs.QuestionEnds.{same_judged, same_verdict}
 use Rattle.dmlw_commands.proofs.judge_image.laws.findings_are_verdicts.Goals as goal
 
 pub returns-clause-content : goal.returns-clause-content

@@ -1,4 +1,4 @@
-use Rattle.dmlw_commands.proofs.PrefixIsPossible.{asked_yes, begun_yes, judged_yes}
+use Rattle.dmlw_commands.proofs.QuestionEnds.{asked_yes, begun_yes, judged_yes}
 use Rattle.dmlw_commands.proofs.judge_image.laws.replayed_prefixes_are_judged_possible.Goals as goal
 
 pub returns-clause-content : goal.returns-clause-content

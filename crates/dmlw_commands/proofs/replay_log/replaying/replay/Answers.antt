@@ -1,6 +1,6 @@
 use Rattle.std.proofs.Common.{◌∙◌, None}
 use Rattle.dmlw_commands.specs.EndLaws.{ends_told}
-use Rattle.dmlw_commands.specs.Exits.{exit_by}
+use Rattle.dmlw_commands.specs.Ends.{exit_by}
 use Rattle.dmlw_commands.specs.Replays.{FailsReplay}
 use Rattle.dmlw_commands.proofs.CommandEnds.{keeping_steady}
 use Rattle.dmlw_commands.proofs.CommandEnds.{done_or_refused, fault_told, makes_end}

@@ -1,11 +1,10 @@
 use Rattle.std.proofs.Common.{◌∙◌, refl, subst, sym}
 use Rattle.refusals.specs.Errors.{IsFileError}
 use Rattle.script_runner.specs.CallLaws.{keeps_same}
-use Rattle.dmlw_files.specs.Images.{image_of}
+use Rattle.dmlw_files.specs.Files.{image_of}
 use Rattle.dmlw_commands.specs.Makings.{taken, unmade, unprinted, unwritten}
 use Rattle.dmlw_commands.specs.Replays.{FailsReplay, replayed_line}
-use Rattle.dmlw_commands.proofs.CommandEnds.{asks_for, makes_none}
-use Rattle.dmlw_commands.proofs.RecordEnds.{file_told}
+use Rattle.dmlw_commands.proofs.CommandEnds.{asks_for, file_told, makes_none}
 use Rattle.dmlw_commands.proofs.replay_log.replaying.replay_files.Goals as goal
 
 pub returns-then-is_same-clause-did : goal.returns-then-is_same-clause-did

@@ -1,6 +1,6 @@
 use Rattle.std.proofs.Common.{subst, sym}
 use Rattle.script_runner.specs.CallLaws.{on_error}
-use Rattle.dmlw_files.specs.Images.{HoldsImage}
+use Rattle.dmlw_files.specs.Files.{HoldsImage}
 use Rattle.dmlw_commands.specs.Replays.{FailsReplay, file}
 use Rattle.dmlw_commands.proofs.ReplayOnDisk.{both_images, failed_from, replayed_from}
 use Rattle.dmlw_commands.proofs.replay_log.replaying.replay_named.Goals as goal

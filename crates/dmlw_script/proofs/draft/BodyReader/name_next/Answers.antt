@@ -4,7 +4,7 @@ use Rattle.std.proofs.lemmas.Bool.{cond-false, not-true, not-false}
 use Rattle.std.proofs.lemmas.List.{length-append}
 use Rattle.dmlw_script.specs.declared.script_id.ScriptId.{ScriptId}
 use Rattle.dmlw_script.specs.inside.Drafts.{body_of, Body}
-use Rattle.dmlw_script.specs.Ids.{same_name}
+use Rattle.dmlw_script.specs.Words.{same_name}
 use Rattle.dmlw_script.proofs.DraftLemmas.{flags_submit, with_new_name, with_old_name}
 use Rattle.dmlw_script.proofs.draft.BodyReader.name_next.Goals as goal
 

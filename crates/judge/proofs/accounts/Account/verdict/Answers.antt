@@ -1,7 +1,7 @@
 use Rattle.std.proofs.Common.{ℕ, List, Option, length, ◌/◌, subst}
 use Rattle.bio.specs.Content.{sector_of}
-use Rattle.judge.specs.Firsts.{first_bytes, first_on}
-use Rattle.judge.specs.inside.Accounts.{IsFound}
+use Rattle.judge.specs.Accounts.{first_bytes, first_on}
+use Rattle.judge.specs.inside.{IsFound}
 use Rattle.judge.proofs.AccountVerdict.{judged}
 use Rattle.judge.proofs.accounts.Account.verdict.Goals as goal
 

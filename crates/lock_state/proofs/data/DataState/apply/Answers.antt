@@ -4,7 +4,7 @@ use Rattle.bio.specs.Content.{put}
 use Rattle.bio.specs.declared.request.Bio.{Bio}
 use Rattle.lock_state.specs.declared.note.Done.{Done}
 use Rattle.lock_state.specs.Calls.{Data, done_call}
-use Rattle.lock_state.proofs.DataLock.{kept_call, on_ok}
+use Rattle.lock_state.proofs.LogLock.{kept_call, on_ok}
 use Rattle.lock_state.proofs.data.DataState.apply.Goals as goal
 
 pub invariant_of-self-2 : goal.invariant_of-self-2

@@ -6,7 +6,7 @@ use Rattle.bio.specs.declared.event.CoreEvent.{CoreEvent}
 use Rattle.bio.specs.PlaceLaws.{slice_get-of_get_or, slice_get-within}
 use Rattle.lock_state.specs.Comparison.{listed}
 use Rattle.lock_state.specs.History.{Queue}
-use Rattle.lock_state.proofs.TakenList.{taken_as, taken_match}
+use Rattle.lock_state.proofs.SeatList.{taken_as, taken_match}
 use Rattle.lock_state.proofs.queue.QueueState.is_taken_as.Goals as goal
 
 pub unreachable-requires : goal.unreachable-requires

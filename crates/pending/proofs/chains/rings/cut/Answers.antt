@@ -1,5 +1,5 @@
 use Rattle.std.proofs.Common.{set, Some, refl, ap, sym, ◌∙◌, arith}
-use Rattle.pending.specs.inside.Rings.{after}
+use Rattle.pending.specs.inside.Tables.{after}
 use Rattle.pending.proofs.HoldsLaws.{holds-cut, holds-emptied, first-is-row, last-is-row, holds-same}
 use Rattle.pending.proofs.chains.rings.cut.Goals as goal
 

@@ -1,5 +1,5 @@
 use Rattle.std.proofs.Common.{[], length, set, None, ap, sym, ◌∙◌, arith, length-set}
-use Rattle.pending.specs.Edits.{chain_in}
+use Rattle.pending.specs.ChainsView.{chain_in}
 use Rattle.pending.proofs.HoldsLaws.{holds-fronted, ring-at, holds-same, ring-same, holds-loosened}
 use Rattle.pending.proofs.chains.rings.put_before.Goals as goal
 

@@ -1,6 +1,6 @@
 use Rattle.std.proofs.Common.{length, set, Some, None, ap, sym, ◌∙◌, arith, length-set}
 use Rattle.std.proofs.lemmas.List.{get_or-set_same}
-use Rattle.pending.specs.inside.Rings.{after, last_in}
+use Rattle.pending.specs.inside.Tables.{after, last_in}
 use Rattle.pending.proofs.HoldsLaws.{holds-preceded, holds-begun, holds-same, last-is-row}
 use Rattle.pending.proofs.HoldsLaws.{loose-is-row}
 use Rattle.pending.proofs.chains.rings.put_first.Goals as goal

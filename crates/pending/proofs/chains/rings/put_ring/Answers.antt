@@ -1,5 +1,5 @@
 use Rattle.std.proofs.Common.{set, Some, ap, sym, ◌∙◌, arith, length-set}
-use Rattle.pending.specs.inside.Rings.{after}
+use Rattle.pending.specs.inside.Tables.{after}
 use Rattle.pending.proofs.HoldsLaws.{holds-embraced, holds-named, holds-same, last-again}
 use Rattle.pending.proofs.HoldsLaws.{last-is-row, ring-is-row}
 use Rattle.pending.proofs.chains.rings.put_ring.Goals as goal

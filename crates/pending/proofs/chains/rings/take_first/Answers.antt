@@ -1,8 +1,8 @@
 use Rattle.std.proofs.Common.{ℕ, List, ◌∷◌, set, Some, None, refl, ap, sym, ◌∙◌, subst}
 use Rattle.std.proofs.Common.{arith, length-set}
 use Rattle.pending.proofs.RingLaws.{none-of, some-of}
-use Rattle.pending.specs.Edits.{shortened}
-use Rattle.pending.specs.inside.Rings.{Holds}
+use Rattle.pending.specs.ChainsView.{shortened}
+use Rattle.pending.specs.inside.Tables.{Holds}
 use Rattle.pending.proofs.HoldsLaws.{last-again, last-is-row, holds-same}
 use Rattle.pending.proofs.chains.rings.take_first.Goals as goal
 

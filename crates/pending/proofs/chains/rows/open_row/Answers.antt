@@ -1,6 +1,6 @@
 use Rattle.std.proofs.Common.{[], refl, arith}
 use Rattle.pending.proofs.HoldsLaws.{none-at}
-use Rattle.pending.proofs.OpenLaws.{nothing-cut, open-free, open-grown, shown-grown}
+use Rattle.pending.proofs.TableLaws.{nothing-cut, open-free, open-grown, shown-grown}
 use Rattle.pending.proofs.CallLaws.{first-row}
 use Rattle.pending.proofs.chains.rows.open_row.Goals as goal
 

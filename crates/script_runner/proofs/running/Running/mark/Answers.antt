@@ -1,6 +1,6 @@
 use Rattle.std.proofs.Common.{◌||◌, Bool, List, ap, refl, subst, ℕ}
 use Rattle.recorder.specs.Calls.{Marks}
-use Rattle.script_runner.specs.inside.Replies.{mark_outcome}
+use Rattle.script_runner.specs.inside.{mark_outcome}
 use Rattle.script_runner.proofs.LineSteps.{mark_prints, on_ok}
 use Rattle.script_runner.proofs.running.Running.mark.Goals as goal
 

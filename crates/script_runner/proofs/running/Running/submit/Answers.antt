@@ -6,7 +6,7 @@ use Rattle.dmlw_script.specs.Plans.{name_at}
 use Rattle.script_runner.specs.CallLaws.{on_error}
 use Rattle.script_runner.specs.Lines.{StopsForFile, submission_text}
 use Rattle.script_runner.proofs.LineSteps.{on_failed}
-use Rattle.script_runner.proofs.SubmitLines.{fits_larger, pushed_fit}
+use Rattle.script_runner.proofs.LawfulRuns.{fits_larger, pushed_fit}
 use Rattle.script_runner.proofs.running.Running.submit.Goals as goal
 
 pub ask-request-requires : goal.ask-request-requires

@@ -1,5 +1,5 @@
 use Rattle.std.proofs.Common.{take}
-use Rattle.script_runner.specs.inside.SeatWork.{DoesLines}
+use Rattle.script_runner.specs.inside.{DoesLines}
 use Rattle.script_runner.proofs.seat_work.Work.run.Given as goal
 
 abbrev pub invariant-loop-place : goal.invariant-loop-place

@@ -1,8 +1,8 @@
 use Rattle.std.proofs.Common.{◌≡◌, List, Ok, ap, subst, sym, ◌∙◌}
-use Rattle.bio.specs.Check.{check_sized_answer}
+use Rattle.bio.specs.Requests.{check_sized_answer}
 use Rattle.bio.specs.declared.request.Bio.{Bio}
 use Rattle.lock_state.specs.Comparison.{Receipt}
-use Rattle.script_runner.specs.Tallies.{and_kept}
+use Rattle.script_runner.specs.SeatRuns.{and_kept}
 use Rattle.shared.specs.Answers.{Answered}
 use Rattle.script_runner.proofs.Seats.{makes_request}
 use Rattle.script_runner.proofs.seat_work.Work.submit.Goals as goal

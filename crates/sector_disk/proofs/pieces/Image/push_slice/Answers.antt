@@ -1,6 +1,6 @@
 use Rattle.std.proofs.Common.{◌≡◌, ap, arith, length, length-append}
 use Rattle.sector_disk.specs.inside.Pieces.{joined}
-use Rattle.sector_disk.proofs.PieceAt.{AreWhole-more, joined-more}
+use Rattle.sector_disk.proofs.PackedParts.{AreWhole-more, joined-more}
 use Rattle.sector_disk.proofs.pieces.Image.push_slice.Goals as goal
 
 pub invariant_of-self-2 : goal.invariant_of-self-2

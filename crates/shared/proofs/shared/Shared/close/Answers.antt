@@ -1,5 +1,5 @@
 use Rattle.std.proofs.Common.{◌≡◌, ℕ, List, Option, length, ◌∙◌, ap, subst, sym}
-use Rattle.refusals.specs.declared.end.End.{End}
+use Rattle.refusals.specs.declared.run_error.End.{End}
 use Rattle.lock_state.specs.Comparison.{Each}
 use Rattle.lock_state.specs.History.{Queue}
 use Rattle.lock_state.specs.PlacedItems.{Log, with_room}

@@ -1,4 +1,4 @@
-use Rattle.blockdev.specs.Calls.{Flushes}
+use Rattle.blockdev.specs.View.{Flushes}
 use Rattle.layer_table.specs.StackLaws.{no_gap_kept}
 use Rattle.layer_table.proofs.stack.device.StackBlockDev.flush.Goals as goal
 

@@ -1,9 +1,8 @@
 use Rattle.std.proofs.Common.{◌≡◌, ◌<◌, ◌∷◌, length, Some, None, ap, ◌∙◌, refl, arith, rules}
 use Rattle.std.specs.Borrow.{Bor}
 use Rattle.std.proofs.lemmas.List.{get_or_read_under}
-use Rattle.pending.specs.inside.Tables.{value_at}
-use Rattle.pending.specs.inside.Looks.{values_left, IsLook}
-use Rattle.pending.proofs.LookLaws.{copied-some, way-step}
+use Rattle.pending.specs.inside.Tables.{values_left, IsLook, value_at}
+use Rattle.pending.proofs.BackLaws.{copied-some, way-step}
 use Rattle.pending.proofs.chains.iter.IterIterator.next.Given as given
 use Rattle.pending.proofs.chains.iter.IterIterator.next.Goals as goal
 

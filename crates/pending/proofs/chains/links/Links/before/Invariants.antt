@@ -1,5 +1,5 @@
 use Rattle.std.proofs.Common.{◌≡◌, ℕ, ◌<◌}
-use Rattle.pending.specs.inside.Rings.{after}
+use Rattle.pending.specs.inside.Tables.{after}
 use Rattle.pending.proofs.chains.links.Links.before.Given as goal
 
 abbrev pub invariant-loop-other : goal.invariant-loop-other

@@ -1,12 +1,11 @@
 use Rattle.std.proofs.Common.{◌≡◌, ◌<◌, max, [], ◌∷◌, ◌++◌, length, map, drop, Some, None, ap, sym}
 use Rattle.std.proofs.Common.{◌∙◌, arith}
 use Rattle.std.proofs.lemmas.List.{length-map, length-set}
-use Rattle.pending.specs.Edits.{chain_in, lengthened, shortened}
-use Rattle.pending.specs.ChainsView.{count_in}
+use Rattle.pending.specs.ChainsView.{chain_in, count_in, lengthened, shortened}
 use Rattle.pending.specs.inside.Tables.{seen_chains, seen_lasts, values_of, walked_in, IsOpen}
 use Rattle.pending.specs.inside.Tables.{IsTable}
-use Rattle.pending.proofs.TableLaws.{seen-of, sound-of, table-rest, table-seen, walk-rest}
-use Rattle.pending.proofs.OpenLaws.{shown-filled}
+use Rattle.pending.proofs.TableLaws.{seen-of, shown-filled, sound-of, table-rest, table-seen}
+use Rattle.pending.proofs.TableLaws.{walk-rest}
 use Rattle.pending.proofs.CallLaws.{chain-noted, filled-table, free-few, free-kept, loose-open}
 use Rattle.pending.proofs.CallLaws.{open-within, shorter-free, table-rows}
 use Rattle.pending.proofs.chains.table.Chains.add_reserved.Given as given

@@ -1,5 +1,5 @@
 use Rattle.std.proofs.Common.{[], ◌∷◌, ◌++◌, ap, ◌∙◌}
-use Rattle.pending.specs.Edits.{lengthened}
+use Rattle.pending.specs.ChainsView.{lengthened}
 use Rattle.pending.proofs.CallLaws.{begun-filled}
 use Rattle.pending.proofs.chains.table.Chains.begin_with.Goals as goal
 

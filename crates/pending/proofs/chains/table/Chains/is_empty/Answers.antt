@@ -1,7 +1,7 @@
 use Rattle.std.proofs.Common.{length, refl, ap, sym, ◌∙◌}
 use Rattle.std.specs.Prelude.{◌==◌}
 use Rattle.pending.specs.inside.Tables.{seen_chains, values_of}
-use Rattle.pending.proofs.ValueLaws.{chain-map}
+use Rattle.pending.proofs.RingLaws.{chain-map}
 use Rattle.pending.proofs.CallLaws.{empty-is}
 use Rattle.pending.proofs.chains.table.Chains.is_empty.Goals as goal
 

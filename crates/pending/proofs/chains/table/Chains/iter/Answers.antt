@@ -1,6 +1,6 @@
 use Rattle.std.proofs.Common.{ap, ◌∙◌}
 use Rattle.std.specs.Prelude.{unwrap_or}
-use Rattle.pending.proofs.LookLaws.{look-begun}
+use Rattle.pending.proofs.BackLaws.{look-begun}
 use Rattle.pending.proofs.chains.table.Chains.iter.Goals as goal
 
 pub invariant_of-result : goal.invariant_of-result

@@ -1,7 +1,7 @@
 use Rattle.std.proofs.Common.{◌≡◌, None, map, ap, ◌∙◌, [], ◌++◌, vec_capacity}
-use Rattle.pending.specs.Edits.{chain_in, joined}
+use Rattle.pending.specs.ChainsView.{chain_in, joined}
 use Rattle.pending.specs.inside.Tables.{seen_chains, seen_lasts, values_of, walked_in, IsTable}
-use Rattle.pending.proofs.ValueLaws.{map-joined}
+use Rattle.pending.proofs.RingLaws.{map-joined}
 use Rattle.pending.proofs.TableLaws.{in-neither, keeps-room, seen-of, sound-of, table-moved}
 use Rattle.pending.proofs.TableLaws.{walk-rest}
 use Rattle.pending.proofs.chains.table.Chains.join.Given as given

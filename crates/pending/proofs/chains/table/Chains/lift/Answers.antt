@@ -1,9 +1,9 @@
 use Rattle.std.proofs.Common.{[], ◌++◌, map, drop, take, Some, ap, sym, ◌∙◌, arith}
 use Rattle.std.proofs.Common.{vec_capacity}
-use Rattle.pending.specs.Edits.{chain_in, lifted}
+use Rattle.pending.specs.ChainsView.{chain_in, lifted}
 use Rattle.pending.specs.inside.Tables.{seen_chains, seen_lasts, values_of, walked_in, IsTable}
 use Rattle.pending.proofs.HoldsLaws.{last-is-row, none-at}
-use Rattle.pending.proofs.ValueLaws.{chain-map}
+use Rattle.pending.proofs.RingLaws.{chain-map}
 use Rattle.pending.proofs.TableLaws.{in-neither, keeps-room, seen-of, sound-of}
 use Rattle.pending.proofs.WalkLaws.{both-changes, lift-within, nothing-lifted, shown-lifted}
 use Rattle.pending.proofs.WalkLaws.{sound-at, walk-last, walked-is, walked-last, lift-cut}

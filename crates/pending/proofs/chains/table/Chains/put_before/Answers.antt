@@ -1,7 +1,7 @@
 use Rattle.std.proofs.Common.{◌≡◌, None, map, ap, ◌∙◌, [], ◌++◌, vec_capacity}
-use Rattle.pending.specs.Edits.{chain_in, fronted}
+use Rattle.pending.specs.ChainsView.{chain_in, fronted}
 use Rattle.pending.specs.inside.Tables.{seen_chains, seen_lasts, values_of, walked_in, IsTable}
-use Rattle.pending.proofs.ValueLaws.{map-fronted}
+use Rattle.pending.proofs.RingLaws.{map-fronted}
 use Rattle.pending.proofs.TableLaws.{in-neither, keeps-room, seen-of, sound-of, table-moved}
 use Rattle.pending.proofs.TableLaws.{walk-rest}
 use Rattle.pending.proofs.chains.table.Chains.put_before.Given as given

@@ -1,5 +1,5 @@
 use Rattle.std.proofs.Common.{◌≡◌, ℕ, List, ◌∷◌, map, ap, sym, ◌∙◌}
-use Rattle.pending.specs.Edits.{chain_in}
+use Rattle.pending.specs.ChainsView.{chain_in}
 use Rattle.pending.specs.inside.Tables.{seen_chains, values_of}
 use Rattle.pending.proofs.HoldsLaws.{last-is-row}
 use Rattle.pending.proofs.CallLaws.{on-some, first-row, first-value, row-within}

@@ -1,13 +1,13 @@
 use Rattle.std.proofs.Common.{◌≡◌, ℕ, ◌<◌, List, [], ◌∷◌, length, map, drop, None, refl, ap, sym}
 use Rattle.std.proofs.Common.{◌∙◌, arith}
 use Rattle.std.proofs.lemmas.List.{length-set}
-use Rattle.pending.specs.Edits.{chain_in, preceded, shortened}
+use Rattle.pending.specs.ChainsView.{chain_in, preceded, shortened}
 use Rattle.pending.specs.inside.Tables.{seen_chains, seen_lasts, values_of, walked_in, IsOpen}
 use Rattle.pending.specs.inside.Tables.{IsTable}
-use Rattle.pending.proofs.TableLaws.{seen-of, sound-of, table-rest, table-seen, walk-rest}
+use Rattle.pending.proofs.TableLaws.{nothing-cut, seen-of, shown-closed, shown-taken, sound-of}
+use Rattle.pending.proofs.TableLaws.{table-rest, table-seen, walk-rest}
 use Rattle.pending.proofs.HoldsLaws.{none-at}
-use Rattle.pending.proofs.ValueLaws.{chain-map}
-use Rattle.pending.proofs.OpenLaws.{nothing-cut, shown-closed, shown-taken}
+use Rattle.pending.proofs.RingLaws.{chain-map}
 use Rattle.pending.proofs.CallLaws.{first-row, first-value, free-kept, longer-free, loose-open}
 use Rattle.pending.proofs.CallLaws.{on-some, row-within, taken-open, taken-table}
 use Rattle.pending.proofs.chains.table.Chains.take_first.Given as given

@@ -1,8 +1,8 @@
 use Rattle.std.proofs.Common.{length, map, Some, ap, sym, ◌∙◌, arith, length-set, ◌<◌}
-use Rattle.pending.specs.Edits.{turned}
+use Rattle.pending.specs.ChainsView.{turned}
 use Rattle.pending.specs.inside.Tables.{seen_chains, values_of}
 use Rattle.pending.proofs.HoldsLaws.{none-at}
-use Rattle.pending.proofs.ValueLaws.{chain-map}
+use Rattle.pending.proofs.RingLaws.{chain-map}
 use Rattle.pending.proofs.TableLaws.{seen-of, sound-of}
 use Rattle.pending.proofs.WalkLaws.{nothing-turned, shown-turned, sound-at, walk-last, walked-is}
 use Rattle.pending.proofs.WalkLaws.{walked-last}

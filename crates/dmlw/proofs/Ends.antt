@@ -1,0 +1,291 @@
+-- How every task ends: its exit, its file writes, and its lines on the error stream.
+use Rattle.std.proofs.Common.{◌≡◌, ◌∙◌, ◌≤◌, ◌⊎◌, ◌++◌, ℕ, [], append-nil, Bool, false, true, List}
+use Rattle.std.proofs.Common.{Option, Some, None, Result, Ok, Err, arith, inl, inr, refl, subst}
+use Rattle.std.proofs.Common.{sym}
+use Rattle.refusals.specs.declared.run_error.End.{End}
+use Rattle.bio.specs.declared.outcome.Status.{Status}
+use Rattle.refusals.specs.declared.run_error.RunError.{RunError}
+use Rattle.refusals.specs.declared.run_error.RunError.TheVariants as faults
+use Rattle.refusals.specs.Errors.{memory_error}
+use Rattle.dmlw_commands.specs.declared.exit.Exit.{Exit}
+use Rattle.dmlw_commands.specs.declared.exit.Exit.TheVariants.{Done, LoggingEnded, Refused}
+use Rattle.dmlw_commands.specs.declared.exit.Exit.TheVariants.{RuledOut, Usage}
+use Rattle.dmlw_commands.specs.Ends.{ErrStream, Tells, ReportsLine, err_stream, IsRefusal}
+use Rattle.dmlw_commands.specs.Ends.{exit_after, exit_at, exit_by, exit_of, fault_line}
+use Rattle.dmlw_commands.specs.Ends.{reported_line, status_of}
+use Rattle.dmlw_commands.specs.declared.ending.Ended.{Ended}
+use Rattle.dmlw_files.specs.Files.{KeepsFiles}
+use Rattle.dmlw_commands.specs.Makings.{Asks, FailsMaking, IsMade, Makes, Making}
+use Rattle.dmlw_commands.specs.Makings.{taken, unmade, unprinted, unwritten}
+use Rattle.dmlw_commands.specs.Seen.{Seen}
+use Rattle.world.specs.declared.reaching.Finding.{Finding}
+use Rattle.world.specs.declared.reaching.Finding.TheVariants as findings
+use Rattle.dmlw_commands.specs.Judgements.{Meaning, exit_answered, finding_meaning, verdict_meaning}
+use Rattle.judge.specs.declared.verdict.Verdict.{Verdict}
+use Rattle.judge.specs.declared.verdict.Verdict.TheVariants as verdicts
+use Rattle.dmlw.specs.Commands.{AsksForOneWrite, EndsCommand, EndsTask, EndsUntasked}
+use Rattle.dmlw.specs.Commands.{IsFaultLine, IsRead, IsReadAs, ReportsBy, ReportsOneLine}
+use Rattle.dmlw.specs.Commands.{ReportsUntasked, memory}
+use Rattle.clap.specs.Words.{Text, kind_of}
+use Rattle.clap.specs.declared.error.Error.{Error}
+use Rattle.dmlw.specs.CommandLine.{is_formats}
+use Rattle.clap.specs.declared.error.kind.ErrorKind.{ErrorKind}
+use Rattle.clap.specs.declared.error.kind.ErrorKind.TheVariants.{DisplayHelp, DisplayVersion}
+use Rattle.clap.specs.declared.error.kind.ErrorKind.TheVariants.{OutOfMemory}
+use Rattle.std.specs.Io.KnownBytes.{Appends}
+use Rattle.dmlw.specs.declared.task.Task.{Task}
+use Rattle.dmlw.specs.declared.task.Task.TheVariants as tasks
+
+-- each exit has a status from 0 to 3
+at_most : (exit : Exit) → status_of exit ≤ 3
+at_most Done = omega arith
+at_most Refused = omega arith
+at_most Usage = omega arith
+at_most LoggingEnded = omega arith
+at_most RuledOut = omega arith
+
+-- where nothing was asked to be written and each file was kept, a command ends as any may
+ends_keeping : (old new : Seen) (exit : Exit) → new.writes ≡ old.writes
+    → KeepsFiles old.files new.files → EndsCommand old new exit
+ends_keeping old new exit same kept = record {
+  known = at_most exit;
+  once = inl same;
+  unwritten = λ usage. same;
+  kept = λ refused. kept;
+  unmade = λ ended. inl kept;
+}
+
+-- a command that is done, or of which logging ended, is neither refused nor a usage fault
+abbrev IsLogged : Exit → Type 0
+IsLogged exit = (exit ≡ Done) ⊎ (exit ≡ LoggingEnded)
+
+not_usage : (exit : Exit) → IsLogged exit → exit ≡ Usage → ⊥
+not_usage exit (inl is) usage = cc
+not_usage exit (inr is) usage = cc
+
+not_refused : (exit : Exit) → IsLogged exit → IsRefusal exit → ⊥
+not_refused exit (inl is) (inl refused) = cc
+not_refused exit (inl is) (inr (inl refused)) = cc
+not_refused exit (inl is) (inr (inr refused)) = cc
+not_refused exit (inr is) (inl refused) = cc
+not_refused exit (inr is) (inr (inl refused)) = cc
+not_refused exit (inr is) (inr (inr refused)) = cc
+
+-- a fault is no usage fault
+fault_usage : (fault : RunError) → exit_of fault ≡ Usage → ⊥
+fault_usage (faults.Refused fault) usage = let no : Refused ≡ Usage = usage in cc
+fault_usage (faults.LoggingEnded end) usage = let no : LoggingEnded ≡ Usage = usage in cc
+fault_usage (faults.StoppedAfter applied refusal) usage = let no : Refused ≡ Usage = usage in cc
+
+-- what is made is one file
+asked_one : {T : Type 0} (making : Making T) (name : List ℕ) (old new : Seen) (result : T)
+    → Asks making name old new result → AsksForOneWrite old.writes new.writes
+asked_one making name old new result asks = (name, (asks.image, asks.asked))
+
+-- what isn't made is none, or one
+failed_once : {T : Type 0} (making : Making T) (read name : List ℕ) (old new : Seen)
+    (fault : RunError) → FailsMaking making read name old new fault
+    → (new.writes ≡ old.writes) ⊎ AsksForOneWrite old.writes new.writes
+failed_once making read name old new fault (unmade fails same) = inl same
+failed_once making read name old new fault (taken is one none same) = inl same
+failed_once making read name old new fault (unprinted is result lines image made same) = inl same
+failed_once making read name old new fault (unwritten is result asks) =
+    inr (asked_one making name old new result asks)
+
+-- so ends every command that makes an image
+ends_making : {T : Type 0} (making : (List ℕ → Option (List ℕ)) → Making T) (read name : List ℕ)
+    (exits : Result T RunError → Exit) → ((result : T) → IsLogged (exits (Ok result)))
+    → ((fault : RunError) → exits (Err fault) ≡ exit_of fault)
+    → (old new : Seen) (done : Result T RunError) (exit : Exit)
+    → Makes making read name old new done → exit ≡ exits done → EndsCommand old new exit
+ends_making making read name exits logged by_fault old new (Ok result) exit makes is =
+    let made : IsMade (making old.files) name old new result = makes.came in
+    let asked = asked_one (making old.files) name old new result made.asks in
+    let ended : IsLogged exit = subst IsLogged (sym is) (logged result) in
+    record {
+      known = at_most exit;
+      once = inr asked;
+      unwritten = λ usage. absurd (not_usage exit ended usage);
+      kept = λ refused. absurd (not_refused exit ended refused);
+      unmade = λ ended. inr asked;
+    }
+ends_making making read name exits logged by_fault old new (Err fault) exit makes is =
+    let once = failed_once (making old.files) read name old new fault makes.came.0 in
+    let by : exit ≡ exit_of fault = is ∙ by_fault fault in
+    record {
+      known = at_most exit;
+      once = once;
+      unwritten = λ usage. absurd (fault_usage fault (sym by ∙ usage));
+      kept = λ refused. makes.came.1;
+      unmade = λ ended. inl makes.came.1;
+    }
+
+-- a recording that came so far is done, or its logging ended
+after_logged : (status : Status) → IsLogged (exit_after (Ok status))
+after_logged status = at_end status.end
+  where
+    at_end : (end : Option End) → IsLogged (exit_at end)
+    at_end None = inl refl
+    at_end (Some cause) = inr refl
+
+-- every task ends so
+pub ends_task : (task : Task) (explains : Bool) (old new : Seen) (ended : Ended)
+    → EndsTask task explains old new ended → EndsCommand old new ended.exit
+ends_task (tasks.Record script log) explains old new ended ends =
+    ends_making _ script.now log.now exit_after after_logged (λ fault. refl) old new ends.done
+    ended.exit ends.did ends.tells.exits
+ends_task (tasks.Run script log) explains old new ended ends =
+    ends_making _ script.now log.now exit_after after_logged (λ fault. refl) old new ends.done
+    ended.exit ends.did ends.tells.exits
+ends_task (tasks.Replay files upto) explains old new ended ends =
+    ends_making _ files.log.now files.out.now exit_by (λ count. inl refl) (λ fault. refl) old new
+    ends.done ended.exit ends.did ends.tells.exits
+ends_task (tasks.Copy files sectors) explains old new ended ends =
+    ends_making _ files.log.now files.out.now exit_by (λ count. inl refl) (λ fault. refl) old new
+    ends.done ended.exit ends.did ends.tells.exits
+ends_task (tasks.List log) explains old new ended ends =
+    ends_keeping old new ended.exit ends.did.unwritten ends.did.kept
+ends_task (tasks.Status log) explains old new ended ends =
+    ends_keeping old new ended.exit ends.did.unwritten ends.did.kept
+ends_task (tasks.Judge script moment image) explains old new ended ends =
+    ends_keeping old new ended.exit ends.did.unwritten ends.did.kept
+ends_task (tasks.Path script moment image) explains old new ended ends =
+    ends_keeping old new ended.exit ends.did.unwritten ends.did.kept
+ends_task (tasks.Formats page) explains old new ended ends =
+    ends_keeping old new ended.exit ends.did.unwritten ends.did.kept
+ends_task (tasks.Show error) explains old new ended ends =
+    ends_keeping old new ended.exit ends.unwritten ends.kept
+ends_task (tasks.HasBadWord flaw word) explains old new ended ends =
+    ends_keeping old new ended.exit ends.unwritten ends.kept
+
+-- a line with nothing behind it
+nothing_behind : (old new : Option (List ℕ)) (line more : List ℕ) → more ≡ []
+    → Appends old new (line ++ more) → Appends old new line
+nothing_behind old new line more none grew =
+    subst (Appends old new) (append-nil line)
+    (subst (λ (l : List ℕ). Appends old new (line ++ l)) none grew)
+
+-- a command that ends by a fault with this line, and doesn't explain itself, has told the line
+told_one_line : (t : ErrStream) (exit : Exit) (line : List ℕ) (ended : Ended) → t.explains ≡ false
+    → IsFaultLine exit line → ReportsLine t exit line ended
+    → ReportsOneLine ended t.before t.after
+told_one_line t exit line ended off is tells = record {
+  line = line;
+  is = subst (λ (e : Exit). IsFaultLine e line) (sym tells.exits) is;
+  told = λ yes.
+      let (more, silent, grew) = tells.told yes in
+      nothing_behind t.before t.after line more (silent off) grew;
+}
+
+-- what a fault tells, by how it ends
+told_fault : (t : ErrStream) (cause : RunError) (ended : Ended) → t.explains ≡ false
+    → ReportsLine t (exit_of cause) (fault_line cause) ended
+    → ReportsBy ended.exit ended t.before t.after
+told_fault t cause ended off tells =
+    subst (λ (e : Exit). ReportsBy e ended t.before t.after) (sym tells.exits)
+    (by_fault cause (told_one_line t (exit_of cause) (fault_line cause) ended off
+    (record { cause = cause; ends = refl; is = refl }) tells))
+  where
+    by_fault : (cause : RunError) → ReportsOneLine ended t.before t.after
+        → ReportsBy (exit_of cause) ended t.before t.after
+    by_fault (faults.Refused refused) line = line
+    by_fault (faults.LoggingEnded end) line = inr line
+    by_fault (faults.StoppedAfter applied refusal) line = line
+
+-- what a command tells that did this
+told_by : {T : Type 0} (t : ErrStream) (done : Result T RunError) (ended : Ended)
+    → t.explains ≡ false → Tells t done ended → ReportsBy ended.exit ended t.before t.after
+told_by t (Ok u) ended off tells =
+    subst (λ (e : Exit). ReportsBy e ended t.before t.after) (sym tells.exits)
+    (tells.quiet off refl)
+told_by t (Err fault) ended off tells = told_fault t fault ended off tells
+
+-- what a recording tells
+told_recording : (t : ErrStream) (done : Result Status RunError) (ended : Ended)
+    → t.explains ≡ false → ReportsLine t (exit_after done) (reported_line done) ended
+    → ReportsBy ended.exit ended t.before t.after
+told_recording t (Ok status) ended off tells =
+    subst (λ (e : Exit). ReportsBy e ended t.before t.after) (sym tells.exits)
+    (by_end status.end (tells.quiet off refl))
+  where
+    by_end : (end : Option End) → t.after ≡ t.before
+        → ReportsBy (exit_at end) ended t.before t.after
+    by_end None same = same
+    by_end (Some cause) same = inl same
+told_recording t (Err fault) ended off tells = told_fault t fault ended off tells
+
+-- what an answer tells that is done or ruled out
+told_answer : {A : Type 0} (meaning : Meaning A)
+    → ((answer : A) → (meaning.ends answer ≡ Done) ⊎ (meaning.ends answer ≡ RuledOut))
+    → (t : ErrStream) (done : Result A RunError) (ended : Ended) → t.explains ≡ false
+    → ReportsLine t (exit_answered meaning done) (reported_line done) ended
+    → ReportsBy ended.exit ended t.before t.after
+told_answer meaning ends t (Ok answer) ended off tells =
+    subst (λ (e : Exit). ReportsBy e ended t.before t.after) (sym tells.exits)
+    (by_end (ends answer) (tells.quiet off refl))
+  where
+    by_end : (meaning.ends answer ≡ Done) ⊎ (meaning.ends answer ≡ RuledOut)
+        → t.after ≡ t.before → ReportsBy (meaning.ends answer) ended t.before t.after
+    by_end (inl is) same = subst (λ (e : Exit). ReportsBy e ended t.before t.after) (sym is) same
+    by_end (inr is) same = subst (λ (e : Exit). ReportsBy e ended t.before t.after) (sym is) same
+told_answer meaning ends t (Err cause) ended off tells = told_fault t cause ended off tells
+
+verdict_ends : (verdict : Verdict)
+    → (verdict_meaning.ends verdict ≡ Done) ⊎ (verdict_meaning.ends verdict ≡ RuledOut)
+verdict_ends verdicts.Yes = inl refl
+verdict_ends (verdicts.No sector by) = inr refl
+
+finding_ends : (finding : Finding)
+    → (finding_meaning.ends finding ≡ Done) ⊎ (finding_meaning.ends finding ≡ RuledOut)
+finding_ends (findings.Run run) = inl refl
+finding_ends (findings.RuledOut sector by) = inr refl
+
+-- what a text tells
+text_tells : (kind : ErrorKind) (t : ErrStream) (ended : Ended) → EndsUntasked kind ended.exit
+    → ReportsUntasked kind t ended → t.explains ≡ false
+    → ReportsBy ended.exit ended t.before t.after
+text_tells OutOfMemory t ended ends tells off =
+    told_by {T = Unit {0}} t (Err memory_error) ended off tells
+text_tells DisplayHelp t ended ends (done, fault, tells) off = told_by t done ended off tells
+text_tells DisplayVersion t ended ends (done, fault, tells) off = told_by t done ended off tells
+text_tells _ t ended ends tells off =
+    subst (λ (e : Exit). ReportsBy e ended t.before t.after) (sym ends) tt
+
+-- what every task tells that doesn't explain itself
+pub task_tells : (task : Task) (explains : Bool) (old new : Seen) (ended : Ended)
+    → EndsTask task explains old new ended → explains ≡ false
+    → ReportsBy ended.exit ended old.err new.err
+task_tells (tasks.Record script log) explains old new ended ends off =
+    told_recording (err_stream explains old.err new.err) ends.done ended off ends.tells
+task_tells (tasks.Run script log) explains old new ended ends off =
+    told_recording (err_stream explains old.err new.err) ends.done ended off ends.tells
+task_tells (tasks.List log) explains old new ended ends off =
+    told_by (err_stream explains old.err new.err) ends.done ended off ends.tells
+task_tells (tasks.Status log) explains old new ended ends off =
+    told_by (err_stream explains old.err new.err) ends.done ended off ends.tells
+task_tells (tasks.Replay files upto) explains old new ended ends off =
+    told_by (err_stream explains old.err new.err) ends.done ended off ends.tells
+task_tells (tasks.Copy files sectors) explains old new ended ends off =
+    told_by (err_stream explains old.err new.err) ends.done ended off ends.tells
+task_tells (tasks.Judge script moment image) explains old new ended ends off =
+    told_answer verdict_meaning verdict_ends (err_stream explains old.err new.err) ends.done ended
+    off ends.tells
+task_tells (tasks.Path script moment image) explains old new ended ends off =
+    told_answer finding_meaning finding_ends (err_stream explains old.err new.err) ends.done ended
+    off ends.tells
+task_tells (tasks.Formats page) explains old new ended ends off =
+    told_by (err_stream explains old.err new.err) ends.done ended off ends.tells
+task_tells (tasks.Show error) explains old new ended ends off =
+    text_tells (kind_of error) (err_stream explains old.err new.err) ended ends.ends ends.tells off
+task_tells (tasks.HasBadWord flaw word) explains old new ended ends off =
+    subst (λ (e : Exit). ReportsBy e ended old.err new.err) (sym ends.usage) tt
+
+-- where there was no memory to read words, that is what they are read as
+pub memory_read : (words : List Text) (error : Error) → kind_of error ≡ OutOfMemory
+    → IsRead words (tasks.Show error)
+memory_read words error is = read_as (is_formats words) words error is
+  where
+    read_as : (formats : Bool) (words : List Text) (error : Error) → kind_of error ≡ OutOfMemory
+        → IsReadAs formats words (tasks.Show error)
+    read_as true words error is = is
+    read_as false words error is = memory is

@@ -1,0 +1,558 @@
+-- How clap parses a command's name and the words after it, and for which task they ask.
+use Rattle.std.proofs.Common.{false, not, List, refl, subst, sym, ◌&&◌, ◌≡◌, ◌∙◌, Result, Ok, Err}
+use Rattle.std.proofs.Common.{IfOk, ◌==◌, ℕ, Bool, true, [], ◌∷◌, ◌++◌, Some, None, ap, cond, drop}
+use Rattle.std.proofs.Common.{map, arith, codes, fold, is_some, Option}
+use Rattle.clap.proofs.OnLiterals.{clap_on_literals}
+use Rattle.clap.proofs.WalkLemmas.{list_any-map}
+use Rattle.clap.specs.declared.builder.arg.Arg.{Arg}
+use Rattle.clap.specs.declared.builder.command.Command.{Command}
+use Rattle.clap.specs.declared.error.Error.{Error}
+use Rattle.clap.specs.declared.error.kind.ErrorKind.TheVariants.{OutOfMemory}
+use Rattle.clap.specs.Faults.{check_fault, defaults_fault, entered_fault, level_fault, settle_fault}
+use Rattle.clap.specs.Faults.{step_fault, turn_fault, walk_fault}
+use Rattle.clap.specs.Kinds.{Kinds, or_else}
+use Rattle.clap.specs.Simple.{Shape, built, built_leaf, entered, names_of}
+use Rattle.clap.specs.Walk.{Held, Names, Rule, Walk, arg_by_index, finished, idle, is_multiple}
+use Rattle.clap.specs.Walk.{next_position, nothing_held, positional_held, rows_after, settled}
+use Rattle.clap.specs.Walk.{to_positional, value, walk, walk_from, walked}
+use Rattle.clap.specs.Words.{AddsArg, AddsSubcommand, App, IsAmong, Row, Text, app_of, is_simple}
+use Rattle.clap.specs.Words.{is_simple_and_free, kind_of, rule_of, with_rule, with_subcommand}
+use Rattle.std.proofs.lemmas.Bool.{and_parts}
+use Rattle.std.proofs.lemmas.List.{append_assoc, append-nil}
+use Rattle.std.specs.Cmp.Lexicographic.{same_text}
+use Rattle.std.specs.List.{AllByRecursion, list_any}
+use Rattle.dmlw.specs.CommandLine.{Entered, Enters, IsCommandOf, command_app, command_words}
+use Rattle.dmlw.specs.CommandLine.{has_explain, is_explain, is_positional, is_same, name_of}
+use Rattle.dmlw.specs.CommandLine.{name_text, program_app}
+use Rattle.dmlw.specs.Commands.{Asks, AsksBy, IsComplete, IsReadByClap, fault, memory, missing}
+use Rattle.dmlw.specs.declared.name.Name.{Name}
+use Rattle.dmlw.specs.declared.name.Name.TheVariants as names
+use Rattle.dmlw.specs.declared.task.Task.{Task}
+use Rattle.dmlw.specs.declared.task.Task.TheVariants as tasks
+
+-- How clap parses a command's name, if the words after it don't begin with a hyphen.
+-- clap's walk over words that don't begin with a hyphen: each goes to the next argument.
+
+-- a word that begins with another byte than a hyphen
+pub is_other : (x : ℕ) → not (x == 45) ≡ true → (x == 45) ≡ false
+is_other x plain = grind arith
+
+-- each word is plain
+abbrev pub ArePlain : List Text → Type 0
+ArePlain = AllByRecursion (λ word. is_positional word ≡ true)
+
+-- the walk stands before a place, and nothing waits
+abbrev pub before_place : Held → ℕ → Walk
+before_place h place =
+    record { held = h; waiting = idle; position = place; is_trailing = false; stopped = None }
+
+-- an argument takes one word, and lets the next ones be told apart
+abbrev pub takes_one : Option Rule → Bool
+takes_one None = false
+takes_one (Some rule) = not (is_multiple rule) && not rule.trailing_var_arg
+
+-- what is held after a word for an argument, and the place of the next
+abbrev pub held_with : List Rule → Option Rule → Text → Held → Held
+held_with rules None word h = h
+held_with rules (Some rule) word h = positional_held rules rule word h
+
+abbrev pub place_after : Option Rule → ℕ → ℕ
+place_after None place = place
+place_after (Some rule) place = next_position rule place
+
+-- each of these words has an argument at its place that takes one
+abbrev pub have_places : List Rule → ℕ → List Text → Bool
+have_places rules place [] = true
+have_places rules place (word ∷ words) =
+    takes_one (arg_by_index rules place)
+    && have_places rules (place_after (arg_by_index rules place) place) words
+
+-- what is held after these words
+abbrev pub held_after : List Rule → ℕ → List Text → Held → Held
+held_after rules place [] h = h
+held_after rules place (word ∷ words) h =
+    held_after rules (place_after (arg_by_index rules place) place) words
+    (held_with rules (arg_by_index rules place) word h)
+
+-- the place behind them
+abbrev pub place_behind : List Rule → ℕ → List Text → ℕ
+place_behind rules place [] = place
+place_behind rules place (word ∷ words) =
+    place_behind rules (place_after (arg_by_index rules place) place) words
+
+-- the fault of going to their places
+abbrev pub places_fault : Shape → ℕ → List Text → Held → Kinds
+places_fault s place [] h = []
+places_fault s place (word ∷ words) h =
+    or_else (step_fault s place h value)
+    (places_fault s (place_after (arg_by_index s.rules place) place) words
+    (held_with s.rules (arg_by_index s.rules place) word h))
+
+-- a plain word is a value of the argument at its place
+walked_plain : (rules : List Rule) (h : Held) (place : ℕ) (word : Text) → is_positional word ≡ true
+    → walked rules [] (before_place h place) word
+    ≡ to_positional rules (arg_by_index rules place) word (before_place h place) h
+unfolding walked
+walked_plain rules h place [] plain = refl
+walked_plain rules h place (x ∷ xs) plain = let other = is_other x plain in simp other
+
+-- it has no fault but that of going there
+turn_plain : (s : Shape) (h : Held) (place : ℕ) (word : Text) → is_positional word ≡ true
+    → turn_fault s [] (before_place h place) word ≡ step_fault s place h value
+turn_plain s h place [] plain = refl
+turn_plain s h place (x ∷ xs) plain = let other = is_other x plain in simp other
+
+-- an argument that takes one word leaves the walk before the next place
+taken : (rules : List Rule) (rule : Option Rule) (word : Text) (h : Held) (place : ℕ)
+    → takes_one rule ≡ true
+    → to_positional rules rule word (before_place h place) h
+    ≡ before_place (held_with rules rule word h) (place_after rule place)
+taken rules None word h place takes = absurd (cc)
+taken rules (Some rule) word h place takes =
+    let parts = and_parts (not (is_multiple rule)) (not rule.trailing_var_arg) takes in
+    let one : is_multiple rule ≡ false = off (is_multiple rule) parts.0 in
+    let apart : rule.trailing_var_arg ≡ false = off rule.trailing_var_arg parts.1 in
+    rw (one, apart) refl
+  where
+    off : (b : Bool) → not b ≡ true → b ≡ false
+    off false e = refl
+    off true e = cc
+
+-- where the walk stands after one plain word
+one_step : (rules : List Rule) (h : Held) (place : ℕ) (word : Text) → is_positional word ≡ true
+    → takes_one (arg_by_index rules place) ≡ true
+    → walked rules [] (before_place h place) word
+    ≡ before_place (held_with rules (arg_by_index rules place) word h)
+    (place_after (arg_by_index rules place) place)
+one_step rules h place word plain takes =
+    walked_plain rules h place word plain
+    ∙ taken rules (arg_by_index rules place) word h place takes
+
+-- where the walk stands after plain words
+walk_plain : (rules : List Rule) (words : List Text) (h : Held) (place : ℕ) → ArePlain words
+    → have_places rules place words ≡ true
+    → fold (walked rules []) (before_place h place) words
+    ≡ before_place (held_after rules place words h) (place_behind rules place words)
+walk_plain rules [] h place plain have = refl
+walk_plain rules (word ∷ words) h place plain have =
+    let parts =
+    and_parts (takes_one (arg_by_index rules place))
+    (have_places rules (place_after (arg_by_index rules place) place) words) have in
+    ap (λ (w : Walk). fold (walked rules []) w words) (one_step rules h place word plain.0 parts.0)
+    ∙ walk_plain rules words (held_with rules (arg_by_index rules place) word h)
+    (place_after (arg_by_index rules place) place) plain.1 parts.1
+
+-- the fault of plain words is that of going to their places
+fault_plain : (s : Shape) (words : List Text) (h : Held) (place : ℕ) → ArePlain words
+    → have_places s.rules place words ≡ true
+    → walk_fault s [] (before_place h place) words ≡ places_fault s place words h
+unfolding walk_fault
+fault_plain s [] h place plain have = refl
+fault_plain s (word ∷ words) h place plain have =
+    let parts =
+    and_parts (takes_one (arg_by_index s.rules place))
+    (have_places s.rules (place_after (arg_by_index s.rules place) place) words) have in
+    ap (λ (ks : Kinds). or_else ks
+    (walk_fault s [] (walked s.rules [] (before_place h place) word) words))
+    (turn_plain s h place word plain.0)
+    ∙ ap (λ (w : Walk). or_else (step_fault s place h value) (walk_fault s [] w words))
+    (one_step s.rules h place word plain.0 parts.0)
+    ∙ ap (or_else (step_fault s place h value))
+    (fault_plain s words (held_with s.rules (arg_by_index s.rules place) word h)
+    (place_after (arg_by_index s.rules place) place) plain.1 parts.1)
+
+-- the faults of a command's own words after their walk
+abbrev pub last_fault : Shape → Held → Kinds
+last_fault s end =
+    or_else (settle_fault s.rules s.args_override_self end)
+    (or_else (defaults_fault (settled s.rules end).rows s.rules)
+    (check_fault s (finished s.rules end) false))
+
+-- the fault of a command at plain words
+pub level_plain : (s : Shape) (words : List Text) → ArePlain words
+    → have_places s.rules 1 words ≡ true
+    → level_fault s [] nothing_held words false []
+    ≡ or_else (places_fault s 1 words nothing_held)
+    (last_fault s (held_after s.rules 1 words nothing_held))
+level_plain s words plain have =
+    ap (λ (ks : Kinds). or_else ks (last_fault s (walk s.rules [] nothing_held words).held))
+    (fault_plain s words nothing_held 1 plain have)
+    ∙ ap (λ (w : Walk). or_else (places_fault s 1 words nothing_held) (last_fault s w.held))
+    (walk_plain s.rules words nothing_held 1 plain have)
+
+-- what a command finds at plain words
+pub rows_plain : (rules : List Rule) (words : List Text) → ArePlain words
+    → have_places rules 1 words ≡ true
+    → (walk rules [] nothing_held words).held ≡ held_after rules 1 words nothing_held
+rows_plain rules words plain have =
+    ap (λ (w : Walk). w.held) (walk_plain rules words nothing_held 1 plain have)
+
+-- ---- the words behind a command's name
+
+-- the walk that has met a command puts the words behind its name aside
+abbrev pub stopped_at : Walk → Text × List Text → Walk
+stopped_at w p = record w { stopped = Some p }
+
+pub walk_stopped : (rules : List Rule) (names : Names) (w : Walk) (name : Text)
+    (before words : List Text)
+    → fold (walked rules names) (stopped_at w (name, before)) words
+    ≡ stopped_at w (name, before ++ words)
+unfolding walked
+walk_stopped rules names w name before [] = rw append-nil refl
+walk_stopped rules names w name before (word ∷ words) =
+    walk_stopped rules names w name (before ++ word ∷ []) words ∙ rw append_assoc refl
+
+pub fault_stopped : (s : Shape) (names : Names) (w : Walk) (name : Text) (before words : List Text)
+    → walk_fault s names (stopped_at w (name, before)) words ≡ []
+unfolding walk_fault walked
+fault_stopped s names w name before [] = refl
+fault_stopped s names w name before (word ∷ words) =
+    fault_stopped s names w name (before ++ word ∷ []) words
+
+-- a command's own level
+abbrev pub level : Name → Shape
+level name = built_leaf (command_app name).top
+
+-- the program's level
+abbrev top : Shape
+top = (built program_app).top
+
+-- a walk over the words behind the program's name
+abbrev program_walk : List Text → Walk
+program_walk words = walk top.rules (names_of (built program_app)) nothing_held words
+
+-- the faults of the program's words where their walk ends so, with this fault
+abbrev fault_at : Walk → Kinds → Kinds
+fault_at end found =
+    or_else found (or_else (entered_fault (built program_app) end.stopped)
+    (or_else (settle_fault top.rules top.args_override_self end.held)
+    (or_else (defaults_fault (settled top.rules end.held).rows top.rules)
+    (check_fault top (finished top.rules end.held)
+    (is_some (entered (built program_app) end.stopped))))))
+
+-- the walk has met a command
+abbrev met : Name → List Text → Walk
+met name words = stopped_at (walk_from nothing_held) (name_text name, words)
+
+meets : (name : Name) → walked top.rules (names_of (built program_app)) (walk_from nothing_held)
+    (name_text name) ≡ met name []
+unfolding clap_on_literals
+meets names.Record = refl
+meets names.Run = refl
+meets names.List = refl
+meets names.Status = refl
+meets names.Replay = refl
+meets names.Copy = refl
+meets names.Judge = refl
+meets names.Path = refl
+
+-- the name of a command is no fault
+name_faultless : (name : Name)
+    → turn_fault top (names_of (built program_app)) (walk_from nothing_held) (name_text name) ≡ []
+unfolding clap_on_literals
+name_faultless names.Record = refl
+name_faultless names.Run = refl
+name_faultless names.List = refl
+name_faultless names.Status = refl
+name_faultless names.Replay = refl
+name_faultless names.Copy = refl
+name_faultless names.Judge = refl
+name_faultless names.Path = refl
+
+-- the walk over a command's name and its words
+walk_met : (name : Name) (words : List Text)
+    → program_walk (name_text name ∷ words) ≡ met name words
+walk_met name words =
+    ap (λ (w : Walk). fold (walked top.rules (names_of (built program_app))) w words) (meets name)
+    ∙ walk_stopped top.rules (names_of (built program_app)) (walk_from nothing_held)
+    (name_text name) [] words
+
+-- it has no fault
+walk_faultless : (name : Name) (words : List Text)
+    → walk_fault top (names_of (built program_app)) (walk_from nothing_held)
+    (name_text name ∷ words) ≡ []
+unfolding walk_fault
+walk_faultless name words =
+    ap (λ (ks : Kinds). or_else ks
+    (walk_fault top (names_of (built program_app))
+    (walked top.rules (names_of (built program_app)) (walk_from nothing_held)
+    (name_text name)) words))
+    (name_faultless name)
+    ∙ ap (λ (w : Walk). walk_fault top (names_of (built program_app)) w words) (meets name)
+    ∙ fault_stopped top (names_of (built program_app)) (walk_from nothing_held)
+    (name_text name) [] words
+
+-- where a command is met, the fault is that of its own level
+fault_met : (name : Name) (words : List Text)
+    → fault_at (met name words) []
+    ≡ or_else (level_fault (level name) [] nothing_held words false []) []
+unfolding clap_on_literals
+fault_met names.Record words = refl
+fault_met names.Run words = refl
+fault_met names.List words = refl
+fault_met names.Status words = refl
+fault_met names.Replay words = refl
+fault_met names.Copy words = refl
+fault_met names.Judge words = refl
+fault_met names.Path words = refl
+
+-- and what is entered has the rows of its own level
+entered_met : (name : Name) (words : List Text)
+    → entered (built program_app) (Some (name_text name, words))
+    ≡ Some (name_text name, rows_after (level name).rules [] words)
+entered_met names.Record words = refl
+entered_met names.Run words = refl
+entered_met names.List words = refl
+entered_met names.Status words = refl
+entered_met names.Replay words = refl
+entered_met names.Copy words = refl
+entered_met names.Judge words = refl
+entered_met names.Path words = refl
+
+-- the rows of a command that is entered with plain words
+abbrev pub plain_rows : Name → List Text → List Row
+plain_rows name words =
+    finished (level name).rules (held_after (level name).rules 1 words nothing_held)
+
+-- the fault of a command at plain words
+abbrev pub plain_fault : Name → List Text → Kinds
+plain_fault name words =
+    or_else (places_fault (level name) 1 words nothing_held)
+    (last_fault (level name) (held_after (level name).rules 1 words nothing_held))
+
+-- A command's name and plain words, each of which has a
+-- place and none a fault, enter the command with them.
+pub plain_enters : (name : Name) (program : Text) (words : List Text) → ArePlain words
+    → have_places (level name).rules 1 words ≡ true
+    → plain_fault name words ≡ []
+    → Enters (command_words program name words) (name_text name, plain_rows name words)
+plain_enters name program words plain have faultless = record {
+  faultless =
+      ap (λ (ks : Kinds). fault_at (program_walk (name_text name ∷ words)) ks)
+      (walk_faultless name words)
+      ∙ ap (λ (w : Walk). fault_at w []) (walk_met name words)
+      ∙ fault_met name words
+      ∙ ap (λ (ks : Kinds). or_else ks []) (level_plain (level name) words plain have ∙ faultless);
+  enters = ap (λ (w : Walk). entered (built program_app) w.stopped) (walk_met name words)
+      ∙ entered_met name words
+      ∙ ap (λ h. Some (name_text name, finished (level name).rules h))
+      (rows_plain (level name).rules words plain have);
+}
+
+-- a plain line asks to record
+pub record_enters : (program script log : Text) → is_positional script ≡ true
+    → is_positional log ≡ true
+    → Enters (command_words program names.Record (script ∷ log ∷ []))
+    (codes "record", plain_rows names.Record (script ∷ log ∷ []))
+unfolding clap_on_literals
+record_enters program script log plain_script plain_log = plain_enters names.Record program
+    (script ∷ log ∷ []) (plain_script, (plain_log, tt)) refl refl
+
+-- a plain line asks to run
+pub run_enters : (program script log : Text) → is_positional script ≡ true
+    → is_positional log ≡ true
+    → Enters (command_words program names.Run (script ∷ log ∷ []))
+    (codes "run", plain_rows names.Run (script ∷ log ∷ []))
+unfolding clap_on_literals
+run_enters program script log plain_script plain_log =
+    plain_enters names.Run program (script ∷ log ∷ []) (plain_script, (plain_log, tt)) refl refl
+
+-- a plain line asks to list
+pub list_enters : (program log : Text) → is_positional log ≡ true
+    → Enters (command_words program names.List (log ∷ []))
+    (codes "list", plain_rows names.List (log ∷ []))
+unfolding clap_on_literals
+list_enters program log plain = plain_enters names.List program (log ∷ []) (plain, tt) refl refl
+
+-- a plain line asks for a status
+pub status_enters : (program log : Text) → is_positional log ≡ true
+    → Enters (command_words program names.Status (log ∷ []))
+    (codes "status", plain_rows names.Status (log ∷ []))
+unfolding clap_on_literals
+status_enters program log plain = plain_enters names.Status program (log ∷ []) (plain, tt) refl refl
+
+-- a plain line asks to replay
+pub replay_enters : (program log first out what : Text) → is_positional log ≡ true
+    → is_positional first ≡ true → is_positional out ≡ true
+    → is_positional what ≡ true
+    → Enters (command_words program names.Replay (log ∷ first ∷ out ∷ what ∷ []))
+    (codes "replay", plain_rows names.Replay (log ∷ first ∷ out ∷ what ∷ []))
+unfolding clap_on_literals
+replay_enters program log first out what plain_log plain_first plain_out plain_what =
+    plain_enters names.Replay program (log ∷ first ∷ out ∷ what ∷ [])
+    (plain_log, (plain_first, (plain_out, (plain_what, tt)))) refl refl
+
+-- a plain line asks to copy
+pub copy_enters : (program log out sectors : Text) → is_positional log ≡ true
+    → is_positional out ≡ true → is_positional sectors ≡ true
+    → Enters (command_words program names.Copy (log ∷ out ∷ sectors ∷ []))
+    (codes "copy", plain_rows names.Copy (log ∷ out ∷ sectors ∷ []))
+unfolding clap_on_literals
+copy_enters program log out sectors plain_log plain_out plain_sectors =
+    plain_enters names.Copy program (log ∷ out ∷ sectors ∷ [])
+    (plain_log, (plain_out, (plain_sectors, tt))) refl refl
+
+-- a plain line asks to judge
+pub judge_enters : (program script m image : Text) → is_positional script ≡ true
+    → is_positional m ≡ true → is_positional image ≡ true
+    → Enters (command_words program names.Judge (script ∷ m ∷ image ∷ []))
+    (codes "judge", plain_rows names.Judge (script ∷ m ∷ image ∷ []))
+unfolding clap_on_literals
+judge_enters program script m image plain_script plain_m plain_image =
+    plain_enters names.Judge program (script ∷ m ∷ image ∷ [])
+    (plain_script, (plain_m, (plain_image, tt))) refl refl
+
+-- a plain line asks for a path
+pub path_enters : (program script m image : Text) → is_positional script ≡ true
+    → is_positional m ≡ true → is_positional image ≡ true
+    → Enters (command_words program names.Path (script ∷ m ∷ image ∷ []))
+    (codes "path", plain_rows names.Path (script ∷ m ∷ image ∷ []))
+unfolding clap_on_literals
+path_enters program script m image plain_script plain_m plain_image =
+    plain_enters names.Path program (script ∷ m ∷ image ∷ [])
+    (plain_script, (plain_m, (plain_image, tt))) refl refl
+
+-- What chains of clap's builder calls make: the program, its commands and their arguments.
+
+-- an argument was added to a command, in a chain of calls
+pub arg_chained : (old : Command) (a : Arg) (app : App) (rule : Rule) (new : Command)
+    → AddsArg old a new → a.global ≡ false → IsCommandOf app old
+    → rule_of a ≡ rule → IsCommandOf (with_rule app rule) new
+arg_chained old a app rule new adds own before rule_is = record {
+  reads =
+      adds.shape own ∙ ap (λ (x : App). with_rule x (rule_of a)) before.reads
+      ∙ ap (with_rule app) rule_is;
+  own = adds.globals ∙ rw (own, before.own) refl;
+}
+
+-- an argument was added to a command by the last call
+pub arg_added : {E : Type 0} (old : Command) (a : Arg) (app : App) (rule : Rule)
+    (r : Result Command E) → IfOk r (λ new. AddsArg old a new)
+    → a.global ≡ false → IsCommandOf app old → rule_of a ≡ rule
+    → IfOk r (IsCommandOf (with_rule app rule))
+arg_added old a app rule (Ok new) adds own before rule_is =
+    arg_chained old a app rule new adds own before rule_is
+arg_added old a app rule (Err e) adds own before rule_is = adds
+
+-- a command was added to a command
+pub command_added : {E : Type 0} (old sub : Command) (lower : App) (r : Result Command E)
+    → IfOk r (λ new. AddsSubcommand old sub new)
+    → IsCommandOf lower sub → IfOk r (λ new. app_of new ≡ with_subcommand (app_of old) lower.top)
+command_added old sub lower (Ok new) adds made =
+    adds.shape made.own ∙ ap (λ (x : App). with_subcommand (app_of old) x.top) made.reads
+command_added old sub lower (Err e) adds made = adds
+
+-- the program's command is this one, and then it has one more
+pub chained_is : (before after : App) (lower : App) (is : App)
+    → after ≡ with_subcommand before lower.top → before ≡ is → after ≡ with_subcommand is lower.top
+chained_is before after lower is adds same =
+    adds ∙ ap (λ (x : App). with_subcommand x lower.top) same
+
+-- the same of the last call
+pub chained : {E : Type 0} (r : Result Command E) (before lower is : App)
+    → IfOk r (λ new. app_of new ≡ with_subcommand before lower.top) → before ≡ is
+    → IfOk r (λ new. app_of new ≡ with_subcommand is lower.top)
+chained (Ok new) before lower is adds same = chained_is before (app_of new) lower is adds same
+chained (Err e) before lower is adds same = adds
+
+-- Which command the words of a command line enter, and which task the command asks for.
+-- The names of the commands are distinct.
+
+-- what is wrapped alike is alike
+pub same_some : {A : Type 0} (x y : A) → Some x ≡ Some y → x ≡ y
+same_some x y same = cc
+
+-- what a choice between a name and others finds is the word's name
+chosen : (t : Bool) (name found : Name) (word : List ℕ) (other : Option Name)
+    → (true ≡ t → word ≡ name_text name)
+    → (other ≡ Some found → word ≡ name_text found) → cond t (Some name) other ≡ Some found
+    → word ≡ name_text found
+chosen true name found word other here there is =
+    subst (λ (n : Name). word ≡ name_text n) (same_some name found is) (here refl)
+chosen false name found word other here there is = there is
+
+-- the same of a word that may be a command's name
+named_once : (name found : Name) (word : List ℕ) (other : Option Name)
+    → (other ≡ Some found → word ≡ name_text found)
+    → cond (is_same word (name_text name)) (Some name) other ≡ Some found → word ≡ name_text found
+named_once name found word other there is =
+    chosen (is_same word (name_text name)) name found word other
+    (same_text word (name_text name)) there is
+
+-- a word that names a command is its name
+pub named : (word : List ℕ) (found : Name) → name_of word ≡ Some found → word ≡ name_text found
+named word found is =
+    named_once names.Record found word _
+    (λ e1. named_once names.Run found word _ (λ e2. named_once names.List found word _
+    (λ e3. named_once names.Status found word _
+    (λ e4. named_once names.Replay found word _ (λ e5. named_once names.Copy found word _
+    (λ e6. named_once names.Judge found word _
+    (λ e7. named_once names.Path found word _ (λ e8. absurd (cc)) e7) e6) e5) e4) e3) e2) e1) is
+
+-- the name of a command names it
+pub named_again : (name : Name) → name_of (name_text name) ≡ Some name
+named_again names.Record = refl
+named_again names.Run = refl
+named_again names.List = refl
+named_again names.Status = refl
+named_again names.Replay = refl
+named_again names.Copy = refl
+named_again names.Judge = refl
+named_again names.Path = refl
+
+-- no two commands have one name
+pub one_name : (word : List ℕ) (first second : Name) → word ≡ name_text first
+    → word ≡ name_text second → first ≡ second
+one_name word first second is_first is_second =
+    same_some first second (sym (named_again first) ∙ sym (ap name_of is_first)
+    ∙ ap name_of is_second ∙ named_again second)
+
+-- where there was no memory, a command asks to show so
+shown_for_memory : (name : Name) (rows : List Row) (error : Error) → kind_of error ≡ OutOfMemory
+    → AsksBy name rows (tasks.Show error)
+shown_for_memory names.Record rows error is = is
+shown_for_memory names.Run rows error is = is
+shown_for_memory names.List rows error is = is
+shown_for_memory names.Status rows error is = is
+shown_for_memory names.Replay rows error is = is
+shown_for_memory names.Copy rows error is = is
+shown_for_memory names.Judge rows error is = is
+shown_for_memory names.Path rows error is = is
+
+-- what words are read as is what they ask for
+pub read_asks : (words : List Text) (task : Task) (entered : Entered) → IsReadByClap words task
+    → Enters words entered → IsComplete entered
+    → Asks entered task
+read_asks words (tasks.Show error) entered (memory is) enters complete =
+    let (name, is_name, words) = complete in
+    (name, is_name, shown_for_memory name entered.1 error is)
+read_asks words (tasks.Show error) entered (fault among) enters complete =
+    absurd (subst (λ (kinds : Kinds). IsAmong (kind_of error) kinds) enters.faultless among)
+read_asks words (tasks.Show error) entered (missing faultless incomplete is) enters complete =
+    absurd (incomplete entered enters complete)
+read_asks words task entered read enters complete =
+    subst (λ (e : Entered). Asks e task) (same_some _ _ (sym read.1.1 ∙ enters.enters)) read.1.2
+
+-- what words ask for that enter a command is what this command asks for
+pub asks_for : (name : Name) (rows : List Row) (task : Task) → Asks (name_text name, rows) task
+    → AsksBy name rows task
+asks_for name rows task asks =
+    let (found, is_found, by) = asks in
+    subst (λ (n : Name). AsksBy n rows task) (one_name (name_text name) found name is_found refl) by
+
+-- what a parse of this command line finds is a function of its words
+pub is_simple_app : is_simple program_app ≡ true
+unfolding clap_on_literals
+is_simple_app = refl
+
+-- no word of this command line has a rule on another
+pub is_free_program : is_simple_and_free program_app ≡ true
+unfolding clap_on_literals
+is_free_program = refl
+
+-- whether the words after the first ask for an explanation
+pub explains_of : {X : Type 0} (text_of : X → List ℕ) (words rest : List X) → rest ≡ drop 1 words
+    → list_any (λ word. is_explain (text_of word)) rest ≡ has_explain (map text_of words)
+explains_of text_of [] rest is = ap (list_any (λ word. is_explain (text_of word))) is
+explains_of text_of (x ∷ xs) rest is =
+    ap (list_any (λ word. is_explain (text_of word))) is ∙ list_any-map is_explain text_of xs

@@ -1,0 +1,5 @@
+use Rattle.dmlw.proofs.PlainCommands.{status_done}
+use Rattle.dmlw.proofs.laws.plain_words_status.Goals as goal
+
+pub returns : goal.returns
+returns c = status_done

@@ -1,0 +1,3 @@
+-- The definitions of `dmlw`'s contracts.
+pub mod CommandLine
+pub mod Commands

@@ -1,5 +1,0 @@
-use Rattle.dmlw_cli.proofs.PlainCommands.{replay_done}
-use Rattle.dmlw_cli.proofs.laws.plain_words_replay.Goals as goal
-
-pub returns : goal.returns
-returns c = replay_done

@@ -1,5 +1,0 @@
-use Rattle.dmlw_cli.proofs.PlainCommands.{run_done}
-use Rattle.dmlw_cli.proofs.laws.plain_words_run.Goals as goal
-
-pub returns : goal.returns
-returns c = run_done

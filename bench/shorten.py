@@ -89,6 +89,12 @@ def squeezed(text):
 
 # The bodies of lemmas.
 
+def is_data(result, imports):
+    """Whether a declaration's result, in words, is a value and no proof: a tactic would choose one."""
+    head = result[0] if result else ""
+    return head in ("ℕ", "Bool", "List", "Option", "Result", "Content", "View", "Unit") and "≡" not in result or ".declared." in imports.get(head, "") and "≡" not in result
+
+
 def bodies(text):
     """Of each equation of a lemma: where its body is, and the names and recursive calls that the body cites."""
     head = text[: text.find("\n\n")] if "\n\n" in text else ""
@@ -110,6 +116,9 @@ def bodies(text):
                 elif marks and line.strip().startswith("where"):
                     marks.append(-offset)
             offset += len(line) + 1
+        first = next((mark for mark in marks if mark > 0), end)
+        if is_data(squeezed(text[found.end() : first]).split("→")[-1].split(), imports_of(text)):
+            continue
         for start in (mark for mark in marks if mark > 0):
             later = [mark for mark in marks if abs(mark) > start]
             stop = abs(later[0]) if later else end

@@ -1,13 +1,17 @@
 #!/usr/bin/env python3
 """Shortens the proofs of a crate where the check still passes; statements are never touched. In the crate's folder, which `rt check` passes:
 
-  bench/shorten.py [--way grind|rw|subst|names|using]..      (all of them, in this order, where none is named)
+  bench/shorten.py [--way grind|rw|subst|eta|aps|parts|whole|names|using]..      (all of them, in this order, if none is named)
 
   grind   a lemma's body becomes one `grind (arith, ..)` over the lemmas that it cites, if that is shorter
   rw      chains of `ap (λ ..) e` become `rw`
   subst   `subst (λ ..) e t` becomes `rw`
+  eta     `ap (λ x. f x) e` becomes `ap f e`
+  aps     chains of `ap (λ ..) e` become one `grind` over the equations
+  parts   values of fields, of arms and of typed `let`s become one `grind` over what they cite, by name or as applied
+  whole   bodies of three lines and more become one `grind` over the lemmas as they were applied
   names   names of definitions go from the lists of tactics
-  using   a short Answers.antt goes, and its lemmas stand in `using(..)` at the function
+  using   a short Answers.antt goes, and its lemmas go into `using(..)` at the function
 
 All places of a way are tried at once. What the check refuses is put back, and the check is run again until it passes; so each way takes some
 checks of the crate. Run it in a clone, on an idle machine, and look at the time of a check from nothing before and after. `rt tidy` follows.
@@ -334,6 +338,217 @@ def name_sites(text):
             yield Site(match.start(), end, [f"{match.group(1)} {kept[0]}" if alone else f"{match.group(1)} ({', '.join(kept)})"])
 
 
+# Parts of a body: the values of typed `let`s, fields and arms; and whole bodies by the lemmas as they were applied.
+
+def applied(text, tokens, cited):
+    """The applications of the cited lemmas that lie in no other such application."""
+    found, index = [], 0
+    while index < len(tokens):
+        if tokens[index].text in cited:
+            end = index + 1
+            while end < len(tokens) and (tokens[end].text in OPEN or re.match(r"^[\w'.\-⊥∅]+$", tokens[end].text) and tokens[end].text not in WORDS and not tokens[end].text.endswith(".")):
+                gap = text[tokens[end - 1].end : tokens[end].start]
+                if not gap:
+                    break
+                end = close_of(tokens, end) + 1 if tokens[end].text in OPEN else end + 1
+            found.append(tokens[index:end])
+            index = end
+        else:
+            index += 1
+    return found
+
+
+def lets_of(tokens):
+    """The names that lets bind without a pattern, each with the tokens of its value."""
+    bound, index = {}, 0
+    while index < len(tokens):
+        if tokens[index].text == "let" and index + 2 < len(tokens) and re.match(r"^[a-z][\w'\-]*$", tokens[index + 1].text):
+            name, at, depth = tokens[index + 1].text, index + 2, 0
+            while at < len(tokens) and not (depth == 0 and tokens[at].text == "="):
+                depth += (tokens[at].text in OPEN) - (tokens[at].text in CLOSE)
+                at += 1
+            end, depth, deep = at + 1, 0, 0
+            while end < len(tokens) and not (depth == 0 and deep == 0 and tokens[end].text in ("in", ";")):
+                depth += (tokens[end].text in OPEN) - (tokens[end].text in CLOSE)
+                deep += (tokens[end].text == "let") - (tokens[end].text == "in")
+                end += 1
+            bound[name] = tokens[at + 1 : end]
+            index = at + 1
+        else:
+            index += 1
+    return bound
+
+
+def inlined(text, tokens, bound, depth=0):
+    """A text with bound names replaced by their values; None if it gets long."""
+    out, last = "", None
+    for token in tokens:
+        if last is not None and text[last.end : token.start]:
+            out += " "
+        head, _, field = token.text.partition(".")
+        if head in bound and depth < 3:
+            value = inlined(text, bound[head], {k: v for k, v in bound.items() if k != head}, depth + 1)
+            if value is None or len(value) > 90:
+                return None
+            out += (f"({value})" if " " in value or field else value) + (f".{field}" if field else "")
+        else:
+            out += token.text
+        last = token
+    return out if len(out) <= 160 else None
+
+
+def cited_in(text, tokens, imports, here):
+    cited = []
+    for token in tokens:
+        word = token.text
+        if word in WORDS or word in cited or not re.match(r"^[a-z_≤+][\w'≤\-+]*$", word):
+            continue
+        if word in imports and not is_definition(word, imports, text) and ".declared." not in imports[word] and "Prelude" not in imports[word]:
+            cited.append(word)
+        elif word in here and word not in imports and ("-" in word or "_" in word):
+            cited.append(word)
+    return cited
+
+
+def body_texts(text, tokens, imports, here):
+    cited = cited_in(text, tokens, imports, here)
+    texts = [f"grind ({', '.join(['arith', *cited])})" if cited else "grind arith"]
+    bound = lets_of(tokens)
+    calls = []
+    for call in applied(text, tokens, set(cited)):
+        said = inlined(text, call, bound)
+        calls.append(said if said else call[0].text)
+    calls = list(dict.fromkeys(calls))
+    if calls and any(" " in call for call in calls):
+        texts.append(f"grind ({', '.join(['arith', *calls])})")
+    return texts
+
+
+def part_sites(text):
+    imports = imports_of(text)
+    here = set(re.findall(r"(?m)^(?:pub )?(" + NAME + r") :", text))
+    tokens = [Token(match) for match in TOKEN.finditer(text)]
+    tokens = [token for token in tokens if not token.text.startswith("--")]
+    for index, token in enumerate(tokens):
+        if token.text not in ("↦", "=") or index + 1 >= len(tokens):
+            continue
+        line = text[text.rfind("\n", 0, token.start) + 1 : token.start]
+        if token.text == "=" and not line.startswith(" "):
+            continue
+        base = len(line) - len(line.lstrip())
+        start = index + 1
+        if tokens[start].text == "λ":
+            while start < len(tokens) and not tokens[start].text.endswith("."):
+                start += 1
+            start += 1
+        if start >= len(tokens) or tokens[start].text in ("elim", "record", "grind", "omega", "simp", "λ", "search", "{", "cc"):
+            continue
+        depth, deep, end = 0, 0, start
+        while end < len(tokens):
+            word = tokens[end].text
+            if depth == 0 and deep == 0 and (word in CLOSE or word in (";", "|", ",", "in")):
+                break
+            gap = text[tokens[end - 1].end : tokens[end].start] if end > start and depth == 0 else ""
+            if "\n\n" in gap or ("\n" in gap and len(gap) - gap.rfind("\n") - 1 <= base):
+                break
+            depth += (word in OPEN) - (word in CLOSE)
+            deep += (word == "let") - (word == "in")
+            end += 1
+        found = tokens[start:end]
+        if not found:
+            continue
+        old = text[found[0].start : found[-1].end]
+        if "\n" not in old or "--" in old:
+            continue
+        before = text[text.rfind("\n", 0, found[0].start) + 1 : found[0].start]
+        pad, texts = " " * (base + 4), []
+        for one in body_texts(text, found, imports, here):
+            laid_out = one if len(before) + len(one) <= WIDTH else filled(one, pad, len(before))
+            if laid_out.count("\n") < old.count("\n"):
+                texts.append(laid_out)
+        if texts:
+            yield Site(found[0].start, found[-1].end, texts)
+
+
+def whole_sites(text):
+    imports = imports_of(text)
+    here = set(re.findall(r"(?m)^\s*(?:pub )?(" + NAME + r") :", text))
+    for start, end, body, cited, indent in bodies(text):
+        if body.strip().startswith(("grind", "simp (", "omega", "record", "elim")) or body.count("\n") < 2 or "--" in body:
+            continue
+        tokens = [token for token in (Token(match) for match in TOKEN.finditer(text, start, end))]
+        one = body_texts(text, tokens, imports, here)
+        own = [it for it in cited if " " in it]
+        texts = []
+        for it in one:
+            it = it.replace("grind (arith", f"grind (arith, {', '.join(own)}" if own else "grind (arith")
+            new = laid(text, start, " " + it, indent)
+            if new.count("\n") < body.count("\n"):
+                texts.append(new)
+        if texts:
+            yield Site(start, end, texts)
+
+
+# Equations that are taken through a function: `ap (λ ..) e` and chains of them become one `grind` over the equations.
+
+def through_texts(text, tokens):
+    parts = parts_of(tokens)
+    if not all(parts) or not any(step(part) for part in parts):
+        return []
+    facts = []
+    for part in parts:
+        found = step(part)
+        facts.append(source(text, unwrapped(found[1]) if found else part))
+    facts = [it for it in dict.fromkeys(facts) if it != "refl"]
+    if any(it.startswith("←") for it in facts):
+        return []
+    new = f"grind ({', '.join(['arith', *facts])})" if facts else "grind arith"
+    return [new] if len(new) <= len(source(text, tokens)) + 2 and "ap (λ" not in new else []
+
+
+def eta_texts(text, tokens):
+    """`ap (λ x. f x) e` is `ap f e`."""
+    if len(tokens) < 4 or tokens[0].text != "ap" or tokens[1].text != "(" or tokens[2].text != "λ":
+        return []
+    end = close_of(tokens, 1)
+    inner = tokens[3:end]
+    if inner and inner[0].text == "(":
+        close = close_of(inner, 0)
+        name, rest = inner[1].text, inner[close + 1 :]
+        if not rest or rest[0].text != ".":
+            return []
+        rest = rest[1:]
+    elif inner and inner[0].text.endswith("."):
+        name, rest = inner[0].text[:-1], inner[1:]
+    else:
+        return []
+    if len(rest) < 2 or rest[-1].text != name or any(re.search(r"(?<![\w'-])" + re.escape(name) + r"(?![\w'-])", it.text) for it in rest[:-1]):
+        return []
+    if any(re.match(r"^[^\w(){}\[\]'\-.]+$", it) or it in ("λ", "let", "elim", "if", "record") for it in flat(rest)):
+        return []
+    head = source(text, rest[:-1])
+    head = head if len(rest) == 2 else f"({head})"
+    return [f"ap {head} {text[tokens[end + 1].start : tokens[-1].end]}"]
+
+
+def ap_expressions(text):
+    """Every `ap (λ ..) e` wherever it is, with its one argument."""
+    tokens = [Token(match) for match in TOKEN.finditer(text)]
+    tokens = [token for token in tokens if not token.text.startswith("--")]
+    for index, token in enumerate(tokens):
+        if token.text == "ap" and index + 3 < len(tokens) and tokens[index + 1].text == "(" and tokens[index + 2].text == "λ":
+            end = close_of(tokens, index + 1) + 1
+            if end < len(tokens):
+                last = close_of(tokens, end) if tokens[end].text in OPEN else end
+                yield tokens[index : last + 1]
+
+
+def eta_sites(text):
+    for tokens in ap_expressions(text):
+        for one in eta_texts(text, tokens):
+            yield Site(tokens[0].start, tokens[-1].end, [one])
+
+
 # Trying.
 
 def check():
@@ -480,6 +695,10 @@ WAYS = {
     "grind": lambda: attempt("grind", grind_sites),
     "rw": lambda: attempt("rw", lambda text: expression_sites(text, chain_texts)),
     "subst": lambda: attempt("subst", lambda text: expression_sites(text, subst_texts)),
+    "eta": lambda: attempt("eta", eta_sites),
+    "aps": lambda: attempt("aps", lambda text: expression_sites(text, through_texts)),
+    "parts": lambda: attempt("parts", part_sites),
+    "whole": lambda: attempt("whole", whole_sites),
     "names": lambda: attempt("names", name_sites),
     "using": using,
 }

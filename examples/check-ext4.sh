@@ -6,6 +6,7 @@
 # Without the journal's replay a healthy file system that lost power looks broken: `fsck.ext4 -fn` alone skips the recovery. `-p` replays the journal, and mends no
 # damaged superblock or journal head, as `-y` would. The image is changed. It ends with status 0 where the file system is whole, and 127 where there is no e2fsck.
 set -u
+[ $# = 1 ] || { echo "usage: $0 IMAGE" && exit 127; }
 command -v e2fsck >/dev/null || { echo "e2fsck isn't here: it is one of e2fsprogs" && exit 127; }
 e2fsck -E journal_only -p "$1" || exit 1
 exec e2fsck -fn "$1"

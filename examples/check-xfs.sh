@@ -7,6 +7,7 @@
 # the image is mounted and unmounted once. Without that a healthy file system that lost power looks broken. The image is changed. It ends with status 0 where the
 # file system is whole, and 1 where it isn't. Without that right it can't judge an image whose log is to be replayed: it says so, with status 3.
 set -u
+[ $# = 1 ] || { echo "usage: $0 IMAGE" && exit 127; }
 
 # Whether a mount can succeed here at all: this kernel knows XFS, a loop device is free, and the right is there.
 can_mount() {

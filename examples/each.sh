@@ -73,10 +73,11 @@ steps() {
 # Makes the image up to and with an entry, and a copy of it: writes the entries after the step before as a log of their own, and applies it to the image of that step.
 # That image goes through a descriptor, since a file that is written by its name is forced to the disk; some file systems do so with one that is replaced, too.
 image_at() {
+    rm -f "$room/image"
     printf "$magic$bytes$sizes" >"$room/part" || return
     said=$(dd if="$log" of="$room/part" bs="$size" skip="$begin" seek=1 count="$sectors" conv=notrunc 2>&1) || { echo "$said" && return 1; }
     "$dmlw" --explain replay "$room/part" "$state" /dev/fd/9 "entries:$count" 9>"$room/next" >/dev/null || return
-    rm -f "$room/state" "$room/image"
+    rm -f "$room/state"
     mv "$room/next" "$room/state" && copy "$room/state" "$room/image"
 }
 
@@ -106,6 +107,7 @@ log=$2
 first=$3
 shift 3
 case $which in marks | flushes | fua | all) ;; *) usage ;; esac
+case $log in --*) refuse "$log: options come before $which" ;; esac
 for file in "$log" "$first"; do [ -r "$file" ] || refuse "$file can't be read"; done
 command -v "$1" >/dev/null || refuse "$1 is no program"
 
@@ -124,9 +126,16 @@ trap 'exit 1' HUP INT TERM
 status=0
 said=$("$dmlw" --explain list "$log" 2>&1 >"$room/list") || status=1
 [ -z "$said" ] || printf '%s\n' "$said" >&2
+case $said in *': 32 File'*'standard output'*) echo "$0: no room in $room: TMPDIR needs room for two images" >&2 ;; esac
 case $said in *': 32 File'*) exit 3 ;; esac
 [ -s "$room/list" ] || exit 1
-steps >"$room/steps" || refuse "the log has no entry $from"
+grep -q '^[0-9]' "$room/list" || refuse "the log counts no entry: there is nothing to check"
+steps >"$room/steps"
+case $? in
+0) ;;
+1) refuse "the log has no entry $from" ;;
+*) echo "$0: no room in $room: TMPDIR needs room for two images" >&2 && exit 3 ;;
+esac
 # A part's super block: the first 16 bytes of the log's, the count, and the sector size.
 size=$(sed -n '1s/.* sectorsize //p' "$room/list")
 bytes_at() { od -An -v -t o1 -j "$1" -N "$2" "$log" | tr -d '\n' | sed 's/ /\\/g'; }

@@ -1,3 +1,3 @@
--- The lemmas of `board`; the proof of a function is in the folder of its source file.
+-- The lemmas of `board`. The proof of each function is in the folder of its source file.
 pub mod Moves
 mod Examples

@@ -1,5 +1,5 @@
--- Each step keeps the rule of a board.
--- Two statuses that fit have the same number only if they are equal.
+-- Each step keeps the rule of a board, and two statuses that fit and have the same number are
+-- equal.
 use Rattle.std.proofs.Common.{true≢false, refl, arith, sym, ap, ◌∙◌, subst, ⊎_elim, ◌≡◌, ◌≢◌, ℕ}
 use Rattle.std.proofs.Common.{◌+◌, ◌*◌, ◌≤◌, Option, Some, None, zero, suc, List, [], ◌∷◌, ◌++◌}
 use Rattle.std.proofs.Common.{set, true, false}
@@ -42,13 +42,12 @@ end_once (Some ends.Memory) (Some ends.Full) e = absurd (omega arith)
 end_once (Some ends.Memory) (Some ends.Device) e = absurd (omega arith)
 end_once (Some ends.Memory) (Some ends.Memory) e = refl
 
--- the parts of a number
+-- a number has 5 bits for the end, 21 bits for the sector, and the rest for the entries
 parts : (entries sector end a b c : ℕ) → sector ≤ 1048576 → end ≤ 20 → b ≤ 1048576 → c ≤ 20
     → entries * 67108864 + sector * 32 + end ≡ a * 67108864 + b * 32 + c
     → (entries ≡ a) × (sector ≡ b) × (end ≡ c)
 parts entries sector end a b c few small less tiny e = (omega arith, omega arith, omega arith)
 
--- two statuses that fit and have one number are one
 pub word_once : (one other : Status) → IsFit one → IsFit other → word_of one ≡ word_of other
     → one ≡ other
 word_once one other fit fits e = grind (arith, end_number, end_few, end_once)
@@ -76,7 +75,6 @@ begins word is =
         })
     one (suc by) pass e = absurd (some-ne-none pass (sym e))
 
--- one pass changed, and the others fit as they are
 fits_set : (place : ℕ) (statuses : List Status) (passes : List Knows) (by : ℕ) (new : Knows)
     → ((j : ℕ) (pass : Knows) → j ≢ by → get_elem? passes j ≡ some pass
     → Fits place statuses j pass)
@@ -90,7 +88,6 @@ fits_set place statuses passes by new others mine j pass e =
     (λ (x : (j ≢ by) × (get_elem? passes j ≡ some pass)). others j pass x.0 x.1)
     (at_set passes by j new pass e)
 
--- a reader that has seen a beginning fits anywhere
 reader_fits : (place : ℕ) (statuses seen : List Status) (by : ℕ) → Begins seen statuses
     → Fits place statuses by (reader_of seen)
 reader_fits place statuses seen by begins =
@@ -128,11 +125,10 @@ publish_keeps words passes id seen status fit follows posted there =
           });
     }
 
--- a step that writes this word; the rest of a step is not looked at
+-- a step that writes the word `new`; the other fields of the step don't matter
 abbrev writes_word : ℕ → Step (Unit {0})
 writes_word new = record { slots = 0; word = 0; first = new; second = 0; said = none }
 
--- a pass that holds no slot
 pub alone : (me : Me (Unit {0}) Knows) → me.1 ≡ [] → me ≡ (me.0, [])
 alone me e = λ k. (me.0, e k)
 
@@ -165,7 +161,6 @@ published_is before after new seen status is word fit told =
     told status fit word ∙ ap
     (λ (m : Me (Unit {0}) Knows). (writer_of (m.0.seen ++ status ∷ []), [])) is
 
--- the words, of which the first is written again
 words_again : (words : List ℕ) (n : ℕ) → words ≡ n ∷ []
     → slice_set words 0 (slice_index words 0) ≡ words
 words_again words n is =

@@ -1,4 +1,4 @@
--- How every task ends: its exit, its file writes, and its lines on the error stream.
+-- Proves how every task ends: its exit, its file writes, and its lines on the error stream.
 use Rattle.std.proofs.Common.{◌≡◌, ◌∙◌, ◌≤◌, ◌⊎◌, ◌++◌, ℕ, [], append-nil, Bool, false, true, List}
 use Rattle.std.proofs.Common.{Option, Some, None, Result, Ok, Err, arith, inl, inr, refl, subst}
 use Rattle.std.proofs.Common.{sym}
@@ -15,17 +15,17 @@ use Rattle.dmlw_commands.specs.Ends.{exit_after, exit_at, exit_by, exit_of, faul
 use Rattle.dmlw_commands.specs.Ends.{reported_line, status_of}
 use Rattle.dmlw_commands.specs.declared.ending.Ended.{Ended}
 use Rattle.dmlw_files.specs.Files.{KeepsFiles}
-use Rattle.dmlw_commands.specs.Makings.{Asks, FailsMaking, IsMade, Makes, Making}
-use Rattle.dmlw_commands.specs.Makings.{taken, unmade, unprinted, unwritten}
+use Rattle.dmlw_commands.specs.Makings.{Asks, FailsMaking, IsMade, Makes, Making, taken, unmade}
+use Rattle.dmlw_commands.specs.Makings.{unprinted, unwritten}
 use Rattle.dmlw_commands.specs.Seen.{Seen}
 use Rattle.world.specs.declared.reaching.Finding.{Finding}
 use Rattle.world.specs.declared.reaching.Finding.TheVariants as findings
 use Rattle.dmlw_commands.specs.Judgements.{Meaning, exit_answered, finding_meaning, verdict_meaning}
 use Rattle.judge.specs.declared.verdict.Verdict.{Verdict}
 use Rattle.judge.specs.declared.verdict.Verdict.TheVariants as verdicts
-use Rattle.dmlw.specs.Commands.{AsksForOneWrite, EndsCommand, EndsTask, EndsUntasked}
-use Rattle.dmlw.specs.Commands.{IsFaultLine, IsRead, IsReadAs, ReportsBy, ReportsOneLine}
-use Rattle.dmlw.specs.Commands.{ReportsUntasked, memory}
+use Rattle.dmlw.specs.Commands.{AsksForOneWrite, EndsCommand, EndsTask, EndsUntasked, IsFaultLine}
+use Rattle.dmlw.specs.Commands.{IsRead, IsReadAs, ReportsBy, ReportsOneLine, ReportsUntasked}
+use Rattle.dmlw.specs.Commands.{memory}
 use Rattle.clap.specs.Words.{Text, kind_of}
 use Rattle.clap.specs.declared.error.Error.{Error}
 use Rattle.dmlw.specs.CommandLine.{is_formats}
@@ -36,7 +36,6 @@ use Rattle.std.specs.Io.KnownBytes.{Appends}
 use Rattle.dmlw.specs.declared.task.Task.{Task}
 use Rattle.dmlw.specs.declared.task.Task.TheVariants as tasks
 
--- each exit has a status from 0 to 3
 at_most : (exit : Exit) → status_of exit ≤ 3
 at_most Done = omega arith
 at_most Refused = omega arith
@@ -44,7 +43,6 @@ at_most Usage = omega arith
 at_most LoggingEnded = omega arith
 at_most RuledOut = omega arith
 
--- where nothing was asked to be written and each file was kept, a command ends as any may
 ends_keeping : (old new : Seen) (exit : Exit) → new.writes ≡ old.writes
     → KeepsFiles old.files new.files → EndsCommand old new exit
 ends_keeping old new exit same kept = record {
@@ -55,7 +53,6 @@ ends_keeping old new exit same kept = record {
   unmade = λ ended. inl kept;
 }
 
--- a command that is done, or of which logging ended, is neither refused nor a usage fault
 abbrev IsLogged : Exit → Type 0
 IsLogged exit = (exit ≡ Done) ⊎ (exit ≡ LoggingEnded)
 
@@ -71,18 +68,15 @@ not_refused exit (inr is) (inl refused) = cc
 not_refused exit (inr is) (inr (inl refused)) = cc
 not_refused exit (inr is) (inr (inr refused)) = cc
 
--- a fault is no usage fault
 fault_usage : (fault : RunError) → exit_of fault ≡ Usage → ⊥
 fault_usage (faults.Refused fault) usage = let no : Refused ≡ Usage = usage in cc
 fault_usage (faults.LoggingEnded end) usage = let no : LoggingEnded ≡ Usage = usage in cc
 fault_usage (faults.StoppedAfter applied refusal) usage = let no : Refused ≡ Usage = usage in cc
 
--- what is made is one file
 asked_one : {T : Type 0} (making : Making T) (name : List ℕ) (old new : Seen) (result : T)
     → Asks making name old new result → AsksForOneWrite old.writes new.writes
 asked_one making name old new result asks = (name, (asks.image, asks.asked))
 
--- what isn't made is none, or one
 failed_once : {T : Type 0} (making : Making T) (read name : List ℕ) (old new : Seen)
     (fault : RunError) → FailsMaking making read name old new fault
     → (new.writes ≡ old.writes) ⊎ AsksForOneWrite old.writes new.writes
@@ -92,7 +86,6 @@ failed_once making read name old new fault (unprinted is result lines image made
 failed_once making read name old new fault (unwritten is result asks) =
     inr (asked_one making name old new result asks)
 
--- so ends every command that makes an image
 ends_making : {T : Type 0} (making : (List ℕ → Option (List ℕ)) → Making T) (read name : List ℕ)
     (exits : Result T RunError → Exit) → ((result : T) → IsLogged (exits (Ok result)))
     → ((fault : RunError) → exits (Err fault) ≡ exit_of fault)
@@ -120,7 +113,6 @@ ends_making making read name exits logged by_fault old new (Err fault) exit make
       unmade = λ ended. inl makes.came.1;
     }
 
--- a recording that came so far is done, or its logging ended
 after_logged : (status : Status) → IsLogged (exit_after (Ok status))
 after_logged status = at_end status.end
   where
@@ -128,7 +120,6 @@ after_logged status = at_end status.end
     at_end None = inl refl
     at_end (Some cause) = inr refl
 
--- every task ends so
 pub ends_task : (task : Task) (explains : Bool) (old new : Seen) (ended : Ended)
     → EndsTask task explains old new ended → EndsCommand old new ended.exit
 ends_task (tasks.Record script log) explains old new ended ends =
@@ -158,14 +149,12 @@ ends_task (tasks.Show error) explains old new ended ends =
 ends_task (tasks.HasBadWord flaw word) explains old new ended ends =
     ends_keeping old new ended.exit ends.unwritten ends.kept
 
--- a line with nothing behind it
 nothing_behind : (old new : Option (List ℕ)) (line more : List ℕ) → more ≡ []
     → Appends old new (line ++ more) → Appends old new line
 nothing_behind old new line more none grew =
     subst (Appends old new) (append-nil line)
     (subst (λ (l : List ℕ). Appends old new (line ++ l)) none grew)
 
--- a command that ends by a fault with this line, and doesn't explain itself, has told the line
 told_one_line : (t : ErrStream) (exit : Exit) (line : List ℕ) (ended : Ended) → t.explains ≡ false
     → IsFaultLine exit line → ReportsLine t exit line ended
     → ReportsOneLine ended t.before t.after
@@ -177,7 +166,6 @@ told_one_line t exit line ended off is tells = record {
       nothing_behind t.before t.after line more (silent off) grew;
 }
 
--- what a fault tells, by how it ends
 told_fault : (t : ErrStream) (cause : RunError) (ended : Ended) → t.explains ≡ false
     → ReportsLine t (exit_of cause) (fault_line cause) ended
     → ReportsBy ended.exit ended t.before t.after
@@ -192,7 +180,6 @@ told_fault t cause ended off tells =
     by_fault (faults.LoggingEnded end) line = inr line
     by_fault (faults.StoppedAfter applied refusal) line = line
 
--- what a command tells that did this
 told_by : {T : Type 0} (t : ErrStream) (done : Result T RunError) (ended : Ended)
     → t.explains ≡ false → Tells t done ended → ReportsBy ended.exit ended t.before t.after
 told_by t (Ok u) ended off tells =
@@ -200,7 +187,6 @@ told_by t (Ok u) ended off tells =
     (tells.quiet off refl)
 told_by t (Err fault) ended off tells = told_fault t fault ended off tells
 
--- what a recording tells
 told_recording : (t : ErrStream) (done : Result Status RunError) (ended : Ended)
     → t.explains ≡ false → ReportsLine t (exit_after done) (reported_line done) ended
     → ReportsBy ended.exit ended t.before t.after
@@ -214,7 +200,6 @@ told_recording t (Ok status) ended off tells =
     by_end (Some cause) same = inl same
 told_recording t (Err fault) ended off tells = told_fault t fault ended off tells
 
--- what an answer tells that is done or ruled out
 told_answer : {A : Type 0} (meaning : Meaning A)
     → ((answer : A) → (meaning.ends answer ≡ Done) ⊎ (meaning.ends answer ≡ RuledOut))
     → (t : ErrStream) (done : Result A RunError) (ended : Ended) → t.explains ≡ false
@@ -240,7 +225,6 @@ finding_ends : (finding : Finding)
 finding_ends (findings.Run run) = inl refl
 finding_ends (findings.RuledOut sector by) = inr refl
 
--- what a text tells
 text_tells : (kind : ErrorKind) (t : ErrStream) (ended : Ended) → EndsUntasked kind ended.exit
     → ReportsUntasked kind t ended → t.explains ≡ false
     → ReportsBy ended.exit ended t.before t.after
@@ -251,7 +235,6 @@ text_tells DisplayVersion t ended ends (done, fault, tells) off = told_by t done
 text_tells _ t ended ends tells off =
     subst (λ (e : Exit). ReportsBy e ended t.before t.after) (sym ends) tt
 
--- what every task tells that doesn't explain itself
 pub task_tells : (task : Task) (explains : Bool) (old new : Seen) (ended : Ended)
     → EndsTask task explains old new ended → explains ≡ false
     → ReportsBy ended.exit ended old.err new.err
@@ -280,7 +263,6 @@ task_tells (tasks.Show error) explains old new ended ends off =
 task_tells (tasks.HasBadWord flaw word) explains old new ended ends off =
     subst (λ (e : Exit). ReportsBy e ended old.err new.err) (sym ends.usage) tt
 
--- where there was no memory to read words, that is what they are read as
 pub memory_read : (words : List Text) (error : Error) → kind_of error ≡ OutOfMemory
     → IsRead words (tasks.Show error)
 memory_read words error is = read_as (is_formats words) words error is

@@ -1,4 +1,4 @@
--- Words that don't begin with a hyphen are parsed as the command that they name.
+-- Proves that words that don't begin with a hyphen are parsed as the command that they name.
 use Rattle.std.proofs.Common.{◌≡◌, ◌∙◌, ◌==◌, ℕ, Bool, List, [], ◌∷◌, Option, Some, Err, arith, ap}
 use Rattle.std.proofs.Common.{false, inl, inr, not, refl, subst, sym, true}
 use Rattle.std.proofs.lemmas.Bool.{and_parts}
@@ -22,8 +22,8 @@ use Rattle.dmlw_commands.specs.Replays.{IsWhat, Replays, file as unreplayed}
 use Rattle.dmlw_commands.specs.Seen.{Seen}
 use Rattle.dmlw_commands.specs.declared.explain.explaining.CopyNames.{CopyNames}
 use Rattle.dmlw_commands.specs.declared.explain.explaining.ReplayNames.{ReplayNames}
-use Rattle.dmlw.specs.Commands.{DoesWords, EndsTask, EndsText, EndsReplayingUpTo, AsksBy}
-use Rattle.dmlw.specs.Commands.{IsRead, IsReadByClap, IsSectorCount}
+use Rattle.dmlw.specs.Commands.{DoesWords, EndsTask, EndsText, EndsReplayingUpTo, AsksBy, IsRead}
+use Rattle.dmlw.specs.Commands.{IsReadByClap, IsSectorCount}
 use Rattle.replay.specs.declared.replaying.Upto.{Upto}
 use Rattle.replay.specs.declared.replaying.Upto.TheVariants as uptos
 use Rattle.refusals.specs.Words.{IsNumber, is_number, number_value}
@@ -35,32 +35,25 @@ use Rattle.dmlw.specs.declared.task.BadWord.TheVariants as bad_words
 use Rattle.dmlw.specs.declared.task.Task.{Task}
 use Rattle.dmlw.specs.declared.task.Task.TheVariants as tasks
 use Rattle.dmlw.proofs.PlainWords.{ArePlain, asks_for, copy_enters, is_other, judge_enters}
-use Rattle.dmlw.proofs.PlainWords.{list_enters, path_enters, plain_rows, read_asks}
-use Rattle.dmlw.proofs.PlainWords.{record_enters, replay_enters, run_enters, same_some}
-use Rattle.dmlw.proofs.PlainWords.{status_enters}
+use Rattle.dmlw.proofs.PlainWords.{list_enters, path_enters, plain_rows, read_asks, record_enters}
+use Rattle.dmlw.proofs.PlainWords.{replay_enters, run_enters, same_some, status_enters}
 
--- ---- words without `--explain`
-
--- a word that doesn't begin with a hyphen asks for no explanation
 not_explain : (word : List ℕ) → is_positional word ≡ true → is_explain word ≡ false
 not_explain [] plain = refl
 not_explain (x ∷ xs) plain = let other = is_other x plain in simp other
 
--- plain words are taken as they are
 kept_words : (words : List Text) → ArePlain words
     → filter (λ word. not (is_explain word)) words ≡ words
 kept_words [] plain = refl
 kept_words (word ∷ words) plain =
     let same = not_explain word plain.0 in let rest = kept_words words plain.1 in simp (same, rest)
 
--- and ask for no explanation
 none_explains : (words : List Text) → ArePlain words → list_any is_explain words ≡ false
 none_explains [] plain = refl
 none_explains (word ∷ words) plain =
     let same = not_explain word plain.0 in
     let rest = none_explains words plain.1 in simp (same, rest)
 
--- no command's name begins with a hyphen
 name_plain : (name : Name) → is_positional (name_text name) ≡ true
 name_plain names.Record = refl
 name_plain names.Run = refl
@@ -71,7 +64,6 @@ name_plain names.Copy = refl
 name_plain names.Judge = refl
 name_plain names.Path = refl
 
--- so a command's plain words stand as they are
 stays_plain : (name : Name) (program : Text) (words : List Text) → ArePlain words
     → without_explain (command_words program name words) ≡ command_words program name words
 stays_plain name program words plain =
@@ -83,7 +75,7 @@ stays_silent : (name : Name) (program : Text) (words : List Text) → ArePlain w
 stays_silent name program words plain =
     none_explains (name_text name ∷ words) (name_plain name, plain)
 
--- no command's name is `help`
+-- No command's name is `help`, so clap parses the words.
 pub names_help : (name : Name) (program : Text) (words : List Text) (task : Task)
     → IsRead (command_words program name words) task
     → IsReadByClap (command_words program name words) task
@@ -98,7 +90,6 @@ names_help names.Judge program (word ∷ []) task read = read
 names_help names.Path program (word ∷ []) task read = read
 names_help name program (word ∷ next ∷ words) task read = read
 
--- what a command with plain words is read as is what it asks for
 plain_asks : (name : Name) (program : Text) (words : List Text) (rows : List Row) (task : Task)
     → ArePlain words
     → Enters (command_words program name words) (name_text name, rows) → HasWords name rows
@@ -111,7 +102,6 @@ plain_asks name program words rows task plain enters has read =
     (names_help name program words task plainly) enters
     (name, refl, has))
 
--- a command line with plain words does a task that it asks for, and explains nothing
 abbrev DoesPlain : Name → List Row → Seen → Seen → Ended → Type 0
 DoesPlain name rows old new ended =
     (task : Task) × AsksBy name rows task × EndsTask task false old new ended
@@ -128,15 +118,11 @@ plain_does name program words rows old new ended plain enters has does = (
       (stays_silent name program words plain) does.ends,
 )
 
--- ---- out of memory
-
--- a text that is shown since there was no memory ends so
 memory_ends : (kind : ErrorKind) (old new : Seen) (ended : Ended) → kind ≡ OutOfMemory
     → EndsText kind false old new ended → EndsText OutOfMemory false old new ended
 memory_ends kind old new ended is ends =
     subst (λ (k : ErrorKind). EndsText k false old new ended) is ends
 
--- then nothing is made
 none_made : {T : Type 0} (making : (List ℕ → Option (List ℕ)) → Making T) (read name : List ℕ)
     (old new : Seen) (ended : Ended)
     → (Keeps old.out new.out → (making old.files).fails old.out new.out memory_error)
@@ -201,8 +187,6 @@ answer_refused meaning script moment image old new ended ends = record {
   tells = ends.tells;
 }
 
--- ---- each command: how a task ends that its words ask for
-
 record_ends : (script log : Text) (old new : Seen) (ended : Ended)
     → DoesPlain names.Record (plain_rows names.Record (script ∷ log ∷ [])) old new ended
     → Ends (Records of_recorder script log) exit_after false old new ended
@@ -251,8 +235,7 @@ status_ends log old new ended (tasks.Show error, asks, ends) =
     (memory_ends (kind_of error) old new ended asks ends)
 status_ends log old new ended (task, asks, ends) = absurd asks
 
--- what is said of the names and the end that a replay's
--- task has is said of the words that ask for it
+-- A fact about the names in the task is a fact about the words of the command line.
 of_words : (files : ReplayNames) (upto : Upto) (log first out what : Text)
     (P : Text → Text → Text → Upto → Type 0)
     → AsksBy names.Replay (plain_rows names.Replay (log ∷ first ∷ out ∷ what ∷ []))
@@ -291,8 +274,6 @@ replay_ends log first out what given old new ended is (tasks.Show error, asks, e
 )
 replay_ends log first out what given old new ended is (task, asks, ends) = absurd asks
 
--- what is said of the names and the number that a copy's
--- task has is said of the words that ask for it
 of_copy : (files : CopyNames) (asked : ℕ) (log out word : Text) (sectors : ℕ)
     (P : Text → Text → ℕ → Type 0) → IsSectorCount word sectors
     → AsksBy names.Copy (plain_rows names.Copy (log ∷ out ∷ word ∷ [])) (tasks.Copy files asked)
@@ -307,7 +288,6 @@ of_copy files asked log out word sectors P is asks says =
     (subst (λ (name : Text). P log name asked) out_name
     (subst (λ (name : Text). P name files.out.now asked) log_name says))
 
--- a word that is such a number isn't told to be none
 copy_named : (word : Text) (sectors : ℕ) (found : Text) → IsSectorCount word sectors
     → Some word ≡ Some found
     → ((n : ℕ) → IsSectorCount found n → ⊥) → ⊥
@@ -328,8 +308,6 @@ copy_ends log out word sectors old new ended is (tasks.Show error, asks, ends) =
     (memory_ends (kind_of error) old new ended asks ends)
 copy_ends log out word sectors old new ended is (task, asks, ends) = absurd asks
 
--- what is said of the names and the number that a
--- question's task has is said of the words that ask for it
 of_question : (script image m s i word : Text) (moment n : ℕ) (P : Text → ℕ → Text → Type 0)
     → IsNumber m moment → Some script ≡ Some s → Some image ≡ Some i → Some m ≡ Some word
     → IsNumber word n → P s n i → P script moment image
@@ -342,7 +320,6 @@ of_question script image m s i word moment n P number is_script is_image is_word
     (subst (λ (name : Text). P script n name) image_name
     (subst (λ (name : Text). P name n i) script_name says))
 
--- a word that is a number isn't told to be none
 number_named : (m word : Text) (moment : ℕ) → IsNumber m moment → Some m ≡ Some word
     → is_number word ≡ false → ⊥
 number_named m word moment number is_word none =
@@ -383,15 +360,11 @@ path_ends script m image moment old new ended number (tasks.Show error, asks, en
     (memory_ends (kind_of error) old new ended asks ends)
 path_ends script m image moment old new ended number (task, asks, ends) = absurd asks
 
--- ---- words that are plain since they say something
-
--- what names an end of a replay doesn't begin with a hyphen
 what_plain : (what : Text) (upto : Upto) → IsWhat what upto → is_positional what ≡ true
 what_plain what (uptos.Count n) (digits, is, number) = ap is_positional is
 what_plain what (uptos.Mark text) is = ap is_positional is
 what_plain what uptos.Flush is = ap is_positional is
 
--- nor does a number
 digit_plain : (x : ℕ) → is_ascii_digit x ≡ true → not (x == 45) ≡ true
 digit_plain x digit = grind (arith, nat_tests)
 
@@ -401,8 +374,6 @@ number_plain (x ∷ xs) n number =
     let parts = and_parts _ _ number.0 in
     let digits = and_parts _ _ parts.0 in
     digit_plain x (and_parts (is_ascii_digit x) (list_all is_ascii_digit xs) digits.1).0
-
--- ---- each command line
 
 pub record_done : (old new : Seen) (ended : Ended) (program script log : List ℕ)
     → is_positional script ≡ true → is_positional log ≡ true

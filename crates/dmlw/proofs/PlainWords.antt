@@ -1,4 +1,4 @@
--- How clap parses a command's name and the words after it, and for which task they ask.
+-- Proves how clap parses a command's name and plain words, which don't begin with a hyphen.
 use Rattle.std.proofs.Common.{false, not, List, refl, subst, sym, ◌&&◌, ◌≡◌, ◌∙◌, Result, Ok, Err}
 use Rattle.std.proofs.Common.{IfOk, ◌==◌, ℕ, Bool, true, [], ◌∷◌, ◌++◌, Some, None, ap, cond, drop}
 use Rattle.std.proofs.Common.{map, arith, codes, fold, is_some, Option}
@@ -30,28 +30,22 @@ use Rattle.dmlw.specs.declared.name.Name.TheVariants as names
 use Rattle.dmlw.specs.declared.task.Task.{Task}
 use Rattle.dmlw.specs.declared.task.Task.TheVariants as tasks
 
--- How clap parses a command's name, if the words after it don't begin with a hyphen.
--- clap's walk over words that don't begin with a hyphen: each goes to the next argument.
-
--- a word that begins with another byte than a hyphen
 pub is_other : (x : ℕ) → not (x == 45) ≡ true → (x == 45) ≡ false
 is_other x plain = grind arith
 
--- each word is plain
 abbrev pub ArePlain : List Text → Type 0
 ArePlain = AllByRecursion (λ word. is_positional word ≡ true)
 
--- the walk stands before a place, and nothing waits
+-- The walk is before the argument at this place, and no argument waits for a value.
 abbrev pub before_place : Held → ℕ → Walk
 before_place h place =
     record { held = h; waiting = idle; position = place; is_trailing = false; stopped = None }
 
--- an argument takes one word, and lets the next ones be told apart
+-- The argument takes one word, and the words after it may still be options.
 abbrev pub takes_one : Option Rule → Bool
 takes_one None = false
 takes_one (Some rule) = not (is_multiple rule) && not rule.trailing_var_arg
 
--- what is held after a word for an argument, and the place of the next
 abbrev pub held_with : List Rule → Option Rule → Text → Held → Held
 held_with rules None word h = h
 held_with rules (Some rule) word h = positional_held rules rule word h
@@ -60,27 +54,23 @@ abbrev pub place_after : Option Rule → ℕ → ℕ
 place_after None place = place
 place_after (Some rule) place = next_position rule place
 
--- each of these words has an argument at its place that takes one
 abbrev pub have_places : List Rule → ℕ → List Text → Bool
 have_places rules place [] = true
 have_places rules place (word ∷ words) =
     takes_one (arg_by_index rules place)
     && have_places rules (place_after (arg_by_index rules place) place) words
 
--- what is held after these words
 abbrev pub held_after : List Rule → ℕ → List Text → Held → Held
 held_after rules place [] h = h
 held_after rules place (word ∷ words) h =
     held_after rules (place_after (arg_by_index rules place) place) words
     (held_with rules (arg_by_index rules place) word h)
 
--- the place behind them
 abbrev pub place_behind : List Rule → ℕ → List Text → ℕ
 place_behind rules place [] = place
 place_behind rules place (word ∷ words) =
     place_behind rules (place_after (arg_by_index rules place) place) words
 
--- the fault of going to their places
 abbrev pub places_fault : Shape → ℕ → List Text → Held → Kinds
 places_fault s place [] h = []
 places_fault s place (word ∷ words) h =
@@ -88,7 +78,6 @@ places_fault s place (word ∷ words) h =
     (places_fault s (place_after (arg_by_index s.rules place) place) words
     (held_with s.rules (arg_by_index s.rules place) word h))
 
--- a plain word is a value of the argument at its place
 walked_plain : (rules : List Rule) (h : Held) (place : ℕ) (word : Text) → is_positional word ≡ true
     → walked rules [] (before_place h place) word
     ≡ to_positional rules (arg_by_index rules place) word (before_place h place) h
@@ -96,13 +85,11 @@ unfolding walked
 walked_plain rules h place [] plain = refl
 walked_plain rules h place (x ∷ xs) plain = let other = is_other x plain in simp other
 
--- it has no fault but that of going there
 turn_plain : (s : Shape) (h : Held) (place : ℕ) (word : Text) → is_positional word ≡ true
     → turn_fault s [] (before_place h place) word ≡ step_fault s place h value
 turn_plain s h place [] plain = refl
 turn_plain s h place (x ∷ xs) plain = let other = is_other x plain in simp other
 
--- an argument that takes one word leaves the walk before the next place
 taken : (rules : List Rule) (rule : Option Rule) (word : Text) (h : Held) (place : ℕ)
     → takes_one rule ≡ true
     → to_positional rules rule word (before_place h place) h
@@ -118,7 +105,6 @@ taken rules (Some rule) word h place takes =
     off false e = refl
     off true e = cc
 
--- where the walk stands after one plain word
 one_step : (rules : List Rule) (h : Held) (place : ℕ) (word : Text) → is_positional word ≡ true
     → takes_one (arg_by_index rules place) ≡ true
     → walked rules [] (before_place h place) word
@@ -128,7 +114,6 @@ one_step rules h place word plain takes =
     walked_plain rules h place word plain
     ∙ taken rules (arg_by_index rules place) word h place takes
 
--- where the walk stands after plain words
 walk_plain : (rules : List Rule) (words : List Text) (h : Held) (place : ℕ) → ArePlain words
     → have_places rules place words ≡ true
     → fold (walked rules []) (before_place h place) words
@@ -142,7 +127,6 @@ walk_plain rules (word ∷ words) h place plain have =
     ∙ walk_plain rules words (held_with rules (arg_by_index rules place) word h)
     (place_after (arg_by_index rules place) place) plain.1 parts.1
 
--- the fault of plain words is that of going to their places
 fault_plain : (s : Shape) (words : List Text) (h : Held) (place : ℕ) → ArePlain words
     → have_places s.rules place words ≡ true
     → walk_fault s [] (before_place h place) words ≡ places_fault s place words h
@@ -161,14 +145,13 @@ fault_plain s (word ∷ words) h place plain have =
     (fault_plain s words (held_with s.rules (arg_by_index s.rules place) word h)
     (place_after (arg_by_index s.rules place) place) plain.1 parts.1)
 
--- the faults of a command's own words after their walk
+-- The faults that clap finds only after it has walked over all words of a command.
 abbrev pub last_fault : Shape → Held → Kinds
 last_fault s end =
     or_else (settle_fault s.rules s.args_override_self end)
     (or_else (defaults_fault (settled s.rules end).rows s.rules)
     (check_fault s (finished s.rules end) false))
 
--- the fault of a command at plain words
 pub level_plain : (s : Shape) (words : List Text) → ArePlain words
     → have_places s.rules 1 words ≡ true
     → level_fault s [] nothing_held words false []
@@ -180,16 +163,13 @@ level_plain s words plain have =
     ∙ ap (λ (w : Walk). or_else (places_fault s 1 words nothing_held) (last_fault s w.held))
     (walk_plain s.rules words nothing_held 1 plain have)
 
--- what a command finds at plain words
 pub rows_plain : (rules : List Rule) (words : List Text) → ArePlain words
     → have_places rules 1 words ≡ true
     → (walk rules [] nothing_held words).held ≡ held_after rules 1 words nothing_held
 rows_plain rules words plain have =
     ap (λ (w : Walk). w.held) (walk_plain rules words nothing_held 1 plain have)
 
--- ---- the words behind a command's name
-
--- the walk that has met a command puts the words behind its name aside
+-- When the walk meets a command, it keeps the words after the command's name for later.
 abbrev pub stopped_at : Walk → Text × List Text → Walk
 stopped_at w p = record w { stopped = Some p }
 
@@ -209,19 +189,15 @@ fault_stopped s names w name before [] = refl
 fault_stopped s names w name before (word ∷ words) =
     fault_stopped s names w name (before ++ word ∷ []) words
 
--- a command's own level
 abbrev pub level : Name → Shape
 level name = built_leaf (command_app name).top
 
--- the program's level
 abbrev top : Shape
 top = (built program_app).top
 
--- a walk over the words behind the program's name
 abbrev program_walk : List Text → Walk
 program_walk words = walk top.rules (names_of (built program_app)) nothing_held words
 
--- the faults of the program's words where their walk ends so, with this fault
 abbrev fault_at : Walk → Kinds → Kinds
 fault_at end found =
     or_else found (or_else (entered_fault (built program_app) end.stopped)
@@ -230,7 +206,6 @@ fault_at end found =
     (check_fault top (finished top.rules end.held)
     (is_some (entered (built program_app) end.stopped))))))
 
--- the walk has met a command
 abbrev met : Name → List Text → Walk
 met name words = stopped_at (walk_from nothing_held) (name_text name, words)
 
@@ -246,7 +221,6 @@ meets names.Copy = refl
 meets names.Judge = refl
 meets names.Path = refl
 
--- the name of a command is no fault
 name_faultless : (name : Name)
     → turn_fault top (names_of (built program_app)) (walk_from nothing_held) (name_text name) ≡ []
 unfolding clap_on_literals
@@ -259,7 +233,6 @@ name_faultless names.Copy = refl
 name_faultless names.Judge = refl
 name_faultless names.Path = refl
 
--- the walk over a command's name and its words
 walk_met : (name : Name) (words : List Text)
     → program_walk (name_text name ∷ words) ≡ met name words
 walk_met name words =
@@ -267,7 +240,6 @@ walk_met name words =
     ∙ walk_stopped top.rules (names_of (built program_app)) (walk_from nothing_held)
     (name_text name) [] words
 
--- it has no fault
 walk_faultless : (name : Name) (words : List Text)
     → walk_fault top (names_of (built program_app)) (walk_from nothing_held)
     (name_text name ∷ words) ≡ []
@@ -282,7 +254,6 @@ walk_faultless name words =
     ∙ fault_stopped top (names_of (built program_app)) (walk_from nothing_held)
     (name_text name) [] words
 
--- where a command is met, the fault is that of its own level
 fault_met : (name : Name) (words : List Text)
     → fault_at (met name words) []
     ≡ or_else (level_fault (level name) [] nothing_held words false []) []
@@ -296,7 +267,6 @@ fault_met names.Copy words = refl
 fault_met names.Judge words = refl
 fault_met names.Path words = refl
 
--- and what is entered has the rows of its own level
 entered_met : (name : Name) (words : List Text)
     → entered (built program_app) (Some (name_text name, words))
     ≡ Some (name_text name, rows_after (level name).rules [] words)
@@ -309,19 +279,15 @@ entered_met names.Copy words = refl
 entered_met names.Judge words = refl
 entered_met names.Path words = refl
 
--- the rows of a command that is entered with plain words
 abbrev pub plain_rows : Name → List Text → List Row
 plain_rows name words =
     finished (level name).rules (held_after (level name).rules 1 words nothing_held)
 
--- the fault of a command at plain words
 abbrev pub plain_fault : Name → List Text → Kinds
 plain_fault name words =
     or_else (places_fault (level name) 1 words nothing_held)
     (last_fault (level name) (held_after (level name).rules 1 words nothing_held))
 
--- A command's name and plain words, each of which has a
--- place and none a fault, enter the command with them.
 pub plain_enters : (name : Name) (program : Text) (words : List Text) → ArePlain words
     → have_places (level name).rules 1 words ≡ true
     → plain_fault name words ≡ []
@@ -339,7 +305,6 @@ plain_enters name program words plain have faultless = record {
       (rows_plain (level name).rules words plain have);
 }
 
--- a plain line asks to record
 pub record_enters : (program script log : Text) → is_positional script ≡ true
     → is_positional log ≡ true
     → Enters (command_words program names.Record (script ∷ log ∷ []))
@@ -348,7 +313,6 @@ unfolding clap_on_literals
 record_enters program script log plain_script plain_log = plain_enters names.Record program
     (script ∷ log ∷ []) (plain_script, (plain_log, tt)) refl refl
 
--- a plain line asks to run
 pub run_enters : (program script log : Text) → is_positional script ≡ true
     → is_positional log ≡ true
     → Enters (command_words program names.Run (script ∷ log ∷ []))
@@ -357,21 +321,18 @@ unfolding clap_on_literals
 run_enters program script log plain_script plain_log =
     plain_enters names.Run program (script ∷ log ∷ []) (plain_script, (plain_log, tt)) refl refl
 
--- a plain line asks to list
 pub list_enters : (program log : Text) → is_positional log ≡ true
     → Enters (command_words program names.List (log ∷ []))
     (codes "list", plain_rows names.List (log ∷ []))
 unfolding clap_on_literals
 list_enters program log plain = plain_enters names.List program (log ∷ []) (plain, tt) refl refl
 
--- a plain line asks for a status
 pub status_enters : (program log : Text) → is_positional log ≡ true
     → Enters (command_words program names.Status (log ∷ []))
     (codes "status", plain_rows names.Status (log ∷ []))
 unfolding clap_on_literals
 status_enters program log plain = plain_enters names.Status program (log ∷ []) (plain, tt) refl refl
 
--- a plain line asks to replay
 pub replay_enters : (program log first out what : Text) → is_positional log ≡ true
     → is_positional first ≡ true → is_positional out ≡ true
     → is_positional what ≡ true
@@ -382,7 +343,6 @@ replay_enters program log first out what plain_log plain_first plain_out plain_w
     plain_enters names.Replay program (log ∷ first ∷ out ∷ what ∷ [])
     (plain_log, (plain_first, (plain_out, (plain_what, tt)))) refl refl
 
--- a plain line asks to copy
 pub copy_enters : (program log out sectors : Text) → is_positional log ≡ true
     → is_positional out ≡ true → is_positional sectors ≡ true
     → Enters (command_words program names.Copy (log ∷ out ∷ sectors ∷ []))
@@ -392,7 +352,6 @@ copy_enters program log out sectors plain_log plain_out plain_sectors =
     plain_enters names.Copy program (log ∷ out ∷ sectors ∷ [])
     (plain_log, (plain_out, (plain_sectors, tt))) refl refl
 
--- a plain line asks to judge
 pub judge_enters : (program script m image : Text) → is_positional script ≡ true
     → is_positional m ≡ true → is_positional image ≡ true
     → Enters (command_words program names.Judge (script ∷ m ∷ image ∷ []))
@@ -402,7 +361,6 @@ judge_enters program script m image plain_script plain_m plain_image =
     plain_enters names.Judge program (script ∷ m ∷ image ∷ [])
     (plain_script, (plain_m, (plain_image, tt))) refl refl
 
--- a plain line asks for a path
 pub path_enters : (program script m image : Text) → is_positional script ≡ true
     → is_positional m ≡ true → is_positional image ≡ true
     → Enters (command_words program names.Path (script ∷ m ∷ image ∷ []))
@@ -412,9 +370,6 @@ path_enters program script m image plain_script plain_m plain_image =
     plain_enters names.Path program (script ∷ m ∷ image ∷ [])
     (plain_script, (plain_m, (plain_image, tt))) refl refl
 
--- What chains of clap's builder calls make: the program, its commands and their arguments.
-
--- an argument was added to a command, in a chain of calls
 pub arg_chained : (old : Command) (a : Arg) (app : App) (rule : Rule) (new : Command)
     → AddsArg old a new → a.global ≡ false → IsCommandOf app old
     → rule_of a ≡ rule → IsCommandOf (with_rule app rule) new
@@ -425,7 +380,6 @@ arg_chained old a app rule new adds own before rule_is = record {
   own = adds.globals ∙ rw (own, before.own) refl;
 }
 
--- an argument was added to a command by the last call
 pub arg_added : {E : Type 0} (old : Command) (a : Arg) (app : App) (rule : Rule)
     (r : Result Command E) → IfOk r (λ new. AddsArg old a new)
     → a.global ≡ false → IsCommandOf app old → rule_of a ≡ rule
@@ -434,7 +388,6 @@ arg_added old a app rule (Ok new) adds own before rule_is =
     arg_chained old a app rule new adds own before rule_is
 arg_added old a app rule (Err e) adds own before rule_is = adds
 
--- a command was added to a command
 pub command_added : {E : Type 0} (old sub : Command) (lower : App) (r : Result Command E)
     → IfOk r (λ new. AddsSubcommand old sub new)
     → IsCommandOf lower sub → IfOk r (λ new. app_of new ≡ with_subcommand (app_of old) lower.top)
@@ -442,27 +395,20 @@ command_added old sub lower (Ok new) adds made =
     adds.shape made.own ∙ ap (λ (x : App). with_subcommand (app_of old) x.top) made.reads
 command_added old sub lower (Err e) adds made = adds
 
--- the program's command is this one, and then it has one more
 pub chained_is : (before after : App) (lower : App) (is : App)
     → after ≡ with_subcommand before lower.top → before ≡ is → after ≡ with_subcommand is lower.top
 chained_is before after lower is adds same =
     adds ∙ ap (λ (x : App). with_subcommand x lower.top) same
 
--- the same of the last call
 pub chained : {E : Type 0} (r : Result Command E) (before lower is : App)
     → IfOk r (λ new. app_of new ≡ with_subcommand before lower.top) → before ≡ is
     → IfOk r (λ new. app_of new ≡ with_subcommand is lower.top)
 chained (Ok new) before lower is adds same = chained_is before (app_of new) lower is adds same
 chained (Err e) before lower is adds same = adds
 
--- Which command the words of a command line enter, and which task the command asks for.
--- The names of the commands are distinct.
-
--- what is wrapped alike is alike
 pub same_some : {A : Type 0} (x y : A) → Some x ≡ Some y → x ≡ y
 same_some x y same = cc
 
--- what a choice between a name and others finds is the word's name
 chosen : (t : Bool) (name found : Name) (word : List ℕ) (other : Option Name)
     → (true ≡ t → word ≡ name_text name)
     → (other ≡ Some found → word ≡ name_text found) → cond t (Some name) other ≡ Some found
@@ -471,7 +417,6 @@ chosen true name found word other here there is =
     subst (λ (n : Name). word ≡ name_text n) (same_some name found is) (here refl)
 chosen false name found word other here there is = there is
 
--- the same of a word that may be a command's name
 named_once : (name found : Name) (word : List ℕ) (other : Option Name)
     → (other ≡ Some found → word ≡ name_text found)
     → cond (is_same word (name_text name)) (Some name) other ≡ Some found → word ≡ name_text found
@@ -479,7 +424,6 @@ named_once name found word other there is =
     chosen (is_same word (name_text name)) name found word other
     (same_text word (name_text name)) there is
 
--- a word that names a command is its name
 pub named : (word : List ℕ) (found : Name) → name_of word ≡ Some found → word ≡ name_text found
 named word found is =
     named_once names.Record found word _
@@ -489,7 +433,6 @@ named word found is =
     (λ e6. named_once names.Judge found word _
     (λ e7. named_once names.Path found word _ (λ e8. absurd (cc)) e7) e6) e5) e4) e3) e2) e1) is
 
--- the name of a command names it
 pub named_again : (name : Name) → name_of (name_text name) ≡ Some name
 named_again names.Record = refl
 named_again names.Run = refl
@@ -500,14 +443,12 @@ named_again names.Copy = refl
 named_again names.Judge = refl
 named_again names.Path = refl
 
--- no two commands have one name
 pub one_name : (word : List ℕ) (first second : Name) → word ≡ name_text first
     → word ≡ name_text second → first ≡ second
 one_name word first second is_first is_second =
     same_some first second (sym (named_again first) ∙ sym (ap name_of is_first)
     ∙ ap name_of is_second ∙ named_again second)
 
--- where there was no memory, a command asks to show so
 shown_for_memory : (name : Name) (rows : List Row) (error : Error) → kind_of error ≡ OutOfMemory
     → AsksBy name rows (tasks.Show error)
 shown_for_memory names.Record rows error is = is
@@ -519,7 +460,6 @@ shown_for_memory names.Copy rows error is = is
 shown_for_memory names.Judge rows error is = is
 shown_for_memory names.Path rows error is = is
 
--- what words are read as is what they ask for
 pub read_asks : (words : List Text) (task : Task) (entered : Entered) → IsReadByClap words task
     → Enters words entered → IsComplete entered
     → Asks entered task
@@ -533,24 +473,22 @@ read_asks words (tasks.Show error) entered (missing faultless incomplete is) ent
 read_asks words task entered read enters complete =
     subst (λ (e : Entered). Asks e task) (same_some _ _ (sym read.1.1 ∙ enters.enters)) read.1.2
 
--- what words ask for that enter a command is what this command asks for
 pub asks_for : (name : Name) (rows : List Row) (task : Task) → Asks (name_text name, rows) task
     → AsksBy name rows task
 asks_for name rows task asks =
     let (found, is_found, by) = asks in
     subst (λ (n : Name). AsksBy n rows task) (one_name (name_text name) found name is_found refl) by
 
--- what a parse of this command line finds is a function of its words
+-- For a simple app, clap's contracts compute the result of a parse from the words.
 pub is_simple_app : is_simple program_app ≡ true
 unfolding clap_on_literals
 is_simple_app = refl
 
--- no word of this command line has a rule on another
+-- As above, and no argument has a rule about another argument.
 pub is_free_program : is_simple_and_free program_app ≡ true
 unfolding clap_on_literals
 is_free_program = refl
 
--- whether the words after the first ask for an explanation
 pub explains_of : {X : Type 0} (text_of : X → List ℕ) (words rest : List X) → rest ≡ drop 1 words
     → list_any (λ word. is_explain (text_of word)) rest ≡ has_explain (map text_of words)
 explains_of text_of [] rest is = ap (list_any (λ word. is_explain (text_of word))) is

@@ -1,4 +1,5 @@
--- How every command ends, and how `record` and `run` do.
+-- Proves how every command ends, and how `record` and `run` end.
+-- The end is reported after the command's work, so what the work did must still hold then.
 use Rattle.std.proofs.Common.{arith, ◌≤◌, ◌++◌, append_assoc, append-nil, refl, slice_get, subst}
 use Rattle.std.proofs.Common.{sym, take, ◌≡◌, ◌∙◌, ◌⊎◌, ℕ, zero, suc, ◌+◌, Bool, List, [], ◌∷◌}
 use Rattle.std.proofs.Common.{None, Option, Some, Result, Ok, Err, ap, inl, inr, length}
@@ -36,15 +37,12 @@ use Rattle.dmlw_commands.specs.Records.{of_recorder, of_seats, run as ran, seat_
 use Rattle.dmlw_commands.specs.Records.{text as unread}
 use Rattle.dmlw_commands.specs.Seen.{OnlyReads, Printing, Seen}
 
--- How every command ends: what the command did still holds after its end was reported.
-
--- what a command has printed stays so while the output keeps what it holds
+-- If the output only keeps what it holds, what `prints` says still holds for the later output.
 abbrev pub IsKept : {T : Type 0} → Printing T → Type 0
 IsKept {T = T} prints =
     (old mid new : Option (List ℕ)) (done : Result T RunError) → prints old mid done
     → Keeps mid new → prints old new done
 
--- how a command ends that only reads
 pub reads_end : {T : Type 0} (prints : (List ℕ → Option (List ℕ)) → Printing T)
     (exits : Result T RunError → Exit) (explains : Bool) (old new : Seen) (mid : Option (List ℕ))
     (done : Result T RunError) (ended : Ended)
@@ -64,23 +62,20 @@ reads_end prints exits explains old new mid done ended stable printed later same
       tells = tells;
     }
 
--- from one time to the other no file was touched, and the output keeps what it held
 pub record Stays (mid new : Seen) : Type 0 where
   pub files : KeepsFiles mid.files new.files
   pub writes : new.writes ≡ mid.writes
   pub out : Keeps mid.out new.out
 
--- why nothing is made stays so while the output keeps what it holds
+-- As `IsKept`, for the reason why no image is made.
 abbrev pub IsSteady : (Option (List ℕ) → Option (List ℕ) → RunError → Type 0) → Type 0
 IsSteady fails =
     (old mid new : Option (List ℕ)) (fault : RunError) → fails old mid fault → Keeps mid new
     → fails old new fault
 
--- so it is if nothing is printed then
 pub keeping_steady : (P : RunError → Type 0) → IsSteady (λ old new fault. P fault × Keeps old new)
 keeping_steady P old mid new fault (fails, none) kept = (fails, keeps_twice old mid new none kept)
 
--- what was made and asked for
 abbrev pub asks_for : {T : Type 0} (making : Making T) (name : List ℕ) (old new : Seen)
     (writes : Option (List Write)) (result : T) (lines image : List ℕ)
     → making.makes result lines image → Appends old.out new.out lines → writes ≡ old.writes
@@ -93,7 +88,6 @@ asks_for making name old new writes result lines image made printed same asked =
   asked = asked ∙ ap (λ (w : Option (List Write)). one_more w name image) same;
 }
 
--- nothing was made, or its image couldn't be written
 pub makes_none : {T : Type 0} (making : (List ℕ → Option (List ℕ)) → Making T)
     (read name : List ℕ) (old new : Seen) {Q : RunError → Type 0} (r : Result T RunError)
     → IsErrAnd r Q
@@ -104,7 +98,6 @@ makes_none making read name old new (Ok result) fails why kept apart = absurd fa
 makes_none making read name old new (Err fault) fails why kept apart =
     record { came = (why fault fails, kept); apart = apart }
 
--- what was asked for stays so
 abbrev asks_kept : {T : Type 0} (making : Making T) (name : List ℕ) (old mid new : Seen) (result : T)
     → Asks making name old mid result → Stays mid new → Asks making name old new result
 asks_kept making name old mid new result asks stays = record {
@@ -115,7 +108,6 @@ asks_kept making name old mid new result asks stays = record {
   asked = stays.writes ∙ asks.asked;
 }
 
--- and why it failed
 fails_kept : {T : Type 0} (making : Making T) → IsSteady making.fails → (read name : List ℕ)
     (old mid new : Seen) (fault : RunError) → FailsMaking making read name old mid fault
     → Stays mid new → FailsMaking making read name old new fault
@@ -129,7 +121,6 @@ fails_kept making steady read name old mid new fault
 fails_kept making steady read name old mid new fault (unwritten is result asks) stays =
     unwritten is result (asks_kept making name old mid new result asks stays)
 
--- and all that a command made
 makes_kept : {T : Type 0} (making : (List ℕ → Option (List ℕ)) → Making T)
     → ((files : List ℕ → Option (List ℕ)) → IsSteady (making files).fails) → (read name : List ℕ)
     (old mid new : Seen) (done : Result T RunError) → Makes making read name old mid done
@@ -152,7 +143,6 @@ makes_kept making steady read name old mid new (Err fault) makes stays = record 
   apart = λ is. stays.writes ∙ makes.apart is;
 }
 
--- how a command ends that makes an image
 pub makes_end : {T : Type 0} (making : (List ℕ → Option (List ℕ)) → Making T)
     (exits : Result T RunError → Exit) (explains : Bool) (read name : List ℕ) (old mid new : Seen)
     (done : Result T RunError) (ended : Ended)
@@ -166,7 +156,6 @@ makes_end making exits explains read name old mid new done ended steady makes st
   tells = tells;
 }
 
--- what is reported if the result is this fault
 pub fault_told : {T : Type 0} (t : ErrStream) (exits : Result T RunError → Exit)
     (done : Result T RunError) (fault : RunError) (ended : Ended) → done ≡ Err fault
     → ReportsLine t (exits done) (reported_line done) ended
@@ -174,12 +163,10 @@ pub fault_told : {T : Type 0} (t : ErrStream) (exits : Result T RunError → Exi
 fault_told {T = T} t exits done fault ended is told =
     subst (λ (d : Result T RunError). ReportsLine t (exits d) (reported_line d) ended) is told
 
--- a file's error is a refusal
 pub file_refused : (fault : RunError) → IsFileError fault → exit_of fault ≡ Refused
 file_refused fault (inl is) = ap exit_of is
 file_refused fault (inr is) = ap exit_of is
 
--- a command that makes an image is done or refused, if that holds where it makes none
 pub done_or_refused : {T : Type 0} (making : (List ℕ → Option (List ℕ)) → Making T)
     (read name : List ℕ) (old new : Seen) (done : Result T RunError) (exit : Exit)
     → ((fault : RunError) → (making old.files).fails old.out new.out fault
@@ -199,9 +186,6 @@ done_or_refused making read name old new (Err fault) exit refused makes is =
     by_fault fault refused (unprinted is result lines image made same) = file_refused fault is
     by_fault fault refused (unwritten is result asks) = file_refused fault is
 
--- How `record` and `run` end, which take two kinds of script.
-
--- why a run ended is kept
 run_kept : (text : List ℕ) (script : ScriptValue) (old mid new : Option (List ℕ))
     (start : DiskRun) (fault : RunError)
     → EndsRun stack_answering text script old mid start fault
@@ -212,7 +196,6 @@ run_kept text script old mid new start fault (close place refusal printed is out
 run_kept text script old mid new start fault (message place error printed is output) kept =
     message place error printed is (appends_kept old mid new printed output kept)
 
--- why recording on disks failed is kept
 pub disks_kept : (text : List ℕ) (script : ScriptValue) → IsSteady (FailsOnDisks text script)
 disks_kept text script old mid new fault (no_file f is) kept = no_file f is
 disks_kept text script old mid new fault (unmade_log f is none) kept =
@@ -220,11 +203,9 @@ disks_kept text script old mid new fault (unmade_log f is none) kept =
 disks_kept text script old mid new fault (no_run start f starts ends) kept =
     no_run start f starts (run_kept text script old mid new start f ends kept)
 
--- and why a run of seats failed
 pub seats_kept : (text : List ℕ) (script : RunPlan) → IsSteady (of_seats.fails text script)
 seats_kept text script = keeping_steady (FailsRun script)
 
--- why a recording failed is kept
 pub failure_kept : {S : Type 0} (kind : Kind S)
     → ((text : List ℕ) (script : S) → IsSteady (kind.fails text script))
     → (contents : Option (List ℕ)) → IsSteady (FailsRecording kind contents)
@@ -235,12 +216,11 @@ failure_kept kind steady contents old mid new fault
 failure_kept kind steady contents old mid new fault (ran bytes script f read spells ends) kept =
     ran bytes script f read spells (steady bytes script old mid new f ends kept)
 
--- a file's error is printed as such
 pub file_told : (error : FileError) → IsFileError (refused_by (file_refusal error))
 file_told errors.Unusable = inl refl
 file_told errors.Memory = inr refl
 
--- recording ended since no script was read
+-- `IsFaultAt` is what the script's reader proves about the line of its error.
 pub fails_unread : {S : Type 0} (kind : Kind S) (contents out : Option (List ℕ)) (text : List ℕ)
     (error : Fault) (fault : RunError) (IsFaultAt : Option ℕ → Type 0)
     → ((line : ℕ) → IsFaultAt (Some line)
@@ -262,7 +242,6 @@ fails_unread kind contents out text error fault IsFaultAt at none is wrong only 
         (λ script spells. let memory = only script spells in
         absurd (cc (ap (λ (e : Fault). e.line) memory, here))) (at number first) (keeps_same out)
 
--- recording ended by a fault of the script's run
 pub fails_run : {S : Type 0} (kind : Kind S) (contents before after : Option (List ℕ))
     (text : List ℕ) (script : S) (fault again : RunError) → MatchesContents contents text
     → kind.spells text script → kind.fails text script before after fault → again ≡ fault
@@ -271,14 +250,12 @@ fails_run kind contents before after text script fault again is spells ends same
     subst (FailsRecording kind contents before after) (sym same)
     (ran text script fault is spells ends)
 
--- recording ended by an error of a file's, or of the output's
 pub fails_by_file : {S : Type 0} (kind : Kind S) (contents before after : Option (List ℕ))
     (told fault : RunError) → IsFileError told → fault ≡ told
     → FailsRecording kind contents before after fault
 fails_by_file kind contents before after told fault is same =
     file fault (subst IsFileError (sym same) is)
 
--- a script was recorded, and then the lines at the end were printed
 pub log_printed : (contents : Option (List ℕ)) (text : List ℕ) (script : ScriptValue)
     (before mid after : Option (List ℕ)) (status : Status) (lies : Lies) (image : List ℕ)
     → MatchesContents contents text → of_recorder.spells text script
@@ -298,7 +275,6 @@ log_printed contents text script before mid after status lies image is spells
       appends_twice before mid after lines (end_lines status lies) first second,
     )
 
--- a script was run, then the seats' lines were printed, and then the lines at the end
 pub run_printed : (contents : Option (List ℕ)) (text : List ℕ) (script : RunPlan)
     (before mid after : Option (List ℕ)) (shown tallies : List Tally) (status : Status)
     (lies : Lies) (image : List ℕ)
@@ -320,16 +296,12 @@ run_printed contents text script before mid after shown tallies status lies imag
           (subst (λ (ts : List Tally). Appends before mid (seat_lines 0 ts)) same first) second,
     )
 
--- a text that was read is within its limit, and the file's bytes that are known are no more
 pub not_too_long : (contents : Option (List ℕ)) (text : List ℕ) {limit : ℕ}
     → MatchesContents contents text → length text ≤ limit → IsTooLong limit contents → ⊥
 not_too_long None text is within long = long
 not_too_long (Some known) text is within long =
     let same = ap (λ (bytes : List ℕ). length bytes) is in omega arith
 
--- The lines that `run` prints for seats.
-
--- a seat's line more
 lines_more : (from : ℕ) (tallies : List Tally) (tally : Tally) (number : ℕ)
     → number ≡ from + length tallies
     → seat_lines from (tallies ++ tally ∷ []) ≡ seat_lines from tallies ++ seat_line number tally
@@ -353,7 +325,6 @@ take_long [] n x there = absurd (cc)
 take_long (y ∷ ys) zero x there = refl
 take_long (y ∷ ys) (suc n) x there = ap suc (take_long ys n x there)
 
--- the next seat's line is printed behind those before it
 pub prints_next : (tallies : List Tally) (number next : ℕ) (tally : Tally)
     (before between after : Option (List ℕ)) → next ≡ suc number
     → slice_get tallies number ≡ Some tally

@@ -1,4 +1,4 @@
--- The result of copying the log in an image, on disks in memory.
+-- Proves the result of copying the log in an image, on disks in memory.
 use Rattle.std.proofs.Common.{arith, inl, inr, length, refl, subst, sym, map, take, Option, None}
 use Rattle.std.proofs.Common.{Some, Result, Ok, Err, IfErr, IfOk, ap, ◌⊎◌, ◌≡◌, ◌∙◌, ℕ, ◌+◌, ◌*◌}
 use Rattle.std.proofs.Common.{◌/◌, ◌<◌, ◌≤◌, true, false, List, [], ◌++◌}
@@ -47,13 +47,11 @@ use Rattle.dmlw_commands.specs.LogCopies.{FailsCopy, FailsOnImage, HasStopCause,
 use Rattle.dmlw_commands.specs.LogCopies.{IsCopiedFrom, IsCopiedOn, LacksRoom, StopsCopy, file}
 use Rattle.dmlw_commands.specs.LogCopies.{memory, of_image, stopped, unopened}
 
--- the content of a device has whole sectors
 pub content_whole : (v : View) → IsLawful v → HasWholeSectors v.size v.content
 content_whole v lawful =
     lawful.whole v.moment v.content (omega arith)
     (lawful.nested v.moment v.content (omega arith) lawful.current)
 
--- why a log isn't opened is why it isn't copied
 pub fails_to_open : (log : List ℕ) (sectors : ℕ) (fault : RunError) (stop : RunError)
     → (fault ≡ memory_error) ⊎ RefusesImage log fault → stop ≡ fault
     → FailsOnImage log sectors stop
@@ -62,7 +60,6 @@ fails_to_open log sectors fault stop (inl is) same =
 fails_to_open log sectors fault stop (inr refuses) same =
     subst (FailsOnImage log sectors) (sym same) (unopened fault refuses)
 
--- what came of the image in a file came of the file
 pub copied_from : (log_file : Option (List ℕ)) (log : List ℕ) (sectors : ℕ)
     (r : Result Copied RunError)
     → MatchesContents log_file log → IsImage log
@@ -72,7 +69,6 @@ copied_from log_file log sectors (Ok done) read image is =
     record { log = log; log_read = read; log_image = image; copied = is }
 copied_from log_file log sectors (Err stop) read image is = is
 
--- and what failed of it failed of the file
 pub failed_from : (log_file : Option (List ℕ)) (log : List ℕ) (sectors : ℕ)
     (r : Result Copied RunError)
     → MatchesContents log_file log → IsImage log
@@ -80,7 +76,6 @@ pub failed_from : (log_file : Option (List ℕ)) (log : List ℕ) (sectors : ℕ
 failed_from log_file log sectors (Ok done) read image fails = fails
 failed_from log_file log sectors (Err stop) read image fails = of_image log stop read image fails
 
--- the sectors of a log that was opened are no larger than those of the new log
 pub log_fits : (log : List ℕ) (sectors : ℕ) (r : Reader) (v : Store) → Opens log r
     → IsBegun sectors v → r.head.sectorsize ≤ v.sector_bytes
 log_fits log sectors r v opened begun =
@@ -91,7 +86,6 @@ log_fits log sectors r v opened begun =
     let to = begun.sector_bytes in
     omega arith
 
--- what is read of a reader's disk is a reading of the image
 reading_on : (log : List ℕ) (r : Reader) (es : List Entry) (fault : Option LogFault) → IsImage log
     → Opens log r → IsLog r es fault
     → IsReading log r.head es fault
@@ -100,7 +94,7 @@ reading_on log r es fault image opened reading =
     reads_alike (length log / 512) r.device.content (sector_of log) r.head es fault
     (some_sector log image) opened.device.content (subst R opened.device.size reading)
 
--- a disk's log has so many entries as it counts, where these are read: so it has no fault
+-- If as many entries can be read as the super block counts, the log has no fault.
 no_fault : (disk : ℕ) (c : Content) (head : Super) (es : List Entry) (fault : Option LogFault)
     (count : ℕ) → Reads disk c head es fault → count ≡ head.count
     → (0 < count → count ≤ length es) → (fault ≡ None) × (count ≡ length es)
@@ -111,11 +105,9 @@ no_fault disk c head es (Some found) count reading all some =
     let within = some (omega arith) in
     absurd (omega arith)
 
--- a new log has no entries
 begun_none : (sectors : ℕ) (v : Store) → IsBegun sectors v → entries_of v ≡ []
 begun_none sectors v begun = ap (entries_at v.sector_bytes v.device.content 1) begun.placed
 
--- what is placed in a new log is the first entries, copied
 placed_entries : (sectors from place count : ℕ) (es : List Entry) (v w : Store) → IsBegun sectors v
     → w.device.lies ≡ 0 → place ≡ 0
     → IsPlaced from es place count v w → entries_of w ≡ map (resized from 4096) (take count es)
@@ -126,7 +118,6 @@ placed_entries sectors from place count es v w begun honest first placed =
     ∙ ap (λ (n : ℕ). map (resized from n) (entries_from es place count)) begun.sector_bytes
     ∙ ap (λ (n : ℕ). map (resized from 4096) (entries_from es n count)) first
 
--- and they are aligned
 placed_aligned : (sectors from place count : ℕ) (es : List Entry) (v w : Store) → IsBegun sectors v
     → place ≡ 0 → IsPlaced from es place count v w
     → list_all (is_aligned_to from 4096) (take count es) ≡ true
@@ -135,7 +126,6 @@ placed_aligned sectors from place count es v w begun first placed =
     (subst (λ (n : ℕ). list_all (is_aligned_to from n) (entries_from es place count)
     ≡ true) begun.sector_bytes placed.aligned)
 
--- a copy that was done
 pub copied_on : (log : List ℕ) (sectors count : ℕ) (r : Reader) (v w : Store) → IsImage log
     → Opens log r → IsBegun sectors v
     → HasWholeSectors r.device.size r.device.content → w.device.lies ≡ 0
@@ -183,7 +173,6 @@ copied_on log sectors count r v w image opened begun whole_sectors honest curren
           (whole honest w.device.content current)));
     }
 
--- a log stands on a disk that has the same sectors
 log_alike : (disk size : ℕ) (c d : Content) (es : List Entry) → 0 < disk → AgreeBelow disk c d
     → IsLogOf disk c size es → IsLogOf disk d size es
 log_alike disk size c d es some agree log =
@@ -193,7 +182,6 @@ log_alike disk size c d es some agree log =
     (record { super_block = log.super_block; entries = log.entries; end = refl }) in
     record { super_block = reading.super_block; entries = reading.entries }
 
--- the image of the disk that a copy left
 pub image_left : (log : List ℕ) (sectors count : ℕ) (disk : SectorDisk) → 8 ≤ sectors
     → IsCopiedOn log count sectors (shown_of disk)
     → IsCopied log count sectors (image_of disk)
@@ -217,7 +205,6 @@ image_left log sectors count disk some done =
           (omega arith)) done.copied;
     }
 
--- the next entry doesn't fit the new log, after those that are placed
 lacks_room : (sectors from place count : ℕ) (es : List Entry) (v w : Store) → IsBegun sectors v
     → StoreInvariant w → w.device.lies ≡ 0 → place ≡ 0 → StoreFrame v w
     → IsPlaced from es place count v w → HasNoRoom from es (place + count) w
@@ -241,7 +228,7 @@ lacks_room sectors from place count es v w begun kept honest first goes placed n
           (resized from n none.next)) to none.full));
     }
 
--- what stopped a copy on disks that never fail
+-- The disks never fail and never lie, so only the causes in `HasStopCause` are left.
 cause_on : (sectors applied : ℕ) (es : List Entry) (fault : Option LogFault) (r last : Reader)
     (v w : Store) (cause : CopyError) → IsBegun sectors v
     → r.next ≡ 0 → r.failed ≡ false → applied ≤ length es → (HasFaulted r.device last.device → ⊥)
@@ -286,7 +273,6 @@ cause_on sectors applied es fault r last v w
 cause_on sectors applied es fault r last v w (copies.Store ends.Memory) begun first fresh within
     reader store kept honest goes placed is = tt
 
--- as many entries as were copied there are
 copied_within : (from place count : ℕ) (es : List Entry) (v w : Store) → place ≡ 0
     → IsPlaced from es place count v w → count ≤ length es
 copied_within from place count es v w first placed = elim (eq-zero-or-pos count) [
@@ -294,7 +280,6 @@ copied_within from place count es v w first placed = elim (eq-zero-or-pos count)
   | inr some ↦ let all = placed.some some in omega arith
 ]
 
--- a copy that stopped
 pub stopped_on : (log : List ℕ) (sectors : ℕ) (stop : CopyFault) (r last : Reader) (v w : Store)
     → IsImage log → Opens log r → IsBegun sectors v
     → HasWholeSectors r.device.size r.device.content → (HasFaulted r.device last.device → ⊥)
@@ -325,7 +310,6 @@ stopped_on log sectors stop r last v w image opened begun whole_sectors reader s
           (stopping es read.fault read.reads);
     }
 
--- a copy that fails is a refusal
 pub file_stop_refused : (log_file : Option (List ℕ)) (sectors : ℕ) (stop : RunError)
     → FailsCopy log_file sectors stop → exit_of stop ≡ Refused
 file_stop_refused log_file sectors stop (file fault is readable) = file_refused fault is
@@ -334,9 +318,6 @@ file_stop_refused log_file sectors stop (of_image log same read is (unopened fau
     ap exit_of refuses.2
 file_stop_refused log_file sectors stop (of_image log same read is (stopped fault stops)) = refl
 
--- The log that is read in a copy's image, and the content that it replays to.
-
--- the image of a copy is read as the entries of the log, resized
 copy_read : (log image : List ℕ) (count sectors : ℕ) (new : Super) (found : List Entry)
     (fault : Option LogFault) (is : IsCopied log count sectors image)
     → IsReading image new found fault
@@ -354,7 +335,6 @@ copy_read log image count sectors new found fault is reading =
     (sector_of image) new new es found None fault read.1 reading in
     (read.0, same.1, same.2)
 
--- so it has as many, and no fault
 pub copy_whole : (log image : List ℕ) (count sectors : ℕ) (new : Super) (found : List Entry)
     (fault : Option LogFault) → IsCopied log count sectors image
     → IsReading image new found fault
@@ -364,7 +344,6 @@ copy_whole log image count sectors new found fault is reading =
     let long = ap length (sym read.1) ∙ length-map is.entries (resized is.head.sectorsize 4096) in
     (sym read.2, long ∙ sym is.all, read.0)
 
--- and its first entries replay to what the log's do
 pub copy_alike : (log image : List ℕ) (count sectors n : ℕ) (head new : Super)
     (es found : List Entry) (f g : Option LogFault) (first : Content)
     → IsCopied log count sectors image → IsReading log head es f → IsReading image new found g

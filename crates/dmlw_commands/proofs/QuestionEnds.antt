@@ -1,5 +1,4 @@
--- The results of questions about an image, and that a replayed prefix of a script's log is judged
--- possible.
+-- Proves the results of questions about an image, and that replayed prefixes are judged possible.
 use Rattle.std.proofs.Common.{◌/◌, ◌<◌, ◌⊎◌, ℕ, suc, Bool, ◌*◌, true, false, Option, IsTrue, Some}
 use Rattle.std.proofs.Common.{None, List, arith, Result, Ok, Err, ◌≤◌, IfErr, IfOk, ap, inl, inr}
 use Rattle.std.proofs.Common.{length, refl, subst, sym, ◌≡◌, ◌∙◌}
@@ -47,9 +46,6 @@ use Rattle.dmlw_commands.specs.Judgements.{IsReplayedTo, Meaning, Question, blan
 use Rattle.dmlw_commands.specs.Judgements.{moment as no_moment, question, replayed_first}
 use Rattle.dmlw_commands.specs.Judgements.{run as no_run, text as unread, verdict_of}
 
--- The result of a question about an image.
-
--- an answer after these events is one of the script's run
 pub judged_by : {A : Type 0} (meaning : Meaning A) (text image : List ℕ) (asked sectors : ℕ)
     (plan : ScriptValue) (events : List CoreEvent) (r : Result A RunError) → IsImage image
     → IsTextOf text plan
@@ -83,7 +79,6 @@ judged_by meaning text image asked sectors plan events
           };
     }
 
--- and so is a fault
 pub faulted_by : {A : Type 0} (text image : List ℕ) (asked sectors : ℕ) (plan : ScriptValue)
     (events : List CoreEvent) (r : Result A RunError) → IsImage image → IsTextOf text plan
     → IsRehearsed plan events → sectors ≡ top_of plan.data_disk
@@ -100,7 +95,6 @@ faulted_by text image asked sectors plan events (Err fault) whole spelled rehear
     (record { script_holds = refl; image_holds = refl; whole = whole }) spelled rehearsed
     (subst (λ (n : ℕ). CannotJudge n events asked image) same cannot))
 
--- a run that fails
 pub failed_run : (text image : List ℕ) (asked : ℕ) (plan : ScriptValue) (fault again : RunError)
     → IsImage image → IsTextOf text plan → FailsRehearsal text plan fault
     → again ≡ fault → HasNoVerdict (question text image asked) again
@@ -109,7 +103,6 @@ failed_run text image asked plan fault again whole spelled fails same =
     (no_run text image plan fault
     (record { script_holds = refl; image_holds = refl; whole = whole }) spelled fails)
 
--- a text that is no script's
 pub failed_text : (text image : List ℕ) (asked : ℕ) (error : Fault) (fault : RunError)
     → IsImage image → IsFaultOf text error error.line
     → ((plan : ScriptValue) → IsTextOf text plan → error ≡ is_memory) → fault ≡ Refused error
@@ -130,7 +123,6 @@ failed_text text image asked error fault whole wrong only output =
         (λ plan spells. let memory = only plan spells in
         absurd (cc (ap (λ (e : Fault). e.line) memory, here))) first
 
--- what a script's file can't be read for is why there is no verdict
 pub failed_file : (asked : Question) (error : FileError) (fault : RunError)
     → (IsWithin 4194304 asked.script → error ≡ errors.Memory)
     → fault ≡ refused_by (file_refusal error) → HasNoVerdict asked fault
@@ -138,12 +130,10 @@ failed_file asked error fault readable is =
     file fault (subst IsFileError (sym is) (file_told error))
     (λ usable. is ∙ ap (λ (e : FileError). refused_by (file_refusal e)) (readable usable.0))
 
--- what was read of known bytes is them
 match_some : (contents : Option (List ℕ)) (bytes known : List ℕ) → MatchesContents contents bytes
     → known ≡ bytes → MatchesContents contents known
 match_some contents bytes known is same = subst (MatchesContents contents) (sym same) is
 
--- an answer on what was read of files is one on the files
 pub answer_of_files : {A : Type 0} (meaning : Meaning A) (asked : Question) (text image : List ℕ)
     (answer : A) → MatchesContents asked.script text
     → MatchesContents asked.image image
@@ -161,13 +151,11 @@ answer_of_files meaning asked text image answer script bytes has = record {
   judged = has.judged;
 }
 
--- what was read of a file that isn't too long isn't either
 within_read : (file : Option (List ℕ)) (text : List ℕ) → IsWithin 4194304 file
     → MatchesContents file text → length text ≤ 4194304
 within_read None text few is = absurd few
 within_read (Some known) text few is = subst (λ (t : List ℕ). length t ≤ 4194304) (sym is) few
 
--- and so is why there is none
 pub fault_of_files : (asked : Question) (text image : List ℕ) (fault : RunError)
     → MatchesContents asked.script text → MatchesContents asked.image image
     → HasNoVerdict (question text image asked.moment) fault → HasNoVerdict asked fault
@@ -197,7 +185,6 @@ fault_of_files asked text image fault script bytes
       whole = read.whole;
     }) spelled rehearsed cannot
 
--- what was answered and printed
 pub answered_files : {A : Type 0} (meaning : Meaning A) (asked : Question) (text image : List ℕ)
     (before after : Option (List ℕ)) (answered done : Result A RunError)
     → MatchesContents asked.script text → MatchesContents asked.image image
@@ -228,7 +215,6 @@ answered_files {A = A} meaning asked text image before after answered (Err fault
       kept,
     )
 
--- a question that ended before anything was printed
 pub answered_none : {A : Type 0} (meaning : Meaning A) (asked : Question) (known : Option (List ℕ))
     {Q : RunError → Type 0} (r : Result A RunError) → IsErrAnd r Q
     → ((fault : RunError) → Q fault → HasNoVerdict asked fault)
@@ -237,7 +223,6 @@ answered_none meaning asked known (Ok answer) fails why = absurd fails
 answered_none meaning asked known (Err fault) fails why =
     inl (why fault fails, keeps_same known)
 
--- what was answered is kept
 pub answers_kept : {A : Type 0} (meaning : Meaning A) (asked : Question)
     → IsKept (Answers meaning asked)
 answers_kept meaning asked old mid new (Ok answer) (has, printed) kept =
@@ -246,21 +231,17 @@ answers_kept meaning asked old mid new (Err fault) (inl (none, same)) kept =
     inl (none, keeps_twice old mid new same kept)
 answers_kept meaning asked old mid new (Err fault) (inr unprinted) kept = inr unprinted
 
--- `path` and `judge` agree: the verdict of a finding is the verdict on the image.
-
--- an image has one verdict
+-- The laws `verdicts_differ` and `possible_is_exact` prove the next two; the lemmas assume them.
 abbrev pub OneVerdict : Type 0
 OneVerdict = (sectors : ℕ) (events : List CoreEvent) (first now : Content) (verdict other : Verdict)
     → IsVerdict sectors events first now verdict → IsVerdict sectors events first now other
     → verdict ≡ other
 
--- what a run leaves is possible
 abbrev pub RunsArePossible : Type 0
 RunsArePossible =
     (events : List CoreEvent) (moment : ℕ) (first now : Content)
     → IsReachable (take moment events) first now → Possible (take moment events) first now
 
--- a finding is a verdict
 finding_holds : RunsArePossible
     → (sectors : ℕ) (events : List CoreEvent) (first now : Content) (finding : Finding)
     → IsFinding sectors events first now finding
@@ -273,7 +254,6 @@ finding_holds possible sectors events first now (Run run) found =
     (subst (λ (es : List CoreEvent). IsReachable es first now) (sym all) (run.items, found)))
 finding_holds possible sectors events first now (RuledOut sector by) found = found
 
--- and so it is the verdict
 pub same_verdict : OneVerdict → RunsArePossible
     → (sectors : ℕ) (events : List CoreEvent) (first now : Content) (verdict : Verdict)
     (finding : Finding)
@@ -283,7 +263,6 @@ same_verdict one possible sectors events first now verdict finding holds found =
     one sectors events first now verdict (verdict_of finding) holds
     (finding_holds possible sectors events first now finding found)
 
--- also by a script's events
 pub same_judged : OneVerdict → RunsArePossible
     → (plan : ScriptValue) (moment : ℕ) (image : List ℕ) (verdict : Verdict) (finding : Finding)
     → (judged : IsJudged plan moment image verdict) → (found : IsFound plan moment image finding)
@@ -294,9 +273,7 @@ same_judged one possible plan moment image verdict finding judged found same =
     (subst (λ (es : List CoreEvent). IsVerdict (top_of plan.data_disk) (take moment es)
     (blank (length image)) (sector_of image) verdict) same judged.holds) found.holds
 
--- The content after replaying a prefix of a script's log is judged possible.
-
--- a beginning of the log that belongs to a moment replays to what the device could hold there
+-- The law `prefixes_are_possible` proves `BeginningsArePossible`; the lemmas below assume it.
 abbrev pub BeginningsArePossible : Type 0
 BeginningsArePossible =
     (size : ℕ) (events : List CoreEvent) (first : Content) (moment count : ℕ)
@@ -306,7 +283,6 @@ BeginningsArePossible =
     → Possible (take moment events) first
     (replay size (entries_of (take count (completion_list (dm_log_writes size) events))) first)
 
--- its content is judged possible
 pub begun_yes : BeginningsArePossible
     → (size : ℕ) (events : List CoreEvent) (moment count bytes : ℕ) → is_sector_size size ≡ true
     → all_aligned size events ≡ true → is_well_formed events ≡ true
@@ -317,21 +293,18 @@ begun_yes possible size events moment count bytes right aligned well_formed begi
     possible size events (blank bytes) moment count right aligned well_formed begins.safe
     begins.belongs
 
--- the device could hold this value in the sector
 abbrev HoldsAt : List CoreEvent → Content → ℕ → List ℕ → Type 0
 HoldsAt events first sector value =
     ((value ≡ first sector) × (has_kept events sector ≡ false))
     ⊎ ((id : ℕ) × (values_at (slice_get events id) sector ≡ Some value)
     × (is_replaced events sector id ≡ false))
 
--- what it could hold there of one content, it could hold of each that has the same bytes there
 same_possible : (events : List CoreEvent) (first now other : Content) (sector : ℕ)
     → other sector ≡ now sector → PossibleAt events first now sector
     → PossibleAt events first other sector
 same_possible events first now other sector same possible =
     subst (HoldsAt events first sector) (sym same) possible
 
--- an image of that content isn't ruled out
 verdict_yes : BeginningsArePossible
     → (size : ℕ) (events : List CoreEvent) (sectors moment count : ℕ) (image : List ℕ)
     (verdict : Verdict)
@@ -351,14 +324,12 @@ verdict_yes possible size events sectors moment count image
     (replayed_first size events count (length image)) (sector_of image) sector
     (replayed.content sector there) could))
 
--- lawful events are well formed
 lawful_formed : (sectors : ℕ) (events : List CoreEvent) → is_lawful sectors events ≡ true
     → is_well_formed events ≡ true
 lawful_formed sectors events lawful =
     (and_parts (is_well_formed events)
     (all_below (λ place. is_within sectors (slice_get events place)) (length events)) lawful).0
 
--- nor is it by a script's events
 pub judged_yes : BeginningsArePossible
     → (plan : ScriptValue) (moment count : ℕ) (image : List ℕ) (verdict : Verdict)
     (judged : IsJudged plan moment image verdict)
@@ -369,7 +340,6 @@ judged_yes possible plan moment count image verdict judged replayed =
     (lawful_formed (top_of plan.data_disk) judged.events judged.lawful)
     judged.can_judge.1 replayed judged.holds
 
--- nor by those in a file
 pub asked_yes : BeginningsArePossible
     → (asked : Question) (count : ℕ) (verdict : Verdict) (has : HasVerdict asked verdict)
     → IsReplayedTo (bytes_of has.plan.log_size) has.judged.events asked.moment count has.image
@@ -377,18 +347,13 @@ pub asked_yes : BeginningsArePossible
 asked_yes possible asked count verdict has replayed =
     judged_yes possible has.plan asked.moment count has.image verdict has.judged replayed
 
--- The last moment of a list of events.
-
--- an element that was read stands there
 pub slice_get-of_get_or : {A : Type 0} (xs : List A) (k : ℕ) (x : A) → k < length xs → x ≡ get_or xs k x
     → slice_get xs k ≡ Some x
 slice_get-of_get_or {A} xs k x within is = slice_get-get_or xs k x within ∙ ap (λ (y : A). Some y) (sym is)
 
--- the event of this place is a Stop
 abbrev pub stops_at : List CoreEvent → ℕ → Bool
 stops_at events place = is_stop (slice_get events place)
 
--- where no Stop stands before a Stop, its place is the last moment
 pub stop_is_last : (events : List CoreEvent) (place : ℕ) (event : CoreEvent)
     → first_below (stops_at events) place ≡ None
     → slice_get events place ≡ Some event → is_stop (Some event) ≡ true → place ≡ last_moment events
@@ -400,7 +365,6 @@ stop_is_last events place event none there stop =
       before = first_below-none (stops_at events) place none;
     })))
 
--- one place more is no Stop
 pub none_next : (events : List CoreEvent) (place next : ℕ) (event : CoreEvent) → next ≡ suc place
     → first_below (stops_at events) place ≡ None
     → slice_get events place ≡ Some event → is_stop (Some event) ≡ false

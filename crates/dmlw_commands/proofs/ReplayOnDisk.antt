@@ -1,4 +1,4 @@
--- The result of replaying the log in an image, on disks in memory.
+-- Proves the result of replaying the log in an image, on disks in memory.
 use Rattle.std.proofs.Common.{◌≡◌, ◌∙◌, ◌⊎◌, ℕ, ◌+◌, ◌*◌, ◌/◌, ◌<◌, ◌≤◌, List, Option, Result, Ok}
 use Rattle.std.proofs.Common.{Err, IfErr, IfOk, ap, arith, inl, inr, length, refl, subst, sym}
 use Rattle.std.proofs.lemmas.Option.{slice_get_within}
@@ -40,11 +40,9 @@ use Rattle.dmlw_commands.specs.Ends.{exit_of}
 use Rattle.dmlw_commands.proofs.CommandEnds.{file_refused}
 use Rattle.dmlw_commands.proofs.ImageLog.{some_sector, unopened_on}
 
--- a device that counts no lies told none
 pub honest : (v w : View) → v.lies ≡ 0 → w.lies ≡ 0 → NoLie v w
 honest v w first second = record { same = second ∙ sym first; counted = omega arith }
 
--- why a log isn't opened is why it isn't replayed
 pub fails_to_open : (log first : List ℕ) (upto : Upto) (fault : RunError) (stop : RunError)
     → (fault ≡ memory_error) ⊎ RefusesImage log fault
     → stop ≡ fault → FailsOnImages log first upto stop
@@ -54,7 +52,6 @@ fails_to_open log first upto fault stop (inl is) same =
 fails_to_open log first upto fault stop (inr refuses) same =
     subst (FailsOnImages log first upto) (sym same) (unopened fault refuses)
 
--- what came of the images in files came of the files
 pub replayed_from : (log_file first_file : Option (List ℕ)) (log first : List ℕ) (upto : Upto)
     (r : Result Replayed RunError) → AreImages log_file first_file log first
     → IfOk r (λ done. IsReplayed log first upto done.count (image_of done.disk))
@@ -63,7 +60,6 @@ replayed_from log_file first_file log first upto (Ok done) are is =
     record { log = log; first = first; files = are; replayed = is }
 replayed_from log_file first_file log first upto (Err stop) are is = is
 
--- and what failed of them failed of the files
 pub failed_from : (log_file first_file : Option (List ℕ)) (log first : List ℕ) (upto : Upto)
     (r : Result Replayed RunError) → AreImages log_file first_file log first
     → IfErr r (FailsOnImages log first upto) → IfErr r (FailsReplay log_file first_file upto)
@@ -71,7 +67,6 @@ failed_from log_file first_file log first upto (Ok done) are fails = fails
 failed_from log_file first_file log first upto (Err stop) are fails =
     images log first stop are fails
 
--- the images in two files, of which the second was read after the first
 pub both_images : (log_file first_file now : Option (List ℕ)) (log first : List ℕ)
     → MatchesContents log_file log → IsImage log → MatchesContents now first
     → IsImage first → now ≡ first_file → AreImages log_file first_file log first
@@ -83,7 +78,6 @@ both_images log_file first_file now log first log_read log_image first_read firs
       first_image = first_image;
     }
 
--- what is read of a disk that is an image is a reading of the image
 reading_on : (log : List ℕ) (v : View) (head : Super) (es : List Entry) (fault : Option LogFault)
     → IsImage log → Begins (length log / 512) (sector_of log) v
     → Reads v.size v.content head es fault → IsReading log head es fault
@@ -93,7 +87,6 @@ reading_on log v head es fault image begins reads =
     (λ s below. sym (begins.content s below))
     (subst R begins.size reads)
 
--- a replay that was done
 pub replayed_on : (log first : List ℕ) (upto : Upto) (count : ℕ) (disk v w : View) → IsImage log
     → Begins (length log / 512) (sector_of log) disk
     → Begins (length first / 512) (sector_of first) v → w.size ≡ v.size → NoLie v w
@@ -115,7 +108,7 @@ replayed_on log first upto count disk v w image log_begins begins size no_lie do
       content = λ sector below. ap (λ (c : Content). c sector) applied.content ∙ alike sector below;
     }
 
--- what stopped a replay on disks that never fail
+-- The disks never fail, so only the causes in `HasStopCause` are left.
 cause_on : (es : List Entry) (fault : Option LogFault) (upto : Upto) (head : Super)
     (log last v w : View) (disk applied : ℕ) (cause : ReplayError)
     → v.size ≡ disk → (HasFaulted log last → ⊥) → (HasFaulted v w → ⊥)
@@ -145,7 +138,6 @@ cause_on es fault upto head log last v w disk applied (replays.Target devices.Io
 cause_on es fault upto head log last v w disk applied (replays.Target devices.Memory) size reader
     target is = tt
 
--- as many entries as were applied when a replay stopped, there are
 applied_within : (size : ℕ) (es : List Entry) (old new : Content) (applied : ℕ)
     (cause : ReplayError) → LeavesBy size es 0 old new applied cause
     → 0 < applied → applied ≤ length es
@@ -162,7 +154,6 @@ applied_within size es old new applied (replays.Log error) leaves more =
 applied_within size es old new applied (replays.Target error) leaves more =
     let there = slice_get_within es (0 + applied) leaves.next leaves.there in omega arith
 
--- a replay that stopped
 pub stopped_on : (log first : List ℕ) (upto : Upto) (stop : ReplayFault) (disk last v w : View)
     → IsImage log → Begins (length log / 512) (sector_of log) disk
     → Begins (length first / 512) (sector_of first) v → (HasFaulted disk last → ⊥)
@@ -184,7 +175,6 @@ stopped_on log first upto stop disk last v w image log_begins begins reader targ
           (length first / 512) stop.applied stop.cause begins.size reader target halted.cause;
     }
 
--- why a log isn't replayed on disks that never fail
 pub fails_on : (log first : List ℕ) (upto : Upto) (error : ReopenError) (stop : RunError)
     (disk last v w : View) → IsImage log
     → Begins (length log / 512) (sector_of log) disk
@@ -202,7 +192,6 @@ fails_on log first upto (reopens.Replay fault) stop disk last v w image log_begi
     (stopped fault (stopped_on log first upto fault disk last v w image log_begins begins reader
     target no_lie refused))
 
--- the image of the disk that a replay left
 pub image_left : (log first : List ℕ) (upto : Upto) (count : ℕ) (disk : SectorDisk) → IsImage first
     → IsReplayedOn log first upto count (shown_of disk)
     → IsReplayed log first upto count (image_of disk)
@@ -225,7 +214,6 @@ image_left log first upto count disk is done =
           (omega arith) ∙ done.content sector below;
     }
 
--- a replay that fails is a refusal
 pub files_refused : (log_file first_file : Option (List ℕ)) (upto : Upto) (stop : RunError)
     → FailsReplay log_file first_file upto stop → exit_of stop ≡ Refused
 files_refused log_file first_file upto stop (file fault is readable) = file_refused fault is

@@ -1,5 +1,5 @@
 -- Questions about an image, and their answers. `judge` answers whether a power failure could leave
--- the image on a script's data disk, and `path` answers how. The answers of `path` are in `Judgements`.
+-- the image on a script's data disk, and `path` answers how.
 use Rattle.std.specs.Prelude.{◌/◌, true, List, ◌++◌, Option, Some, Result, Ok, Err, codes, length}
 use Rattle.std.specs.Prelude.{replicate, take, ◌≡◌, ◌⊎◌, ◌<◌, ◌≤◌, ◌*◌, ℕ}
 use Rattle.std.specs.Io.KnownBytes.{Appends, Keeps}

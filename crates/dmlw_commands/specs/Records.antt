@@ -119,8 +119,7 @@ of_recorder = record {
   fails = FailsOnDisks;
 }
 
--- The result of `run`, which runs a script of several seats. `Records` states it for a kind of
--- script, as for `record`.
+-- The result of `run`, which runs a script of several seats.
 
 -- The line of seat `number`, with the counts of its calls' results.
 abbrev pub seat_line : ℕ → Tally → List ℕ

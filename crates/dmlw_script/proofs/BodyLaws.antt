@@ -1,8 +1,7 @@
--- Laws of the body of a recorder's script: ids of requests, and one more command after others.
--- `CanonicalTextLaws`, `RecorderFaults`, `RecorderLaws` and `RunLaws` cite it.
-use Rattle.std.proofs.Common.{◌≡◌, ℕ, ◌+◌, ◌<◌, true, false, cond, List, [], ◌∷◌, ◌++◌}
-use Rattle.std.proofs.Common.{length, get_or, Option, Some, None, Ok, Err, ⊎_elim, refl, ap, ◌∙◌}
-use Rattle.std.proofs.Common.{sym, subst, arith, append_assoc}
+-- Proves how the body of a recorder's script grows line by line, and how ids name its requests.
+use Rattle.std.proofs.Common.{◌≡◌, ℕ, ◌+◌, ◌<◌, true, false, cond, List, [], ◌∷◌, ◌++◌, length}
+use Rattle.std.proofs.Common.{get_or, Option, Some, None, Ok, Err, ⊎_elim, refl, ap, ◌∙◌, sym}
+use Rattle.std.proofs.Common.{subst, arith, append_assoc}
 use Rattle.std.specs.Prelude.{Result, nat_lt}
 use Rattle.std.specs.Cmp.{IsEquivalence}
 use Rattle.std.specs.List.{list_any, position_or_len, AllByRecursion, IsDistinct}
@@ -42,17 +41,12 @@ use Rattle.dmlw_script.specs.inside.Readers.{parsed_step, Progress}
 use Rattle.dmlw_script.proofs.DraftLemmas.{listed, with_new_name}
 use Rattle.dmlw_script.proofs.ReaderLaws.{all_append, barred_ok, bind_at, bind_ok, fold}
 
--- ---- names
-
--- the test of two names says whether they are one
 pub same_name_is : (a b : ScriptId) → same_name a b ≡ true → a ≡ b
 same_name_is a b e = grind (arith, bytes_eq-Decides)
 
--- a name is itself
 pub same_name_self : (a : ScriptId) → same_name a a ≡ true
 same_name_self a = (bytes_eq-Decides a.letters a.letters).1 refl
 
--- the test doesn't mind the order
 pub same_name_swap : (a b : ScriptId) → same_name a b ≡ same_name b a
 same_name_swap a b =
     ⊎_elim
@@ -67,7 +61,6 @@ same_name_swap a b =
     (cases_Bool (same_name b a)))
     (cases_Bool (same_name a b))
 
--- the test is an equivalence
 pub same_name_equiv : IsEquivalence same_name
 same_name_equiv = record {
   refl = same_name_self;
@@ -75,7 +68,6 @@ same_name_equiv = record {
   congr = λ x y z same. ap (λ a. same_name a z) (same_name_is x y same);
 }
 
--- a name at a place has that place, where no two names are one
 pub request_of_name : (names : List ScriptId) (request : ℕ) (d : ScriptId)
     → IsDistinct same_name names → request < length names
     → request_of (get_or names request d) names ≡ Some request
@@ -89,7 +81,6 @@ request_of_name names request d distinct inside =
     ≡ true = lt-ltb _ _ (omega arith) in
     cond-true _ _ _ test ∙ ap Some place
 
--- the place of a name that is among them has that name
 pub name_of_request : (name : ScriptId) (names : List ScriptId) (request : ℕ) (d : ScriptId)
     → request_of name names ≡ Some request
     → (request < length names) × (get_or names request d ≡ name)
@@ -103,7 +94,6 @@ name_of_request name names request d e =
     (passes_at_first (same_name name) names d inside) in
     (omega (arith, p.1), sym (same_name_is name (get_or names request d) here))
 
--- a name after others is none of them, where no two names are one
 pub new_name : (front rest : List ScriptId) (name : ScriptId)
     → IsDistinct same_name (front ++ name ∷ rest)
     → list_any (same_name name) front ≡ false
@@ -119,44 +109,37 @@ new_name front rest name distinct =
     (sym (get_or-append_seam front name rest d))
     ∙ apart)
 
--- ---- bodies
-
--- a body is that of a script
+-- The body may be in a script; `bytes` and `sectors` are as in `range_test`.
 pub record IsSound (bytes sectors : ℕ) (b : Body) : Type 0 where
   pub ids : AllByRecursion IsName b.names
   pub distinct : IsDistinct same_name b.names
   pub numbered : length b.names ≡ submissions b.body
   pub well_formed : IsWellFormed bytes sectors [] b.body
 
--- what a line of the body says may stand in a script, as far as that is known of the line alone
+-- The line's own values are allowed, whatever lines are before it.
 abbrev pub IsFine : BodyLine → Type 0
 IsFine (body_lines.Submit name submission) = IsName name × WritesByte submission
 IsFine (body_lines.Complete name) = Unit {0}
 IsFine (body_lines.Step step) = HasLineText step
 
--- the requests that one command submits
 abbrev pub submits : Command → ℕ
 submits command = cond (is_submission command) 1 0
 
--- one more command after others
 pub submissions-push : (body : List Command) (command : Command)
     → submissions (body ++ command ∷ []) ≡ submissions body + submits command
 submissions-push body command = grind (arith, sum_by-append)
 
--- one more command before others
 pub submissions-cons : (command : Command) (body : List Command)
     → submissions (command ∷ body) ≡ submits command + submissions body
 submissions-cons command body =
     sum_by-append submits (command ∷ []) body ∙ ap (λ n. n + submissions body) (omega arith)
 
--- a command adds the requests that it submits
 pub count_after_command-is : (before : ℕ) (command : Command)
     → count_after_command before command ≡ before + submits command
 count_after_command-is before (commands.Submit submission) = refl
 count_after_command-is before (commands.Complete request) = omega arith
 count_after_command-is before (commands.Step step) = omega arith
 
--- one more command that may come
 pub well_formed_push : (bytes sectors : ℕ) (before body : List Command) (command : Command)
     → IsWellFormed bytes sectors before body → CanFollow bytes sectors (before ++ body) command
     → IsWellFormed bytes sectors before (body ++ command ∷ [])
@@ -169,7 +152,7 @@ well_formed_push bytes sectors before (c ∷ body) command well_formed may =
       append_assoc,
     )
 
--- a body grows by one line that says this
+-- The body `c` is the body `b` after one more line with the meaning `s`.
 pub record Grows (b c : Body) (s : BodyLine) : Type 0 where
   pub names : List ScriptId
   pub command : Command
@@ -177,25 +160,15 @@ pub record Grows (b c : Body) (s : BodyLine) : Type 0 where
   pub grown_body : c.body ≡ b.body ++ command ∷ []
   pub says : line_at c.names (length b.names) command ≡ s
 
--- an id that is taken was new
 pub named_ok : (o : Option ℕ) (b c : Body) (name : ScriptId) → named_next o b name ≡ Ok c
     → (o ≡ None) × (record b { names = b.names ++ name ∷ [] } ≡ c)
 named_ok None b c name e = (refl, cc)
 named_ok (Some request) b c name e = absurd (cc)
 
--- an id with no request isn't among the names
 pub unlisted : (name : ScriptId) (names : List ScriptId) → request_of name names ≡ None
     → list_any (same_name name) names ≡ false
-unlisted name names e =
-    ⊎_elim
-    (λ (any : list_any (same_name name) names ≡ true).
-    absurd (let some : request_of name names
-    ≡ Some (position_or_len (same_name name) names) =
-    cond-true _ _ _ (listed (same_name name) names ∙ any) in cc))
-    (λ (none : list_any (same_name name) names ≡ false). none)
-    (cases_Bool (list_any (same_name name) names))
+unlisted name names e = grind (arith, true, cond-true, listed, false, cases_Bool)
 
--- a submission
 submit_grows : (bytes sectors : ℕ) (b : Body) (name : ScriptId) (submission : Submission)
     → request_of name b.names ≡ None → IsName name
     → CanFollow bytes sectors b.body (commands.Submit submission) → IsSound bytes sectors b
@@ -210,10 +183,8 @@ submit_grows bytes sectors b name submission new is may sound c same =
         ids = all_append IsName b.names (name ∷ []) sound.ids (is, tt);
         distinct = IsDistinct-push same_name_equiv b.names name sound.distinct (unlisted name
             b.names new);
-        numbered = more ∙ sym (submissions-push b.body (commands.Submit submission)
-            ∙ omega (arith, sound.numbered));
-        well_formed = well_formed_push bytes sectors [] b.body
-            (commands.Submit submission) sound.well_formed may;
+        numbered = grind (arith, submissions-push);
+        well_formed = grind (arith, well_formed_push);
       },
       record {
         names = name ∷ [];
@@ -221,12 +192,10 @@ submit_grows bytes sectors b name submission new is may sound c same =
             = commands.Submit submission;
         grown_names = refl;
         grown_body = refl;
-        says = rw
-            (get_or-append_seam b.names name [] (script_id []));
+        says = grind (arith, get_or-append_seam);
       },
     )
 
--- any other line
 other_grows : (bytes sectors : ℕ) (b : Body) (command : Command) (s : BodyLine)
     → CanFollow bytes sectors b.body command → submits command ≡ 0
     → line_at b.names (length b.names) command ≡ s → IsSound bytes sectors b → (c : Body)
@@ -236,8 +205,7 @@ other_grows bytes sectors b command s may none says sound c same =
       record {
         ids = sound.ids;
         distinct = sound.distinct;
-        numbered = sound.numbered
-            ∙ sym (submissions-push b.body command ∙ omega (arith, none));
+        numbered = grind (arith, submissions-push b.body command);
         well_formed =
             well_formed_push bytes sectors [] b.body command sound.well_formed may;
       },
@@ -252,26 +220,22 @@ other_grows bytes sectors b command s may none says sound c same =
       },
     )
 
--- sectors that are answered well passed the test
 pub told_ok : (r : Result (Unit {0}) BadBio) (x : Unit {0}) → as_refusal r ≡ Ok x → r ≡ Ok tt
 told_ok (Ok u) x e = refl
 told_ok (Err bad) x e = absurd (cc)
 
--- a line that names no request and is taken passes its tests
 step_ok : (bytes sectors moment : ℕ) (step : Step) (x : Unit {0})
     → step_test bytes sectors moment step ≡ Ok x
     → (step_answer bytes sectors step ≡ Ok tt) × IsInTime moment step
 step_ok bytes sectors moment (steps.At later) x e = grind (arith, ltb-false, barred_ok)
 step_ok bytes sectors moment step x e = (told_ok (step_answer bytes sectors step) x e, tt)
 
--- so is one that may come
 step_again : (bytes sectors moment : ℕ) (step : Step) → step_answer bytes sectors step ≡ Ok tt
     → IsInTime moment step → step_test bytes sectors moment step ≡ Ok tt
 step_again bytes sectors moment (steps.At later) fine in_time =
     cond-false _ _ _ (le-ltb _ _ in_time)
 step_again bytes sectors moment step fine in_time = ap as_refusal fine
 
--- an end
 end_grows : (bytes sectors : ℕ) (b c : Body) (name : ScriptId) (o : Option ℕ)
     → request_of name b.names ≡ o → ended_next o b ≡ Ok c → IsSound bytes sectors b
     → IsSound bytes sectors c × Grows b c (body_lines.Complete name)
@@ -285,7 +249,6 @@ end_grows bytes sectors b c name (Some request) is e sound =
     (omega (arith, p.0, sound.numbered), q.0) refl
     (rw p.1) sound c (let last = q.1 in cc)
 
--- one more line keeps a body sound, and adds a line that says this
 pub step_grows : (bytes sectors : ℕ) (b c : Body) (s : BodyLine)
     → body_step bytes sectors b s ≡ Ok c → IsFine s → IsSound bytes sectors b
     → IsSound bytes sectors c × Grows b c s
@@ -304,13 +267,9 @@ step_grows bytes sectors b c (body_lines.Step step) e fine sound =
     other_grows bytes sectors b (commands.Step step) (body_lines.Step step) (told.0, fine, told.1)
     refl refl sound c (let last = q.2 in cc)
 
--- ---- the lines of a body
-
--- the lines of what was read of a body
 abbrev pub lines_of_draft : Body → List LineMeaning
 lines_of_draft b = lines_of_body b.names 0 b.body
 
--- one more command has one more line
 lines_push : (names : List ScriptId) (n : ℕ) (body : List Command) (command : Command)
     → lines_of_body names n (body ++ command ∷ [])
     ≡ lines_of_body names n body
@@ -325,7 +284,7 @@ lines_push names n (c ∷ body) command =
     ∙ ap (λ (k : ℕ). lines_of_body names (count_after_command n c) body
     ++ parsed_lines.Body (line_at names k command) ∷ []) count)
 
--- a command's line doesn't depend on later names
+-- Ids that are added later don't change the line of a command.
 line_kept : (bytes sectors : ℕ) (names more : List ScriptId) (done : List Command)
     (command : Command) (rest : ℕ) → CanFollow bytes sectors done command
     → length names ≡ submissions done + (submits command + rest)
@@ -336,7 +295,6 @@ line_kept bytes sectors names more done (commands.Complete request) rest may num
     rw (get_or_append_left names more (script_id []) request (omega (arith, numbered, may.0)))
 line_kept bytes sectors names more done (commands.Step step) rest may numbered = refl
 
--- nor do those of a body
 lines_kept : (bytes sectors : ℕ) (names more : List ScriptId) (n : ℕ) (done body : List Command)
     → n ≡ submissions done → IsWellFormed bytes sectors done body
     → length names ≡ n + submissions body
@@ -350,14 +308,12 @@ lines_kept bytes sectors names more n done (c ∷ body) counted well_formed numb
     ∙ line_kept bytes sectors names more done c (submissions body) well_formed.0
     (omega (arith, numbered, counted, sum))
     ∙ ap (λ (k : ℕ). line_at names k c) (sym counted) in
-    ap (λ (x : BodyLine). parsed_lines.Body x ∷ lines_of_body (names ++ more)
-    (count_after_command n c) body) first
+    grind (arith, first)
     ∙ ap (λ (ls : List LineMeaning). parsed_lines.Body (line_at names n c) ∷ ls)
     (lines_kept bytes sectors names more (count_after_command n c) (done ++ c ∷ []) body
     (omega (arith, count, counted, submissions-push done c)) well_formed.1
     (omega (arith, numbered, sum, count)))
 
--- a line more of a body that grows
 pub lines_grow : (bytes sectors : ℕ) (b c : Body) (s : BodyLine) → IsSound bytes sectors b
     → Grows b c s → lines_of_draft c ≡ lines_of_draft b ++ parsed_lines.Body s ∷ []
 lines_grow bytes sectors b c s sound g =
@@ -366,34 +322,28 @@ lines_grow bytes sectors b c s sound g =
     b.names g.names 0 [] b.body refl sound.well_formed (sound.numbered ∙ omega arith) in
     let last : line_at c.names (0 + submissions b.body) g.command ≡ s =
     ap (λ (k : ℕ). line_at c.names k g.command) (omega (arith, sound.numbered)) ∙ g.says in
-    ap (λ (cs : List Command). lines_of_body c.names 0 cs) g.grown_body
+    grind (arith, g.grown_body)
     ∙ lines_push c.names 0 b.body g.command
     ∙ ap (λ (ls : List LineMeaning). ls
     ++ parsed_lines.Body (line_at c.names (0 + submissions b.body) g.command) ∷ []) kept
     ∙ ap (λ (x : BodyLine). lines_of_draft b ++ parsed_lines.Body x ∷ []) last
 
--- ---- runs
-
--- what was read after the lines that say this
+-- Reads lines with these meanings, from the state `p` on.
 abbrev pub run : Progress → List LineMeaning → Result Progress Refusal
 run p ss = fold parsed_step p ss
 
--- the head is whole, and this was read of the body
 abbrev pub in_draft : Disk → Disk → SectorSize → Body → Progress
 in_draft d l size b = record { head = heads.Whole d l size; body = b }
 
--- no names are left
 no_names : (rest : List ScriptId) → length rest ≡ 0 → rest ≡ []
 no_names [] e = refl
 no_names (name ∷ rest) e = absurd (omega arith)
 
--- a name is left
 first_of : (rest : List ScriptId) → 0 < length rest
     → (name : ScriptId) × (more : List ScriptId) × (rest ≡ name ∷ more)
 first_of [] some = absurd (omega arith)
 first_of (name ∷ rest) some = (name, rest, refl)
 
--- a submission, again
 with_name_again : (front more names : List ScriptId) (name : ScriptId) (before : List Command)
     → names ≡ front ++ name ∷ more → IsDistinct same_name names →
     with_name (record { names = front; body = before }) name
@@ -403,7 +353,6 @@ with_name_again front more names name before whole distinct =
     (new_name front more name
     (rw (← whole) distinct))
 
--- one line of a body, and the lines after it
 again_step : (d l : Disk) (size : SectorSize) (names front next : List ScriptId)
     (before body : List Command) (command : Command) →
     body_step (bytes_of size) (top_of d) (record { names = front; body = before })
@@ -419,7 +368,7 @@ again_step : (d l : Disk) (size : SectorSize) (names front next : List ScriptId)
 again_step d l size names front next before body command one counts others =
     grind (arith, bind_at, append_assoc)
 
--- what is known of the next submission of names = front ++ rest
+-- The next submission has the id `name`, if `front` are the ids of the submissions before it.
 record NextName (names front rest : List ScriptId) (before body : List Command)
     (command : Command) : Type 0 where
   name : ScriptId
@@ -431,7 +380,6 @@ record NextName (names front rest : List ScriptId) (before body : List Command)
   numbered : length (front ++ name ∷ []) ≡ submissions (before ++ command ∷ [])
   left : length more ≡ submissions body
 
--- the next submission's name is the first that is left
 next_name : (names front rest : List ScriptId) (before body : List Command)
     (command : Command) → submits command ≡ 1 → names ≡ front ++ rest →
     length front ≡ submissions before → length rest ≡ submissions (command ∷ body)
@@ -447,7 +395,6 @@ next_name names front rest before body command one whole numbered left =
       submissions-push,
     )
 
--- the front of names of which no two are one
 front_distinct : (front rest : List ScriptId) → IsDistinct same_name (front ++ rest)
     → IsDistinct same_name front
 front_distinct front rest distinct =
@@ -460,7 +407,6 @@ front_distinct front rest distinct =
     ∙ apart_from_distinct same_name (front ++ rest) i j d distinct below
     (omega (arith, length-append front rest)))
 
--- an end, again
 end_again : (names front rest : List ScriptId) (before : List Command) (request : ℕ)
     → names ≡ front ++ rest → IsDistinct same_name names →
     request < length front → is_ended request before ≡ false →
@@ -470,7 +416,7 @@ end_again : (names front rest : List ScriptId) (before : List Command) (request 
 end_again names front rest before request whole distinct inside going =
     let b : Body = record { names = front; body = before } in
     let here : name_at names request ≡ get_or front request (script_id []) =
-    ap (λ x. name_at x request) whole
+    grind (arith, whole)
     ∙ get_or_append_left front rest (script_id []) request inside in
     let place : request_of (name_at names request) front ≡ Some request =
     ap (λ x. request_of x front) here ∙ request_of_name front request (script_id [])
@@ -478,7 +424,7 @@ end_again names front rest before request whole distinct inside going =
     (rw (← whole) distinct)) inside in
     ap (λ o. ended_next o b) place ∙ cond-false _ _ _ going
 
--- the lines of a body give it again: those after its beginning lead from there to all of it
+-- After a prefix of a body was read, reading its other lines gives the whole body.
 pub run_again : (d l : Disk) (size : SectorSize) (names front rest : List ScriptId)
     (before body : List Command) → names ≡ front ++ rest → IsDistinct same_name names →
     length front ≡ submissions before → length rest ≡ submissions body

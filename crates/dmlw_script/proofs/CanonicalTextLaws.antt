@@ -1,9 +1,8 @@
--- The canonical text of a script is a text of the script, and lines with line feeds make a text.
--- Serves the laws `each_script_has_a_text` and `lines_make_a_text`.
-use Rattle.std.proofs.Common.{refl, ap, ◌∙◌, sym, subst, arith, append_assoc, not, ◌&&◌, cond, List}
-use Rattle.std.proofs.Common.{[], ◌∷◌, ◌++◌, length, Option, Some, None, Ok, ◌≡◌, ◌≢◌, ℕ, ◌+◌, ◌^◌}
-use Rattle.std.proofs.Common.{◌<◌, ◌≤◌, Bool, true, false}
-use Rattle.std.specs.Prelude.{◌==◌, flat_map, map, nat_lt, unwrap_or}
+-- Proves that a script's canonical text is a text of the script, for both kinds of scripts.
+use Rattle.std.proofs.Common.{refl, ◌∙◌, sym, subst, arith, append_assoc, not, ◌&&◌, cond, List, []}
+use Rattle.std.proofs.Common.{◌∷◌, ◌++◌, length, Option, Some, None, Ok, ◌≡◌, ◌≢◌, ℕ, ◌+◌, ◌^◌, ◌<◌}
+use Rattle.std.proofs.Common.{◌≤◌, Bool, true, false}
+use Rattle.std.specs.Prelude.{◌==◌, flat_map, map, nat_lt}
 use Rattle.std.proofs.lemmas.Bool.Decides.{nat_tests}
 use Rattle.std.proofs.lemmas.List.Elements.{All-from_recursion}
 use Rattle.std.specs.List.{join_with_byte, AllByRecursion}
@@ -24,8 +23,7 @@ use Rattle.dmlw_script.proofs.HeadLaws.{disk_small, layer_specs, top_small}
 use Rattle.dmlw_script.proofs.Spelling.{line_text_append, text_good, text_has, Fits, FitsLine}
 use Rattle.dmlw_script.proofs.Spelling.{FitsWord, IsLineText, line_number}
 use Rattle.dmlw_script.proofs.ReaderLaws.{one_script, all_append, all_map, tells_said, Tells}
-use Rattle.dmlw_script.proofs.WordLaws.{after_line, all_weaker, cut_alone, cut_word, first_line}
-use Rattle.dmlw_script.proofs.WordLaws.{lacks}
+use Rattle.dmlw_script.proofs.WordLaws.{all_weaker, cut_alone, cut_word, first_line, lacks}
 use Rattle.dmlw_script.proofs.LineParserLaws.{said_kept, step_fits, submission_fits}
 use Rattle.dmlw_script.proofs.RunLaws.{run_said_kept, runner}
 use Rattle.dmlw_script.specs.declared.command.Command.{Command}
@@ -56,35 +54,28 @@ use Rattle.dmlw_script.specs.RunPlans.{RunPlan, IsAllowed as SeatCanStand, FitsL
 use Rattle.dmlw_script.specs.RunPlans.{IsRunPlan, call_answer, data_layer, lines_of_run, log_layer}
 use Rattle.dmlw_script.specs.RunPlans.{run_head}
 
--- ---- lines
-
--- a line feed isn't one
 line_not_feed : (b : ℕ) → is_line_byte b ≡ true → not (b == 10) ≡ true
 line_not_feed b good = grind (arith, nat_tests)
 
--- such a byte is plain
 line_plain : (b : ℕ) → is_line_byte b ≡ true → (nat_lt 0 b && nat_lt b 128) ≡ true
 line_plain b good = grind (arith, nat_tests)
 
--- what can be written of what a line says: its text says it
+-- The canonical line of `s` has the fields of `s`, and each of its bytes may be in a line.
 pub record IsWrittenAs {A : Type 0} (fields : A → Fields) (s : A) : Type 0 where
   pub says : IsLineWith (text_of (fields s)) (fields s)
   pub good : IsLineText (text_of (fields s))
 
--- what fits can be written
 pub written_as : {A : Type 0} (fields : A → Fields) (s : A) → FitsLine (fields s)
     → IsWrittenAs fields s
 written_as fields s fits =
     record { says = text_has (fields s) fits; good = text_good (fields s) fits }
 
--- the same, of a recorder's line
 abbrev pub IsWritten : LineMeaning → Type 0
 IsWritten s = IsWrittenAs fields_of s
 
 written : (s : LineMeaning) → FitsLine (fields_of s) → IsWritten s
 written s fits = written_as fields_of s fits
 
--- the lines of the disks
 pub data_fits : (n : ℕ) → n < 2 ^ 64 → FitsLine (head_fields (head_lines.Data n))
 data_fits n low = record { first = (refl, refl); others = (low, tt) }
 
@@ -93,13 +84,11 @@ pub log_fits : (n : ℕ) (size : SectorSize) → n < 2 ^ 64
 log_fits n sizes.B512 low = record { first = (refl, refl); others = (low, tt) }
 log_fits n sizes.B4096 low = record { first = (refl, refl); others = (low, ((refl, refl), tt)) }
 
--- picks are numbers
 picks_fit : (picks : List ℕ) → AllByRecursion (λ pick. pick < 2 ^ 64) picks
     → Fits (map number picks)
 picks_fit [] low = tt
 picks_fit (pick ∷ picks) low = (low.0, picks_fit picks low.1)
 
--- lines that can be written, and the crash behind them
 ending_written : (ending : Option (List ℕ)) (ss : List LineMeaning) → ArePicks ending
     → AllByRecursion IsWritten ss → AllByRecursion IsWritten (with_ending ending ss)
 ending_written None ss picks lines = lines
@@ -110,21 +99,18 @@ ending_written (Some picks) ss low lines =
       tt,
     )
 
--- words that may stand in a line, with one space between each two
 line_spaced : (words : List (List ℕ)) → AllByRecursion IsLineText words → IsLineText (join_with_byte 32 words)
 line_spaced [] good = refl
 line_spaced (word ∷ []) good = good.0
 line_spaced (word ∷ next ∷ words) good =
     line_text_append word (32 ∷ join_with_byte 32 (next ∷ words)) good.0 (line_spaced (next ∷ words) good.1)
 
--- the words of a feature may stand in a line
 line_feature : (feature : Feature) → AllByRecursion IsLineText (feature_words feature)
 line_feature features.None = tt
 line_feature features.ErrorReads = (refl, (refl, tt))
 line_feature features.ErrorWrites = (refl, (refl, tt))
 line_feature features.DropWrites = (refl, (refl, tt))
 
--- so may those of the later sets of a delay
 line_sets : (one same : Bool) (offset write flush : ℕ) → offset < 2 ^ 64 → write < 2 ^ 64
     → flush < 2 ^ 64
     → AllByRecursion IsLineText
@@ -133,7 +119,6 @@ line_sets true same offset write flush low write_low flush_low = tt
 line_sets false true offset write flush low write_low flush_low = grind (arith, line_number)
 line_sets false false offset write flush low write_low flush_low = grind (arith, line_number)
 
--- so may those of a target
 line_target : (offset : ℕ) (target : Target) → offset < 2 ^ 64 → IsTargetInRange offset target
     → AllByRecursion IsLineText (target_words offset target)
 line_target offset targets.Linear low has = (refl, (refl, (line_number offset low, tt)))
@@ -144,7 +129,6 @@ line_target offset (targets.Fuse calls) low has = grind (arith, line_number)
 line_target offset (targets.Dust bytes) low has = grind (arith, line_number)
 line_target offset (targets.Delay read write flush) low has = grind (arith, line_sets, line_number)
 
--- a layer's line
 pub layer_fits : (over : DiskName) (spec : LayerSpec) → IsLayerSpec spec
     → FitsLine (head_fields (head_lines.Layer over (Ok spec)))
 layer_fits over spec is =
@@ -168,7 +152,6 @@ layer_fits over spec is =
     fits_word disks.Data = (refl, refl)
     fits_word disks.Log = (refl, refl)
 
--- a head's lines can be written
 head_written : (d l : Disk) (size : SectorSize) → IsDisk d → IsDisk l
     → AllByRecursion IsWritten (head_of d l size)
 head_written d l size is_data is_log = (
@@ -186,21 +169,16 @@ head_written d l size is_data is_log = (
   ),
 )
 
--- ---- scripts
-
--- a request's id is one
 id_at : (names : List ScriptId) (request : ℕ) → AllByRecursion IsName names → request < length names
     → IsName (name_at names request)
 id_at names request ids inside = All-from_recursion IsName names ids request (script_id []) inside
 
--- a submission's id is one
 submission_id : (names : List ScriptId) (n : ℕ) (body : List Command) (submission : Submission)
     → AllByRecursion IsName names
     → length names ≡ n + submissions (commands.Submit submission ∷ body) → IsName (name_at names n)
 submission_id names n body submission ids numbered =
     id_at names n ids (omega (arith, numbered, submissions-cons (commands.Submit submission) body))
 
--- the line of a command can be written
 command_written : (bytes sectors : ℕ) (names : List ScriptId) (done : List Command)
     (command : Command) (rest : List Command) → sectors ≤ 1048576 → AllByRecursion IsName names
     → length names ≡ submissions done + submissions (command ∷ rest)
@@ -216,7 +194,6 @@ command_written bytes sectors names done (commands.Complete request) rest small 
 command_written bytes sectors names done (commands.Step it) rest small ids numbered may =
     written (parsed_lines.Body (body_lines.Step it)) (step_fits bytes sectors it small may.0 may.1)
 
--- each line of a body can be written
 body_written : (bytes sectors : ℕ) (names : List ScriptId) (n : ℕ) (done body : List Command)
     → sectors ≤ 1048576 → AllByRecursion IsName names → n ≡ submissions done
     → length names ≡ n + submissions body →
@@ -232,7 +209,6 @@ body_written bytes sectors names n done (command ∷ body) small ids counted num
           (omega (arith, numbered, count, submissions-cons command body)) well_formed.1,
     )
 
--- each sentence of a script can be written
 pub plan_written : (plan : ScriptValue) → IsPlan plan
     → AllByRecursion IsWritten (lines_of_script plan)
 plan_written plan is =
@@ -248,17 +224,13 @@ plan_written plan is =
     (top_of d) plan.names 0 [] plan.commands small is.ids refl
     (is.numbered ∙ omega arith) is.well_formed))
 
--- a line, its line feed, and more lines
 fed_line : (line rest : List ℕ) → lacks 10 line ≡ true
     → lines_of (line ++ 10 ∷ rest) ≡ line ∷ lines_of rest
 fed_line [] rest lack = refl
 fed_line (b ∷ line) rest lack =
-    let c = cut_word 10 (b ∷ line) (Some rest) lack in
-    first_line b (line ++ 10 ∷ rest)
-    ∙ ap (λ (l : List ℕ). l ∷ lines_of (after_line (b ∷ (line ++ 10 ∷ rest)))) c.0
-    ∙ ap (λ (o : Option (List ℕ)). (b ∷ line) ∷ lines_of (unwrap_or o [])) c.1
+    grind (arith, cut_word 10 (b ∷ line) (Some rest) lack, first_line b (line ++ 10 ∷ rest))
 
--- the spelling of sentences that can be written is plain, and says them
+-- The parameter `kept` says that a line with a meaning is never skipped.
 pub written_text : {A : Type 0} (fields : A → Fields)
     (kept : (line : List ℕ) (s : A) → IsLineWith line (fields s) → is_skipped line ≡ false)
     (ss : List A) → AllByRecursion (IsWrittenAs fields) ss
@@ -277,52 +249,38 @@ written_text fields kept (s ∷ ss) lines =
       line_plain,
     )
 
--- the spelling of a script is a text of it
 pub spelling_spells : (plan : ScriptValue) → IsPlan plan → IsTextOf (canonical_text plan) plan
 spelling_spells plan is =
     let lines = written_text fields_of said_kept (lines_of_script plan) (plan_written plan is) in
     record { plain = lines.plain; says = lines.says; script = is }
 
--- ---- texts of lines
-
--- a line with no line feed after it
 fed_last : (line : List ℕ) → IsUnbroken line → line ≢ [] → lines_of line ≡ line ∷ []
 fed_last [] whole some = absurd (some refl)
 fed_last (b ∷ line) whole some = grind (arith, cut_alone, first_line)
 
--- lines with a line feed after each
 pub ended_lines : (lines : List (List ℕ)) → AllByRecursion IsUnbroken lines
     → lines_of (with_line_feeds lines) ≡ lines
 ended_lines [] whole = refl
 ended_lines (line ∷ lines) whole =
     grind (arith, ended_lines lines whole.1, append_assoc, fed_line)
 
--- the same, and a last line with none
 pub ended_but_last : (lines : List (List ℕ)) (last : List ℕ) → AllByRecursion IsUnbroken lines
     → IsUnbroken last → last ≢ [] → lines_of (with_line_feeds lines ++ last) ≡ lines ++ last ∷ []
 ended_but_last [] last whole unbroken some = fed_last last unbroken some
 ended_but_last (line ∷ lines) last whole unbroken some =
     grind (arith, ended_but_last lines last whole.1 unbroken some, append_assoc, fed_line)
 
--- The canonical text of a run's script is a text of the script. A text is the text of at most one
--- run's script.
-
--- ---- each script has a text
-
--- what can be written of what a run's line says
 abbrev IsRunWritten : RunLine → Type 0
 IsRunWritten said = IsWrittenAs run_fields said
 
 run_written_as : (said : RunLine) → FitsLine (run_fields said) → IsRunWritten said
 run_written_as said fits = written_as run_fields said fits
 
--- each call that may stand in a script can be written
 call_fits : (bytes sectors : ℕ) (call : Call) → sectors ≤ 1048576
     → call_answer bytes sectors call ≡ Ok tt → CallFits call → Fits (all_of (call_fields call))
 call_fits bytes sectors (calls.Submit submission) small passes fits = grind (arith, submission_fits)
 call_fits bytes sectors (calls.Mark text) small passes good = ((refl, refl), good)
 
--- the line of a call
 seat_call_written : (bytes sectors seats : ℕ) (said : SeatCall) → sectors ≤ 1048576 → seats ≤ 64
     → SeatCanStand bytes sectors seats said
     → IsRunWritten (run_lines.Body said)
@@ -333,7 +291,6 @@ seat_call_written bytes sectors seats said small few stands =
       others = call_fits bytes sectors said.call small stands.tested stands.spelled;
     })
 
--- each line of a head can be written
 run_head_written : (plan : RunPlan) → IsRunPlan plan → AllByRecursion IsRunWritten (run_head plan)
 run_head_written plan is =
     let few : plan.seats ≤ 64 = is.few_seats in
@@ -360,7 +317,6 @@ run_head_written plan is =
     (record { first = (refl, refl); others = (low, tt) }) in
     (first, (second, (third, layers)))
 
--- each line of a script can be written
 run_written : (plan : RunPlan) → IsRunPlan plan → AllByRecursion IsRunWritten (lines_of_run plan)
 run_written plan is =
     let is_data : IsDisk plan.data_disk = is.data_disk in
@@ -373,22 +329,17 @@ run_written plan is =
     run_lines.Body (λ said stands. seat_call_written (bytes_of plan.log_size)
     (top_of plan.data_disk) plan.seats said small is.few_seats stands) plan.calls is.calls)
 
--- the spelling of a script is a text of it
 pub run_text_is : (plan : RunPlan) → IsRunPlan plan → IsRunText (run_text plan) plan
 run_text_is plan is =
     let written =
     written_text run_fields run_said_kept (lines_of_run plan) (run_written plan is) in
     record { plain = written.plain; says = written.says; script = is }
 
--- ---- a text is one script's at most
-
--- a text is one script's at most
 pub one_run_script_of : (text : List ℕ) (plan other : RunPlan) → IsRunText text plan
     → IsRunText text other → plan ≡ other
 one_run_script_of text plan other is again =
     one_script runner (lines_of text) plan other is again
 
--- scripts of one spelling are one
 pub same_from_run_text : (plan other : RunPlan) → IsRunPlan plan → IsRunPlan other
     → run_text plan ≡ run_text other → plan ≡ other
 same_from_run_text plan other is_plan is_other same =

@@ -1,5 +1,4 @@
--- How one more command, request or end changes the body that `BodyReader` has read. Serves the
--- proofs of `BodyReader`'s `end`, `say` and `name_next`, and `BodyLaws` and `RecorderFaults`.
+-- Proves how one more command, request or end changes the body that was read.
 use Rattle.std.proofs.Common.{◌≡◌, ℕ, zero, suc, ◌+◌, ◌<◌, Bool, true, false, ◌||◌, cond, List, []}
 use Rattle.std.proofs.Common.{◌∷◌, ◌++◌, length, Some, None, Ok, Err, refl, ap, ◌∙◌, sym, ⊎_elim}
 use Rattle.std.proofs.Common.{arith, set, get_or, get_or-set_same, get_or-set_other}
@@ -18,12 +17,11 @@ use Rattle.dmlw_script.specs.Plans.{is_end_of, is_ended, time_at, time_from, req
 use Rattle.dmlw_script.specs.declared.script_id.ScriptId.{ScriptId}
 use Rattle.refusals.specs.declared.refusal.Refusal.TheVariants.{BadId}
 
--- one more command
 pub is_ended-push : (request : ℕ) (body : List Command) (command : Command)
     → is_ended request (body ++ command ∷ []) ≡ (is_ended request body || is_end_of request command)
 is_ended-push request body command = grind (arith, list_any-append, or-false)
 
--- an absent flag is like one that is false
+-- A new flag that is false changes nothing, because a missing flag counts as false.
 push_default : (flags : List Bool) (i : ℕ)
     → get_or (flags ++ false ∷ []) i false ≡ get_or flags i false
 push_default [] zero = refl
@@ -31,24 +29,19 @@ push_default [] (suc i) = refl
 push_default (flag ∷ flags) zero = refl
 push_default (flag ∷ flags) (suc i) = push_default flags i
 
--- one more request
 pub flags_submit : (n : ℕ) (flags : List Bool) (body : List Command) → IsFlags n flags body
     → IsFlags (n + 1) (flags ++ false ∷ []) body
 flags_submit n flags body old = grind (arith, length-append, push_default)
 
--- one more command that ends no request
 pub flags_say : (n : ℕ) (flags : List Bool) (body : List Command) (command : Command)
     → ((request : ℕ) → is_end_of request command ≡ false) → IsFlags n flags body
     → IsFlags n flags (body ++ command ∷ [])
 flags_say n flags body command quiet old = record {
   in_step = old.in_step;
   each =
-      λ request. old.each request
-      ∙ sym (is_ended-push request body command ∙ rw (quiet request) (or-false (is_ended request
-      body)));
+      λ request. grind (arith, is_ended-push request body command, or-false (is_ended request body));
 }
 
--- the end of a request
 pub flags_end : (n : ℕ) (flags : List Bool) (body : List Command) (request : ℕ) → request < n
     → IsFlags n flags body → IsFlags n (set flags request true)
     (body ++ commands.Complete request ∷ [])
@@ -70,20 +63,17 @@ flags_end n flags body request inside old = record {
       (cases_eq other request);
 }
 
--- one more element
 listed_step : (t any : Bool) (n length : ℕ) → nat_lt n length ≡ any
     → nat_lt (cond (not t) (1 + n) 0) (suc length) ≡ (t || any)
 listed_step true any n length same = grind (arith, nat_tests)
 listed_step false any n length
     same = grind (arith, nat_tests)
 
--- an element passes exactly if the first that does has a place
 pub listed : {X : Type 0} (p : X → Bool) (xs : List X)
     → nat_lt (position_or_len p xs) (length xs) ≡ list_any p xs
 listed p [] = refl
 listed p (x ∷ xs) = listed_step (p x) _ _ _ (listed p xs)
 
--- a new id
 pub with_new_name : (b : Body) (name : ScriptId) → list_any (same_name name) b.names ≡ false
     → with_name b name ≡ Ok (record b { names = b.names ++ name ∷ [] })
 with_new_name b name new =
@@ -91,7 +81,6 @@ with_new_name b name new =
     cond-false _ _ _ (listed (same_name name) b.names ∙ new) in
     rw none
 
--- an id that was submitted
 pub with_old_name : (b : Body) (name : ScriptId) → list_any (same_name name) b.names ≡ true
     → with_name b name ≡ Err BadId
 with_old_name b name old =
@@ -99,7 +88,6 @@ with_old_name b name old =
     cond-true _ _ _ (listed (same_name name) b.names ∙ old) in
     rw some
 
--- one more command
 pub moment_push : (moment : ℕ) (body : List Command) (command : Command)
     → time_from moment (body ++ command ∷ []) ≡ time_at (time_from moment body) command
 moment_push moment [] command = refl

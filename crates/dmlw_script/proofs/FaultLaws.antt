@@ -1,7 +1,8 @@
--- If a reader refuses a text, the text has exactly one first fault. The text of a script has none.
+-- Proves that a text is a script's text, or has exactly one first fault.
+-- If a reader refuses the text at a line, it reports this fault.
 use Rattle.std.proofs.Common.{◌≡◌, ℕ, ◌+◌, ◌<◌, ◌≤◌, Bool, true, false, List, [], ◌∷◌, ◌++◌, length}
-use Rattle.std.proofs.Common.{Option, Some, None, Ok, Err, ◌⊎◌, inl, inr, ⊎_elim, refl, ap, ◌∙◌}
-use Rattle.std.proofs.Common.{sym, subst, arith, append_assoc}
+use Rattle.std.proofs.Common.{Option, Some, None, Ok, Err, ◌⊎◌, inl, ⊎_elim, refl, ap, ◌∙◌, sym}
+use Rattle.std.proofs.Common.{subst, arith, append_assoc, inr}
 use Rattle.std.specs.Prelude.{Result, IfErr}
 use Rattle.std.specs.List.{AllZip}
 use Rattle.std.proofs.lemmas.Bool.{cases_lt}
@@ -11,15 +12,13 @@ use Rattle.refusals.specs.declared.refusal.Refusal.{Refusal}
 use Rattle.refusals.specs.declared.refusal.Refusal.TheVariants.{BadLine}
 use Rattle.dmlw_script.specs.Words.{is_ascii_line, is_skipped, unskipped}
 use Rattle.dmlw_script.specs.FirstFault.{is_memory}
-use Rattle.dmlw_script.specs.inside.Readers.{and_then, at_line, read_by, step_if, IsFault, Reads}
+use Rattle.dmlw_script.specs.inside.Readers.{read_by, step_if, IsFault, Reads, at_line}
 use Rattle.dmlw_script.proofs.ReaderLaws.{reads, spelled_lines, takes, Reached, Reader, reached}
 use Rattle.dmlw_script.proofs.ReaderLaws.{skipped_line, strange_line, reached_spells, kept_line}
 use Rattle.dmlw_script.proofs.ReaderLaws.{lines_spell, one_said, one_script, one_told, memory_is}
 use Rattle.dmlw_script.proofs.ReaderLaws.{reads_on, stopped, StopsAt}
 
--- ---- lines in two parts
-
--- lines in two parts, the first of which is longer than another
+-- `long_part` is `short_part` and at least one more line, with which `rest` begins.
 pub record Longer (short_part : List (List ℕ)) (rest long_part : List (List ℕ)) : Type 0 where
   pub line : List ℕ
   pub between : List (List ℕ)
@@ -27,7 +26,6 @@ pub record Longer (short_part : List (List ℕ)) (rest long_part : List (List �
   pub long_is : long_part ≡ short_part ++ line ∷ between
   pub rest_is : rest ≡ line ∷ tail
 
--- a longer first part has the shorter one and the line after it
 pub longer : (a x b y : List (List ℕ)) → a ++ x ≡ b ++ y → length a < length b → Longer a x b
 longer [] x (line ∷ b) y same less =
     record { line = line; between = b; tail = b ++ y; long_is = refl; rest_is = same }
@@ -45,7 +43,6 @@ longer (first ∷ a) x (line ∷ b) y same less =
     }
 longer a x b y same less = absurd (omega arith)
 
--- first parts of one length are one, and so is what is after them
 same_parts : (a x b y : List (List ℕ)) → a ++ x ≡ b ++ y → length a ≡ length b → (a ≡ b) × (x ≡ y)
 same_parts [] x [] y same lens = (refl, same)
 same_parts (first ∷ a) x (line ∷ b) y same lens =
@@ -56,16 +53,14 @@ same_parts (first ∷ a) x (line ∷ b) y same lens =
     (cc, more.1)
 same_parts a x b y same lens = absurd (omega arith)
 
--- ---- what is known of a reader's faults
-
--- lines that are missing to a script
+-- From the state `s`, reading the lines `more` ends with the script `plan`.
 pub record Completes {S W A : Type 0} (r : Reader S W A) (s : S) (number : ℕ) : Type 0 where
   pub more : List (List ℕ)
   pub plan : A
   pub read : read_by (takes r) r.finish s number more ≡ Ok plan
 
--- what may stand behind what was read, why a step is refused, and which lines begin a script, are
--- at fault, and have a first fault, by the definitions of the clauses
+-- The facts about a reader from which the laws of its first faults follow.
+-- A value of type `P` is how much of a script was read, as far as the next line depends on it.
 pub record Faults {S W A : Type 0} (r : Reader S W A) (P : Type 0) : Type 1 where
   pub after : List W → P
   pub Stands : P → W → Type 0
@@ -122,36 +117,28 @@ pub record Faults {S W A : Type 0} (r : Reader S W A) (P : Type 0) : Type 1 wher
       × (line ≡ length before + 1) × Begins before × FaultAfter before more refusal
 
 module _ {S W A P : Type 0} (r : Reader S W A) (f : Faults r P) where
-  -- ---- where reading ends, the first fault is
-
-  -- what is read behind lines that lead somewhere
   read_behind : (before more : List (List ℕ)) (s : S) → Reached r before s
       → reads r 1 (before ++ more) ≡ read_by (takes r) r.finish s (1 + length before) more
   read_behind before more s here = reads_on (takes r) r.finish r.start s 1 before more here.gone
 
-  -- lines that lead somewhere begin a script
+  -- Lines that a reader accepts are a prefix of a script, because `completes` adds what is missing.
   reached_begins : (before : List (List ℕ)) (s : S) → Reached r before s → f.Begins before
   reached_begins before s here =
       let c = f.completes s (1 + length before) here.begun in
       f.begins before c.more c.plan
       (lines_spell r 1 (before ++ c.more) c.plan (read_behind before c.more s here ∙ c.read))
 
-  -- no script begins with lines of which the last is refused
   refused_ends : (before : List (List ℕ)) (s : S) (line : List ℕ) (refusal : Refusal)
       → Reached r before s → takes r s line ≡ Err refusal → f.Begins (before ++ line ∷ []) → ⊥
   refused_ends before s line refusal here step begins =
-      let b = f.begun (before ++ line ∷ []) begins in
-      let whole : (before ++ line ∷ []) ++ b.0 ≡ before ++ line ∷ b.0 =
-      append_assoc before (line ∷ []) b.0 in
-      let read =
-      sym (spelled_lines r 1 (before ++ line ∷ b.0) b.1
-      (rw (← whole) b.2))
-      ∙ read_behind before (line ∷ b.0) s here
-      ∙ ap (λ x. and_then (at_line (1 + length before) x)
-      (λ t. read_by (takes r) r.finish t (1 + length before + 1) b.0)) step in
-      cc
+      grind (
+        arith,
+        append_assoc before (line ∷ []) (f.begun (before ++ line ∷ []) begins).0,
+        spelled_lines,
+        read_behind before (line ∷ (f.begun (before ++ line ∷ []) begins).0) s here,
+        length before,
+      )
 
-  -- lines after which the text can't end are no script
   unfinished : (before : List (List ℕ)) (s : S) (refusal : Refusal) → Reached r before s
       → r.finish s ≡ Err refusal → (plan : A) → r.Spells before plan → ⊥
   unfinished before s refusal here finish plan spells =
@@ -161,19 +148,11 @@ module _ {S W A P : Type 0} (r : Reader S W A) (f : Faults r P) where
       ∙ ap (at_line (1 + length before)) finish in
       cc
 
-  -- what may not stand behind lines doesn't
   never_after : (before : List (List ℕ)) (s : S) (line : List ℕ) (w : W) → Reached r before s
       → r.Says line w → (f.Stands (f.prefix_of s) w → ⊥) → (v : W) → f.LineAfter before line v → ⊥
   never_after before s line w here says never v at =
-      let p = f.line_parts before line v at in
-      let same : v ≡ w = one_said r line v w p.1 says in
-      let told : p.2 ≡ r.lines_so_far s =
-      one_told r (unskipped before) p.2 (r.lines_so_far s) p.3 here.tells.says in
-      let there : f.after p.2 ≡ f.prefix_of s = ap f.after told ∙ f.after_lines s here.begun in
-      never (subst (λ (x : W). f.Stands (f.prefix_of s) x) same
-      (rw (← there) p.4))
+      grind (arith, one_said, one_told)
 
-  -- why a line that says this is refused
   said_fault : (before : List (List ℕ)) (s : S) (line : List ℕ) (w : W) (refusal : Refusal)
       → Reached r before s → is_ascii_line line ≡ true → r.Says line w
       → r.step s w ≡ Err refusal → f.LineFault before line refusal
@@ -190,7 +169,6 @@ module _ {S W A P : Type 0} (r : Reader S W A) (f : Faults r P) where
       (reached_spells r before s h.1 here h.2) h.3)
       (f.step_refused s w refusal e)
 
-  -- why a line is refused after lines that lead somewhere
   refused_line : (before : List (List ℕ)) (s : S) (line : List ℕ) (refusal : Refusal)
       → Reached r before s → takes r s line ≡ Err refusal → f.LineFault before line refusal
   refused_line before s line refusal here e =
@@ -204,24 +182,18 @@ module _ {S W A P : Type 0} (r : Reader S W A) (f : Faults r P) where
       heard : (o : Option W) → is_ascii_line line ≡ true → r.parse line ≡ o
           → step_if r.step s o ≡ Err refusal → f.LineFault before line refusal
       heard None plain is step =
-          bad (cc) (λ w at.
-          let again = sym is ∙ r.says_parse line w (f.line_parts before line w at).1 in cc)
+          grind arith
       heard (Some w) plain is step =
           said_fault before s line w refusal here plain (r.parse_says line w is) step
 
       by_tests : (plain skipped : Bool) → is_ascii_line line ≡ plain → is_skipped line ≡ skipped
           → f.LineFault before line refusal
-      by_tests false skipped strange is =
-          bad
-          (let step = sym
-          (strange_line r s line strange) ∙ e in cc)
-          (λ w at. let both = sym strange ∙ (f.line_parts before line w at).0 in cc)
+      by_tests false skipped strange is = grind (arith, strange_line)
       by_tests true true plain skipped = grind (arith, skipped_line)
       by_tests true false plain kept =
           heard (r.parse line) plain refl
           (sym (kept_line r s line plain kept) ∙ e)
 
-  -- what is wrong where reading ended
   fault_behind : (before more : List (List ℕ)) (s : S) (refusal : Refusal) → Reached r before s
       → StopsAt (takes r) r.finish s more refusal → f.FaultAfter before more refusal
   fault_behind before [] s refusal here ends =
@@ -231,7 +203,6 @@ module _ {S W A P : Type 0} (r : Reader S W A) (f : Faults r P) where
       f.fault_line before line more refusal (refused_ends before s line refusal here ends)
       (refused_line before s line refusal here ends)
 
-  -- a fault is reported with the first line that is at fault
   pub first_fault : (lines : List (List ℕ)) (fault : Fault) (number : ℕ)
       → fault.line ≡ Some number → reads r 1 lines ≡ Err fault
       → f.FirstFault lines number fault.refusal
@@ -243,7 +214,6 @@ module _ {S W A P : Type 0} (r : Reader S W A) (f : Faults r P) where
       (reached_begins at.before at.reached here)
       (fault_behind at.before at.more at.reached fault.refusal here at.ends)
 
-  -- a fault names the first line that is at fault, or memory ran out
   pub fault_found : (IsAt : Fault → Option ℕ → Type 0) (lines : List (List ℕ))
       (answer : Result A Fault)
       → ((fault : Fault) (line : ℕ) → f.FirstFault lines line fault.refusal
@@ -258,7 +228,6 @@ module _ {S W A P : Type 0} (r : Reader S W A) (f : Faults r P) where
       by_line None is it = memory fault (memory_is fault None is refl it)
       by_line (Some number) is it = here fault number (first_fault lines fault number is it)
 
-  -- lines are those of a script, or have a first fault
   pub script_or_fault : (lines : List (List ℕ)) → ((plan : A) × r.Spells lines plan)
       ⊎ ((line : ℕ) × (refusal : Refusal) × f.FirstFault lines line refusal)
   script_or_fault lines = by_reading (reads r 1 lines) refl
@@ -275,15 +244,12 @@ module _ {S W A P : Type 0} (r : Reader S W A) (f : Faults r P) where
             first_fault lines fault (1 + length at.before) at.place e,
           )
 
-  -- ---- there is one first fault
-
-  -- what was said is refused after a script
+  -- The line's meaning may follow the script `before`, but the line is refused there.
   abbrev RefusedSaid : List (List ℕ) → List ℕ → Refusal → Type 0
   RefusedSaid before line refusal =
       (w : W) × (plan : A) × f.LineAfter before line w × r.Spells before plan
       × (f.line_refusal plan w ≡ Some refusal)
 
-  -- a line has one first reason why it can't stand there
   one_reason : (before : List (List ℕ)) (line : List ℕ) (x y : Refusal)
       → f.LineFault before line x → f.LineFault before line y → x ≡ y
   one_reason before line x y fault other =
@@ -305,11 +271,9 @@ module _ {S W A P : Type 0} (r : Reader S W A) (f : Faults r P) where
       (f.why before line y other))
       (f.why before line x fault)
 
-  -- lines that begin a script begin by lines that do
   begins_before : (before more : List (List ℕ)) → f.Begins (before ++ more) → f.Begins before
   begins_before before more begins = grind (arith, append_assoc)
 
-  -- after the same lines there is one reason
   one_behind : (before more : List (List ℕ)) (x y : Refusal) → f.FaultAfter before more x
       → f.FaultAfter before more y → x ≡ y
   one_behind before [] x y fault other =
@@ -318,7 +282,7 @@ module _ {S W A P : Type 0} (r : Reader S W A) (f : Faults r P) where
       one_reason before line x y (f.line_fault before line more x fault).1
       (f.line_fault before line more y other).1
 
-  -- after a fault no lines begin a script
+  -- A prefix of a script can't go beyond a fault.
   none_longer : (a x b : List (List ℕ)) (refusal : Refusal) → f.FaultAfter a x refusal
       → Longer a x b → f.Begins b → ⊥
   none_longer a x b refusal fault more begins =
@@ -330,7 +294,6 @@ module _ {S W A P : Type 0} (r : Reader S W A) (f : Faults r P) where
       (begins_before (a ++ more.line ∷ []) more.between
       (rw (← regrouped) begins))
 
-  -- no first fault is after another
   not_behind : (a x b y : List (List ℕ)) (refusal : Refusal) → a ++ x ≡ b ++ y
       → f.FaultAfter a x refusal → f.Begins b → length b ≤ length a
   not_behind a x b y refusal split fault begins =
@@ -340,7 +303,6 @@ module _ {S W A P : Type 0} (r : Reader S W A) (f : Faults r P) where
       (λ (more : length b ≤ length a). more)
       (cases_lt (length a) (length b))
 
-  -- a text has one first fault
   pub one_first_fault : (lines : List (List ℕ)) (m n : ℕ) (x y : Refusal)
       → f.FirstFault lines m x → f.FirstFault lines n y → (m ≡ n) × (x ≡ y)
   one_first_fault lines m n x y fault other =
@@ -356,20 +318,13 @@ module _ {S W A P : Type 0} (r : Reader S W A) (f : Faults r P) where
       (rw parts.1 b.5) in
       (a.3 ∙ rw long (sym b.3), one_behind a.0 a.1 x y a.5 there)
 
-  -- lines of a script have none after lines that begin one
   whole_behind : (before more : List (List ℕ)) (plan : A) (refusal : Refusal)
       → r.Spells (before ++ more) plan → f.FaultAfter before more refusal → ⊥
   whole_behind before [] plan refusal spells fault =
-      (f.end_fault before refusal fault).1 plan
-      (rw (← append-nil before) spells)
+      grind (arith, append-nil)
   whole_behind before (line ∷ more) plan refusal spells fault =
-      (f.line_fault before line more refusal fault).0 (f.begins (before ++ line ∷ []) more plan
-      (rw (append_assoc before (line ∷ []) more) spells))
+      grind (arith, append_assoc before (line ∷ []) more)
 
-  -- a script has no fault
   pub no_fault : (lines : List (List ℕ)) (plan : A) (m : ℕ) (refusal : Refusal)
       → r.Spells lines plan → f.FirstFault lines m refusal → ⊥
-  no_fault lines plan m refusal spells fault =
-      let p = f.first_parts lines m refusal fault in
-      whole_behind p.0 p.1 plan refusal
-      (rw (← p.2) spells) p.5
+  no_fault lines plan m refusal spells fault = grind (arith, whole_behind)

@@ -1,9 +1,7 @@
--- Laws of the head of a script, of both kinds. They say which lines of a head are read, why a line
--- is refused, and that reading the lines of layers gives these layers.
--- Laws of disks and their layers: the number of sectors at the top, and one more layer.
-use Rattle.std.proofs.Common.{⊎_elim, refl, ap, ◌∙◌, sym, subst, arith, length, append_assoc}
-use Rattle.std.proofs.Common.{Option, Some, None, Ok, Err, ◌⊎◌, inl, inr, ◌≡◌, ℕ, ◌+◌, ◌-◌, ◌<◌}
-use Rattle.std.proofs.Common.{◌≤◌, Bool, true, false, cond, List, [], ◌∷◌, ◌++◌}
+-- Proves which lines of a head are read, and why the others are refused, for both kinds of scripts.
+use Rattle.std.proofs.Common.{⊎_elim, refl, ap, ◌∙◌, sym, arith, length, append_assoc, Option, Some}
+use Rattle.std.proofs.Common.{None, Ok, Err, ◌⊎◌, inl, inr, ◌≡◌, ℕ, ◌+◌, ◌-◌, ◌<◌, ◌≤◌, Bool, true}
+use Rattle.std.proofs.Common.{false, cond, List, [], ◌∷◌, ◌++◌}
 use Rattle.std.specs.Prelude.{slice_get, ◌/◌, map, nat_le, nat_lt, Result, IfOk}
 use Rattle.std.proofs.lemmas.Bool.{and_from, and_parts, cond-true, le-leb, leb-true, lt-ltb}
 use Rattle.std.proofs.lemmas.Bool.{ltb-false, ltb-true}
@@ -32,7 +30,6 @@ use Rattle.dmlw_script.specs.inside.Stages as heads
 use Rattle.dmlw_script.specs.Plans.{top_of, Disk, IsDisk, is_disk_size, is_log_disk_size, is_within}
 use Rattle.dmlw_script.specs.Plans.{least_sectors}
 
--- the last layer is on top
 pub top_is_last : (sectors : ℕ) (layers : List LayerSpec) (layer : LayerSpec)
     → slice_get layers (length layers - 1) ≡ Some layer → top_sectors sectors layers ≡ layer.length
 top_is_last sectors [] layer e = absurd (cc)
@@ -40,13 +37,11 @@ top_is_last sectors (first ∷ []) layer e = grind arith
 top_is_last sectors (first ∷ second ∷ layers) layer e =
     grind (arith, top_is_last first.length (second ∷ layers) layer)
 
--- one more layer is on top
 pub top_push : (sectors : ℕ) (layers : List LayerSpec) (layer : LayerSpec)
     → top_sectors sectors (layers ++ layer ∷ []) ≡ layer.length
 top_push sectors [] layer = refl
 top_push sectors (first ∷ layers) layer = top_push first.length layers layer
 
--- one more layer may stand
 stand_push : (sectors : ℕ) (layers : List LayerSpec) (layer : LayerSpec) → IsAllowed sectors layers
     → IsLayerSpec layer → layer.offset + layer.length ≤ top_sectors sectors layers
     → IsAllowed sectors (layers ++ layer ∷ [])
@@ -54,34 +49,28 @@ stand_push sectors [] layer stand is within = (is, within, tt)
 stand_push sectors (first ∷ layers) layer stand is within =
     (stand.0, stand.1, stand_push first.length layers layer stand.2 is within)
 
--- a disk with no layers is one of the grammar
 pub bare_disk : (sectors : ℕ) → is_disk_size sectors ≡ true → IsDisk (bare sectors)
 bare_disk sectors size = record { size = size; few = omega arith; stand = tt }
 
--- so is a disk with one more layer
 pub disk_push : (disk : Disk) (layer : LayerSpec) → IsDisk disk → length disk.layers < 4
     → IsLayerSpec layer → is_within layer (top_of disk) ≡ true → IsDisk (with_layer disk layer)
 disk_push disk layer is few fine within = grind (arith, length-append, stand_push, leb-true)
 
--- a disk has few sectors
 pub disk_small : (disk : Disk) → IsDisk disk → disk.sectors ≤ 1048576
 disk_small disk is = grind (arith, leb-true, and_parts)
 
--- layers that may stand are layers
 pub layer_specs : (sectors : ℕ) (layers : List LayerSpec) → IsAllowed sectors layers
     → AllByRecursion IsLayerSpec layers
 layer_specs sectors [] stand = tt
 layer_specs sectors (layer ∷ layers) stand =
     (stand.0, layer_specs layer.length layers stand.2)
 
--- layers that stand over a device of at most 1,048,576 sectors have at most so many
 pub top_small : (sectors : ℕ) (layers : List LayerSpec) → IsAllowed sectors layers
     → sectors ≤ 1048576 → top_sectors sectors layers ≤ 1048576
 top_small sectors [] stand small = small
 top_small sectors (layer ∷ layers) stand small =
     top_small layer.length layers stand.2 (let lengths = stand.0.sectors in lengths.few)
 
--- what stands on top has no more sectors than the disk
 pub top_within : (sectors : ℕ) (layers : List LayerSpec) → IsAllowed sectors layers
     → top_sectors sectors layers ≤ sectors
 top_within sectors [] stand = omega arith
@@ -91,78 +80,63 @@ top_within sectors (layer ∷ layers) stand =
     let within : layer.offset + layer.length ≤ sectors = stand.1 in
     omega arith
 
--- each of the layers has at least so many sectors
 abbrev pub AreLong : ℕ → List LayerSpec → Type 0
 AreLong least layers = AllByRecursion (λ (layer : LayerSpec). least ≤ layer.length) layers
 
--- layers have as many as their top has
+-- Each layer is at least as long as the top one, so it is enough to test the top.
 pub long_below : (least sectors : ℕ) (layers : List LayerSpec) → IsAllowed sectors layers
     → least ≤ top_sectors sectors layers → AreLong least layers
 long_below least sectors [] stand long = tt
 long_below least sectors (layer ∷ layers) stand long =
     grind (arith, long_below least layer.length layers stand.2 long, top_within)
 
--- layers that stand have a sector each
 pub long_enough : (sectors : ℕ) (layers : List LayerSpec) → IsAllowed sectors layers
     → AreLong 1 layers
 long_enough sectors [] stand = tt
 long_enough sectors (layer ∷ layers) stand = grind (arith, long_enough layer.length layers stand.2)
 
--- ---- tests
-
--- a test that is passed leaves what it guards
 pub tested_ok : {A : Type 0} (t : Bool) (r : Result A Refusal) (y : A) (refusal : Refusal)
     → cond t r (Err refusal) ≡ Ok y → (t ≡ true) × (r ≡ Ok y)
 tested_ok true r y refusal e = (refl, e)
 tested_ok false r y refusal e = absurd (cc)
 
--- the same where that is a value
 cond_ok : {A : Type 0} (t : Bool) (x y : A) (refusal : Refusal) → cond t (Ok x) (Err refusal) ≡ Ok y
     → (t ≡ true) × (x ≡ y)
 cond_ok true x y refusal e = (refl, cc)
 cond_ok false x y refusal e = absurd (cc)
 
--- a test that fails leaves its refusal
 pub tested_err : {A : Type 0} (t : Bool) (r : Result A Refusal) (bad refusal : Refusal)
     → cond t r (Err bad) ≡ Err refusal
     → ((t ≡ false) × (bad ≡ refusal)) ⊎ ((t ≡ true) × (r ≡ Err refusal))
 tested_err true r bad refusal e = inr (refl, e)
 tested_err false r bad refusal e = inl (refl, cc)
 
--- the same before a value
 pub cond_err : {A : Type 0} (t : Bool) (x : A) (bad refusal : Refusal)
     → cond t (Ok x) (Err bad) ≡ Err refusal → (t ≡ false) × (bad ≡ refusal)
 cond_err true x bad refusal e = absurd (cc)
 cond_err false x bad refusal e = (refl, cc)
 
--- ---- disks
-
--- a disk of so many sectors under these layers
 abbrev pub under : ℕ → List LayerSpec → Disk
 under sectors layers = record { sectors = sectors; layers = layers }
 
--- a disk with no layers is bare
 pub bare_is : (d : Disk) → d.layers ≡ [] → bare d.sectors ≡ d
 bare_is d none = ap (under d.sectors) (sym none)
 
--- a sector of the log fits on the top of its disk
 abbrev pub HasRoom : SectorSize → Disk → Type 0
 HasRoom size disk = bytes_of size / 512 ≤ top_of disk
 
--- the disks that were read are those of a script
 abbrev pub IsHead : Stage → Type 0
 IsHead heads.Empty = Unit {0}
 IsHead (heads.Data d) = IsDisk d × (d.layers ≡ [])
 IsHead (heads.Whole d l size) = IsDisk d × IsDisk l × HasRoom size l
 IsHead (heads.Ended d l size picks) = IsDisk d × IsDisk l × HasRoom size l
 
--- what is known of a line of the head from its words alone
+-- What a head line's own words guarantee about its meaning.
 abbrev pub IsFineHead : HeadLine → Type 0
 IsFineHead (head_lines.Data sectors) = Unit {0}
 IsFineHead (head_lines.Log sectors size) = Unit {0}
 IsFineHead (head_lines.Layer over asked) = IfOk asked IsLayerSpec
 
--- what such a line says is fine
 pub fine_head : (said : HeadLine) (verb : List ℕ) (left : Option (List ℕ))
     → Says verb left (head_fields said) → IsFineHead said
 fine_head (head_lines.Layer over (Ok spec)) verb (Some words) says =
@@ -170,15 +144,12 @@ fine_head (head_lines.Layer over (Ok spec)) verb (Some words) says =
 fine_head (head_lines.Layer over (Ok spec)) verb None says = absurd says.1
 fine_head said verb left says = tt
 
--- ---- lines that are taken
-
--- a layer of at least so many sectors may stand over a disk
 pub record Fits (least : ℕ) (disk : Disk) (spec : LayerSpec) : Type 0 where
   pub few : length disk.layers < 4
   pub within : is_within spec (top_of disk) ≡ true
   pub long : least ≤ spec.length
 
--- what a line of the head makes of what was read, where layers may no more come or still may
+-- The stage after one more head line; if `closed` is true, no layer may follow any more.
 pub data Takes (closed : Bool) : Stage → HeadLine → Stage → Type 0 where
   data_size : (n : ℕ) → is_disk_size n ≡ true
       → Takes closed heads.Empty (head_lines.Data n) (heads.Data (bare n))
@@ -193,7 +164,6 @@ pub data Takes (closed : Bool) : Stage → HeadLine → Stage → Type 0 where
       → Takes closed (heads.Whole d l size) (head_lines.Layer disks.Log (Ok spec))
       (heads.Whole d (with_layer l spec) size)
 
--- a layer that is taken fits
 layered : (least : ℕ) (disk top : Disk) (asked : Result LayerSpec TableError)
     → layer_step least disk asked ≡ Ok top
     → (spec : LayerSpec) × (Ok spec ≡ asked) × Fits least disk spec × (with_layer disk spec ≡ top)
@@ -201,57 +171,27 @@ layered least disk top (Err error) e = grind (arith, tested_ok)
 layered least disk top (Ok spec) e =
     grind (arith, tested_ok, cond_ok, ltb-true, leb-true)
 
--- a layer of the data disk that is taken
 data_taken : (d l : Disk) (size : SectorSize) (k : Stage) (asked : Result LayerSpec TableError)
     (layers : List LayerSpec) → l.layers ≡ layers → data_layer layers d l size asked ≡ Ok k
     → Takes false (heads.Whole d l size) (head_lines.Layer disks.Data asked) k
 data_taken d l size k asked (layer ∷ layers) are e = absurd (cc)
-data_taken d l size k asked [] none e =
-    let r = made_ok (layer_step (least_sectors disks.Data size) d asked)
-    (λ (x : Disk). heads.Whole x l size) k e in
-    let y = layered (least_sectors disks.Data size) d r.0 asked r.1 in
-    let top : heads.Whole (with_layer d y.0) l size ≡ k =
-    rw y.3 r.2 in
-    subst (λ (x : Stage). Takes false (heads.Whole d l size) (head_lines.Layer disks.Data asked) x)
-    top
-    (subst (λ (a : Result LayerSpec TableError). Takes false (heads.Whole d l size)
-    (head_lines.Layer disks.Data a) (heads.Whole (with_layer d y.0) l size)) y.1
-    (data_top d l size y.0 refl none y.2))
+data_taken d l size k asked [] none e = grind (arith, made_ok, false, data_top)
 
--- one of the log disk that is taken
 log_taken : (d l : Disk) (size : SectorSize) (k : Stage) (asked : Result LayerSpec TableError)
     → with_log d (layer_step (least_sectors disks.Log size) l asked) size ≡ Ok k
     → Takes false (heads.Whole d l size) (head_lines.Layer disks.Log asked) k
-log_taken d l size k asked e =
-    let r = made_ok (layer_step (least_sectors disks.Log size) l asked)
-    (λ (x : Disk). heads.Whole d x size) k e in
-    let y = layered (least_sectors disks.Log size) l r.0 asked r.1 in
-    let top : heads.Whole d (with_layer l y.0) size ≡ k =
-    rw y.3 r.2 in
-    subst (λ (x : Stage). Takes false (heads.Whole d l size) (head_lines.Layer disks.Log asked) x)
-    top
-    (subst (λ (a : Result LayerSpec TableError). Takes false (heads.Whole d l size)
-    (head_lines.Layer disks.Log a) (heads.Whole d (with_layer l y.0) size)) y.1
-    (log_top d l size y.0 refl y.2))
+log_taken d l size k asked e = grind (arith, made_ok, false, log_top)
 
--- a line of the head that is taken
 pub head_taken : (h k : Stage) (line : HeadLine) (closed : Bool) → head_step h closed line ≡ Ok k
     → Takes closed h line k
-head_taken heads.Empty k (head_lines.Data n) closed e =
-    let p = cond_ok (is_disk_size n) (heads.Data (bare n)) k BadLine e in
-    rw (← p.1) (data_size n p.0)
-head_taken (heads.Data d) k (head_lines.Log n size) closed e =
-    let p = cond_ok (is_log_disk_size (bytes_of size) n) (heads.Whole d (bare n) size)
-    k BadLine e in
-    subst (λ (x : Stage). Takes closed (heads.Data d) (head_lines.Log n size) x) p.1
-    (log_size d n size p.0)
+head_taken heads.Empty k (head_lines.Data n) closed e = grind (arith, cond_ok, data_size)
+head_taken (heads.Data d) k (head_lines.Log n size) closed e = grind (arith, cond_ok, log_size)
 head_taken (heads.Whole d l size) k (head_lines.Layer disks.Data asked) false e =
     grind (arith, data_taken)
 head_taken (heads.Whole d l size) k (head_lines.Layer disks.Log asked) false e =
     log_taken d l size k asked e
 head_taken h k line closed e = absurd (cc e)
 
--- it leaves a script's disks
 pub head_kept : (closed : Bool) (h k : Stage) (line : HeadLine) → Takes closed h line k
     → IsFineHead line → IsHead h → IsHead k
 head_kept closed h k line (data_size n fits) fine is = (bare_disk n fits, refl)
@@ -265,35 +205,28 @@ head_kept closed h k line (log_top d l size spec may fits) fine is = (
   rw (top_push l.sectors l.layers spec) fits.long,
 )
 
--- ---- the lines of layers
-
--- one more line at the end
 pub map_push : {A W : Type 0} (line : A → W) (first : List W) (xs : List A) (x : A)
     → first ++ map line (xs ++ x ∷ []) ≡ (first ++ map line xs) ++ line x ∷ []
 map_push {W = W} line first xs x = grind (arith, map-append, append_assoc)
 
--- one more line, where none of a body stands behind it
 pub bodiless : {W : Type 0} (ls more : List W) (w : W) → more ≡ ls ++ w ∷ []
     → more ++ [] ≡ (ls ++ []) ++ w ∷ []
 bodiless {W = W} ls more w e = grind (arith, append-nil)
 
--- the lines of a head behind those of its disks
+-- `on_data` and `on_log` give the meaning of a layer's line, in one kind of script.
 module _ {W : Type 0} (on_data on_log : LayerSpec → W) where
-  -- the lines of the layers of both disks
   abbrev pub layer_lines : Disk → Disk → List W
   layer_lines d l = map on_data d.layers ++ map on_log l.layers
 
-  -- one more layer of the data disk, where there are none of the log disk
   pub data_push : (d l : Disk) (spec : LayerSpec) → l.layers ≡ []
       → layer_lines (with_layer d spec) l ≡ layer_lines d l ++ on_data spec ∷ []
   data_push d l spec none = grind (arith, append-nil, map-append)
 
-  -- one more of the log disk
   pub log_push : (d l : Disk) (spec : LayerSpec)
       → layer_lines d (with_layer l spec) ≡ layer_lines d l ++ on_log spec ∷ []
   log_push d l spec = map_push on_log (map on_data d.layers) l.layers spec
 
-  -- the layers of a disk are read again
+  -- `at done` is the state of the reader after the lines of the layers `done`.
   some_again : {S : Type 0} (step : S → W → Result S Refusal) (line : LayerSpec → W)
       (least sectors : ℕ) (at : List LayerSpec → S)
       → ((done : List LayerSpec) (layer : LayerSpec)
@@ -317,7 +250,6 @@ module _ {W : Type 0} (on_data on_log : LayerSpec → W) where
         append_assoc,
       )
 
-  -- the layers of both disks are read again
   pub layers_again : {S : Type 0} (step : S → W → Result S Refusal) (at : Disk → Disk → S)
       (size : SectorSize)
       → ((d top l : Disk) (layer : LayerSpec) → l.layers ≡ []
@@ -342,16 +274,13 @@ module _ {W : Type 0} (on_data on_log : LayerSpec → W) where
       layer taken) [] l.layers (omega (arith, is_log.few)) is_log.stand
       (long_below (bytes_of size / 512) l.sectors l.layers is_log.stand room)
 
-  -- how much was read with lines, by what each makes of it
   module _ {P : Type 0} (next : P → W → P) (after : P → List W → P)
       (nothing : (p : P) → after p [] ≡ p)
       (more : (p : P) (w : W) (ws : List W) → after p (w ∷ ws) ≡ after (next p w) ws) where
-    -- with lines, and then others
     pub after_both : (p : P) (ws vs : List W) → after p (ws ++ vs) ≡ after (after p ws) vs
     after_both p [] vs = grind arith
     after_both p (w ∷ ws) vs = grind (arith, after_both (next p w) ws vs)
 
-    -- with those of the layers of a disk
     after_some : (line : LayerSpec → W) (at : List LayerSpec → P)
         → ((done : List LayerSpec) (layer : LayerSpec)
         → next (at done) (line layer) ≡ at (done ++ layer ∷ [])) →
@@ -360,7 +289,6 @@ module _ {W : Type 0} (on_data on_log : LayerSpec → W) where
     after_some line at one done (layer ∷ layers) =
         grind (arith, after_some line at one (done ++ layer ∷ []) layers, append_assoc)
 
-    -- with those of the layers of both
     pub after_layers : (at : Disk → Disk → P)
         → ((d l : Disk) (layer : LayerSpec)
         → next (at d l) (on_data layer) ≡ at (with_layer d layer) l)
@@ -374,14 +302,11 @@ module _ {W : Type 0} (on_data on_log : LayerSpec → W) where
         d.layers) (after_some on_log (λ (ls : List LayerSpec). at d (under l.sectors ls)) (λ
         done layer. other d (under l.sectors done) layer) [] l.layers)
 
--- the sizes of disks under layers are those of disks
 pub sizes_again : (d l : Disk) (size : SectorSize) → IsDisk d → IsDisk l → HasRoom size l
     → (is_disk_size d.sectors ≡ true) × (is_log_disk_size (bytes_of size) l.sectors ≡ true)
 sizes_again d l size is_data is_log room = grind (arith, top_within, and_from, le-leb)
 
--- ---- lines that are refused
-
--- a line of the head may stand there
+-- A head line may follow here; whether its layer fits is not considered.
 abbrev pub HeadStands : Stage → HeadLine → Bool → Type 0
 HeadStands heads.Empty (head_lines.Data n) closed = is_disk_size n ≡ true
 HeadStands (heads.Data d) (head_lines.Log n size) closed =
@@ -391,19 +316,17 @@ HeadStands (heads.Whole d l size) (head_lines.Layer disks.Data asked) false =
 HeadStands (heads.Whole d l size) (head_lines.Layer disks.Log asked) false = length l.layers < 4
 HeadStands _ _ _ = ⊥
 
--- the disk of this name
 abbrev pub disk_over : DiskName → Disk → Disk → Disk
 disk_over disks.Data d l = d
 disk_over disks.Log d l = l
 
--- why a line asks for no layer over a disk, whose layers have at least so many sectors
 abbrev pub asked_refusal : (least : ℕ) → Disk → Result LayerSpec TableError → Option Refusal
 asked_refusal least disk (Err error) = Some (table_refusal error)
 asked_refusal least disk (Ok spec) =
     cond (is_within spec (top_of disk)) (cond (nat_le least spec.length) None (Some BadLine))
     (Some OutOfRange)
 
--- why a line of the head is refused: it may not stand there, or asks for no layer
+-- A head line is refused because it may not follow here, or because it asks for no layer that fits.
 pub data HeadRefused (closed : Bool) (refusal : Refusal) : Stage → HeadLine → Type 0 where
   misplaced : (h : Stage) (line : HeadLine) → (HeadStands h line closed → ⊥) → BadLine ≡ refusal
       → HeadRefused closed refusal h line
@@ -413,7 +336,6 @@ pub data HeadRefused (closed : Bool) (refusal : Refusal) : Stage → HeadLine �
       → asked_refusal (least_sectors over size) (disk_over over d l) asked ≡ Some refusal
       → HeadRefused closed refusal (heads.Whole d l size) (head_lines.Layer over asked)
 
--- a layer that is refused doesn't fit, or is too short
 asked_err : (least : ℕ) (disk : Disk) (asked : Result LayerSpec TableError) (refusal : Refusal)
     → asked_layer least disk asked ≡ Err refusal → asked_refusal least disk asked ≡ Some refusal
 asked_err least disk (Err error) refusal e = cc
@@ -428,7 +350,6 @@ asked_err least disk (Ok spec) refusal e =
     by_tests true false e = cc
     by_tests false long e = cc
 
--- four layers stand there, or one more is refused for its own reason
 layer_err : (least : ℕ) (disk : Disk) (asked : Result LayerSpec TableError) (refusal : Refusal)
     → layer_step least disk asked ≡ Err refusal
     → ((4 ≤ length disk.layers) × (BadLine ≡ refusal))
@@ -441,7 +362,6 @@ layer_err least disk asked refusal e =
     inr (ltb-true _ _ h.0, asked_err least disk asked refusal h.1))
     (tested_err (nat_lt (length disk.layers) 4) (asked_layer least disk asked) BadLine refusal e)
 
--- a layer that is refused
 over_refused : (d l : Disk) (size : SectorSize) (over : DiskName)
     (asked : Result LayerSpec TableError) (refusal : Refusal)
     → (HeadStands (heads.Whole d l size) (head_lines.Layer over asked) false
@@ -461,7 +381,6 @@ over_refused d l size over asked refusal stood stands e =
     no_layer d l size over asked refl (stands h.0) h.1)
     (layer_err (least_sectors over size) (disk_over over d l) asked refusal e)
 
--- one of the data disk that is refused
 data_refused : (d l : Disk) (size : SectorSize) (asked : Result LayerSpec TableError)
     (refusal : Refusal) (layers : List LayerSpec) → l.layers ≡ layers
     → data_layer layers d l size asked ≡ Err refusal
@@ -471,7 +390,6 @@ data_refused d l size asked refusal (layer ∷ layers) are e =
     (λ stands. let both = sym are ∙ stands.1 in cc) (cc)
 data_refused d l size asked refusal [] none e = grind (arith, over_refused, made_err)
 
--- a line of the head that is refused
 pub head_refused : (h : Stage) (line : HeadLine) (closed : Bool) (refusal : Refusal)
     → head_step h closed line ≡ Err refusal → HeadRefused closed refusal h line
 head_refused heads.Empty (head_lines.Data n) closed refusal e =

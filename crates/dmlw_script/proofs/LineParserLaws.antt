@@ -1,14 +1,11 @@
--- The parser finds a meaning of a line exactly if the line has the fields of this meaning. The
--- fields of a meaning that the parser finds have a canonical text. The laws of texts and of readers
--- of both kinds of scripts cite it.
-use Rattle.std.proofs.Common.{◌≡◌, ℕ, ◌<◌, Bool, true, false}
-use Rattle.std.proofs.Common.{cond, List, [], ◌∷◌, Option, Some, None, ⊎_elim}
-use Rattle.std.proofs.Common.{refl, ap, subst, ◌∙◌, sym, arith}
+-- Proves that the parser finds a meaning of a line exactly if the line has its fields.
+-- Lemmas `.._read` go from the parser's result to the fields, lemmas `.._again` the other way.
+use Rattle.std.proofs.Common.{◌≡◌, ℕ, ◌<◌, Bool, true, false, cond, List, [], ◌∷◌, Option, Some}
+use Rattle.std.proofs.Common.{None, ⊎_elim, refl, ap, subst, ◌∙◌, sym, arith, ◌^◌, ◌≤◌, Ok}
 use Rattle.std.specs.Prelude.{codes, map}
 use Rattle.std.specs.Option.{option_map}
 use Rattle.std.specs.Str.{bytes_eq}
-use Rattle.std.proofs.lemmas.Bool.{cases_Bool, cond-true}
-use Rattle.std.proofs.lemmas.Bool.{eqb-true}
+use Rattle.std.proofs.lemmas.Bool.{cases_Bool, cond-true, eqb-true, ltb-false}
 use Rattle.std.proofs.lemmas.Slice.Eq.{bytes_eq-Decides}
 use Rattle.std.proofs.lemmas.Option.{cond_some}
 use Rattle.bio.specs.declared.request.SectorSize.{SectorSize}
@@ -28,42 +25,34 @@ use Rattle.dmlw_script.specs.declared.command.WriteOptions.{WriteOptions}
 use Rattle.dmlw_script.specs.Fields.{disk_word, fields_of, head_fields, number, option_fields}
 use Rattle.dmlw_script.specs.Fields.{size_fields, submission_fields, submission_word, Byte, Choice}
 use Rattle.dmlw_script.specs.Fields.{Field, Given, HasFields, IsWord, Name, Number, One, Says, Text}
-use Rattle.dmlw_script.specs.Fields.{Word}
+use Rattle.dmlw_script.specs.Fields.{Word, step_fields}
 use Rattle.dmlw_script.specs.Grammar.{ParsesAs}
 use Rattle.dmlw_script.specs.Words.{byte_of, id_of_word, is_line_text, is_skipped}
 use Rattle.dmlw_script.specs.inside.LineParser.{◌>>=◌, body_words, disk_of_word, found_options}
-use Rattle.dmlw_script.specs.inside.LineParser.{head_words, layer_of, log_of, mark_of}
-use Rattle.dmlw_script.specs.inside.LineParser.{message_of, options_of, parse_line, parse_parts}
-use Rattle.dmlw_script.specs.inside.LineParser.{picks_of, plain_parts, sectors_of, size_of, step}
+use Rattle.dmlw_script.specs.inside.LineParser.{head_words, layer_of, log_of, mark_of, message_of}
+use Rattle.dmlw_script.specs.inside.LineParser.{options_of, parse_line, parse_parts, picks_of}
+use Rattle.dmlw_script.specs.inside.LineParser.{plain_parts, sectors_of, size_of, step}
 use Rattle.dmlw_script.specs.inside.LineParser.{submission_of, submit, submit_of, take_word}
 use Rattle.dmlw_script.specs.inside.LineParser.{with_number, write_words}
 use Rattle.dmlw_script.proofs.WordLaws.{before_all, bind_at, bind_some, cut_alone, first_some}
 use Rattle.dmlw_script.proofs.WordLaws.{id_lacks_space, lacks, map_some, number_lacks_space}
 use Rattle.dmlw_script.proofs.WordLaws.{picks_first, same_bytes, same_some, verb_read}
 use Rattle.refusals.specs.Words.{after_byte, before_byte, number_of}
-use Rattle.std.proofs.Common.{◌^◌, ◌≤◌, Ok}
-use Rattle.std.proofs.lemmas.Bool.{ltb-false}
 use Rattle.bio.specs.RequestLaws.{sized_passed}
 use Rattle.dmlw_script.specs.declared.command.Step.{Step}
-use Rattle.dmlw_script.specs.Fields.{step_fields}
 use Rattle.dmlw_script.specs.Plans.{range_test, step_answer, submission_answer, HasLineText}
 use Rattle.dmlw_script.specs.Plans.{WritesByte}
 use Rattle.dmlw_script.proofs.Spelling.{Fits, FitsLine, FitsWord}
 use Rattle.dmlw_script.proofs.ReaderLaws.{barred_ok}
 
--- ---- fields that are left
-
--- what has no more fields is at its end
 pub at_end : (left : Option (List ℕ)) → HasFields [] left → left ≡ None
 at_end None has = refl
 at_end (Some text) has = absurd has
 
--- what is left has the fields of what it is
 pub left_with : (fields : List Field) (left : Option (List ℕ)) (text : List ℕ) → left ≡ Some text
     → HasFields fields (Some text) → HasFields fields left
 left_with fields left text is has = grind arith
 
--- where a word is left, there are bytes
 pub word_left : (word : Word) (fields : List Field) (left : Option (List ℕ))
     → HasFields (One word ∷ fields) left
     → (text : List ℕ) × (left ≡ Some text) × IsWord (before_byte 32 text) word
@@ -71,26 +60,18 @@ pub word_left : (word : Word) (fields : List Field) (left : Option (List ℕ))
 word_left word fields None has = absurd has
 word_left word fields (Some text) has = (text, refl, has.0, has.1)
 
--- where a text is left, that is all
 pub text_left : (text : List ℕ) (left : Option (List ℕ)) → HasFields (Text text ∷ []) left
     → (left ≡ Some text) × (is_line_text text ≡ true)
 text_left text None has = absurd has
 text_left text (Some other) has = (ap Some has.1, has.0)
 
--- the last word is all that is left
 last_word : (text : List ℕ) → HasFields [] (after_byte 32 text) → text ≡ before_byte 32 text
 last_word text ends = sym (before_all 32 text (at_end (after_byte 32 text) ends))
 
--- a last word that lacks a space
 last_has : (word : Word) (text : List ℕ) → lacks 32 text ≡ true → IsWord text word
     → HasFields (One word ∷ []) (Some text)
-last_has word text lack is =
-    let c = cut_alone 32 text lack in (
-      rw (← c.0) at is,
-      subst (λ (o : Option (List ℕ)). HasFields [] o) (sym c.1) tt,
-    )
+last_has word text lack is = grind (arith, cut_alone 32 text lack)
 
--- the last number
 pub last_number_read : (text : List ℕ) (n : ℕ) → number_of text ≡ Some n
     → HasFields (number n ∷ []) (Some text)
 last_number_read text n e = last_has (Number n) text (number_lacks_space text n e) e
@@ -99,7 +80,6 @@ pub last_number_again : (text : List ℕ) (n : ℕ) → HasFields (number n ∷ 
     → number_of text ≡ Some n
 last_number_again text n has = ap number_of (last_word text has.1) ∙ has.0
 
--- the last id
 last_id_read : (text : List ℕ) (name : ScriptId) → id_of_word text ≡ Some name
     → HasFields (One (Name name) ∷ []) (Some text)
 last_id_read text name e = last_has (Name name) text (id_lacks_space text name e) e
@@ -108,9 +88,6 @@ last_id_again : (text : List ℕ) (name : ScriptId) → HasFields (One (Name nam
     → id_of_word text ≡ Some name
 last_id_again text name has = ap id_of_word (last_word text has.1) ∙ has.0
 
--- ---- options
-
--- a word that is taken off the front stood there
 taken_read : (word : List ℕ) (fields : List Field) (left : Option (List ℕ))
     → HasFields fields (take_word word left).1
     → HasFields (Choice (take_word word left).0 word ∷ fields) left
@@ -124,14 +101,13 @@ taken_read word fields (Some text) has =
     by_test true same has = (same refl, has)
     by_test false same has = has
 
--- the options have other words
+-- Each field is an option with a word other than `word`, so that `take_word` can't take it.
 abbrev AreOthers : List ℕ → List Field → Type 0
 AreOthers word [] = Unit {0}
 AreOthers word (Choice given other ∷ fields) =
     (bytes_eq other word ≡ false) × AreOthers word fields
 AreOthers word (field ∷ fields) = ⊥
 
--- a word that isn't there isn't taken off
 untaken : (word : List ℕ) (fields : List Field) (left : Option (List ℕ)) → AreOthers word fields
     → HasFields fields left → take_word word left ≡ (false, left)
 untaken word [] None others has = refl
@@ -142,7 +118,6 @@ untaken word (Choice true other ∷ fields) None others has = refl
 untaken word (Choice true other ∷ fields) (Some text) others has = grind arith
 untaken word (field ∷ fields) left others has = absurd others
 
--- an option is taken off if it is given
 taken_again : (word : List ℕ) (given : Bool) (fields : List Field) (left : Option (List ℕ))
     → AreOthers word fields → HasFields (Choice given word ∷ fields) left
     → ((take_word word left).0 ≡ given) × HasFields fields (take_word word left).1
@@ -153,25 +128,17 @@ taken_again word false fields left others has =
     )
 taken_again word true fields None others has = absurd has
 taken_again word true fields (Some text) others has =
-    let same : bytes_eq (before_byte 32 text) word ≡ true =
-    (bytes_eq-Decides (before_byte 32 text) word).1 has.0 in
-    let is : take_word word (Some text) ≡ (true, after_byte 32 text) = cond-true _ _ _ same in (
-      rw is,
-      rw is has.1,
-    )
+    grind (arith, true, bytes_eq-Decides, cond-true)
 
--- a write that asks for this
 abbrev asks_for : Bool → Bool → Bool → WriteOptions
 asks_for flush fua meta = record { flush = flush; fua = fua; meta = meta }
 
--- options are found where no word is left
 found_read : (flush fua meta : Bool) (left : Option (List ℕ)) (options : WriteOptions)
     → found_options flush fua meta left ≡ Some options
     → (left ≡ None) × (asks_for flush fua meta ≡ options)
 found_read flush fua meta (Some words) options e = absurd (cc)
 found_read flush fua meta None options e = (refl, cc)
 
--- what is read as options has them
 options_read : (left : Option (List ℕ)) (options : WriteOptions) → options_of left ≡ Some options
     → HasFields (option_fields options) left
 options_read left options e =
@@ -186,7 +153,6 @@ options_read left options e =
     (taken_read (codes "fua") (Choice meta.0 (codes "meta") ∷ []) flush.1
     (taken_read (codes "meta") [] fua.1 last)))
 
--- options are read as they are
 options_again : (left : Option (List ℕ)) (options : WriteOptions)
     → HasFields (option_fields options) left → options_of left ≡ Some options
 options_again left options has =
@@ -206,9 +172,6 @@ options_again left options has =
         → found_options flush fua meta left ≡ Some options
     found_again flush fua meta left is_flush is_fua is_meta none = grind arith
 
--- ---- submissions
-
--- a write's words are heard as its fields
 write_words_read : (words : List ℕ) (s : Submission) → write_words words ≡ Some s
     → (submission_word s ≡ codes "w") × HasFields (submission_fields s) (Some words)
 write_words_read words s e =
@@ -235,13 +198,11 @@ write_words_read words s e =
       ),
     )
 
--- sectors are heard as their two numbers
 sectors_read : (words : List ℕ) (sectors : ℕ × ℕ) → sectors_of words ≡ Some sectors
     → HasFields (number sectors.0 ∷ number sectors.1 ∷ []) (Some words)
 sectors_read words sectors e =
     grind (arith, bind_some, same_some, left_with, last_number_read)
 
--- what is heard of a submission is what it has
 pub submission_read : (verb : List ℕ) (left : Option (List ℕ)) (s : Submission)
     → submission_of verb left ≡ Some s
     → (verb ≡ submission_word s) × HasFields (submission_fields s) left
@@ -249,26 +210,22 @@ submission_read verb (Some words) s e =
     grind (arith, write_words_read, same_bytes, bind_some, same_some, sectors_read)
 submission_read verb None s e = grind (arith, cond_some, same_bytes)
 
--- a write's words are heard as they are
 write_words_again : (words : List ℕ) (first count byte : ℕ) (options : WriteOptions)
     → HasFields (submission_fields (submits.Write first count byte options)) (Some words)
     → write_words words ≡ Some (submits.Write first count byte options)
 write_words_again words first count byte options has =
     grind (arith, word_left, bind_at, options_again)
 
--- so are sectors
 sectors_again : (words : List ℕ) (first count : ℕ)
     → HasFields (number first ∷ number count ∷ []) (Some words)
     → sectors_of words ≡ Some (first, count)
 sectors_again words first count has = grind (arith, word_left, bind_at, last_number_again)
 
--- a submission isn't a mark
 pub no_mark : (s : Submission) → bytes_eq (submission_word s) (codes "mark") ≡ false
 no_mark (submits.Write first count byte options) = refl
 no_mark submits.Flush = refl
 no_mark (submits.Discard first count) = refl
 
--- a submission is heard as it is
 pub submission_again : (s : Submission) (verb : List ℕ) (left : Option (List ℕ))
     → verb ≡ submission_word s → HasFields (submission_fields s) left
     → submission_of verb left ≡ Some s
@@ -279,23 +236,17 @@ submission_again (submits.Discard first count) verb (Some words) is has =
 submission_again submits.Flush verb None is has = rw is refl
 submission_again s verb left is has = absurd has
 
--- ---- what is heard is said
-
--- the line says this, by its first word and what is left after it
 abbrev SaysLine : List ℕ → Option (List ℕ) → LineMeaning → Type 0
 SaysLine verb left s = Says verb left (fields_of s)
 
--- what is heard of a first word and others
 abbrev SaysWords : List ℕ → List ℕ → LineMeaning → Type 0
 SaysWords words verb s = SaysLine verb (Some words) s
 
--- a line that submits
 submit_read : (verb words : List ℕ) (s : LineMeaning) → submit_of verb words ≡ Some s
     → SaysWords words verb s
 submit_read verb words s e =
     grind (arith, bind_some, submission_read, same_some)
 
--- a line of the body
 body_read : (verb words : List ℕ) (s : LineMeaning) → body_words verb words ≡ Some s
     → SaysWords words verb s
 body_read verb words s =
@@ -314,11 +265,9 @@ body_read verb words s =
     (refl, last_number_read words p.0 p.1))
     (submit_read verb words s)))
 
--- the line says this of the head
 abbrev pub SaysHead : List ℕ → List ℕ → HeadLine → Type 0
 SaysHead words verb s = Says verb (Some words) (head_fields s)
 
--- the size of a log's sectors
 size_read : (left : Option (List ℕ)) (size : SectorSize) → size_of left ≡ Some size
     → HasFields (size_fields size) left
 size_read None size e = grind (arith, same_some)
@@ -328,7 +277,6 @@ size_read (Some text) size e =
     (subst (λ (x : List ℕ). HasFields (size_fields sizes.B4096) (Some x))
     (sym (same_bytes text (codes "4096") p.0)) (refl, tt))
 
--- a line of the head
 pub head_read : (verb words : List ℕ) (s : HeadLine) → head_words verb words ≡ Some s
     → SaysHead words verb s
 head_read verb words s =
@@ -355,7 +303,6 @@ head_read verb words s =
     (same_some (layer_of disks.Log words) s e) (refl, refl))
     (λ e. absurd (cc e)))))
 
--- a line of one word, or of a first word and others
 plain_read : (verb : List ℕ) (left : Option (List ℕ)) (s : LineMeaning)
     → plain_parts verb left ≡ Some s → SaysLine verb left s
 plain_read verb (Some words) s e =
@@ -374,7 +321,6 @@ plain_read verb None s e =
     (same_some (step steps.Turn) s is) (refl, tt))
     (λ none. absurd (cc none))) e
 
--- a number before others was read with them
 number_parts : (o : Option ℕ) (os : Option (List ℕ)) (picks : List ℕ)
     → with_number o os ≡ Some picks
     → (n : ℕ) × (ns : List ℕ) × (o ≡ Some n) × (os ≡ Some ns) × (n ∷ ns ≡ picks)
@@ -382,7 +328,6 @@ number_parts (Some n) (Some ns) picks e = (n, ns, refl, refl, cc)
 number_parts (Some n) None picks e = absurd (cc)
 number_parts None os picks e = absurd (cc)
 
--- what is read as numbers are numbers
 picks_read : (picks : List ℕ) (left : Option (List ℕ)) → picks_of left ≡ Some picks
     → HasFields (map number picks) left
 picks_read [] None e = tt
@@ -399,7 +344,6 @@ picks_read (pick ∷ picks) (Some words) e =
       picks_read picks (after_byte 32 words) (p.3 ∙ ap Some more),
     )
 
--- numbers are read as they are
 picks_again : (picks : List ℕ) (left : Option (List ℕ)) → HasFields (map number picks) left
     → picks_of left ≡ Some picks
 picks_again [] None has = refl
@@ -408,18 +352,15 @@ picks_again (pick ∷ picks) None has = absurd has
 picks_again (pick ∷ picks) (Some words) has =
     grind (arith, picks_again picks (after_byte 32 words) has.1, picks_first)
 
--- a mark
 mark_read : (left : Option (List ℕ)) (s : LineMeaning) → mark_of left ≡ Some s
     → SaysLine (codes "mark") left s
 mark_read None s e = absurd (cc)
 mark_read (Some text) s e = grind (arith, cond_some)
 
--- a word that names a disk
 disk_read : (word : List ℕ) (over : DiskName) → disk_of_word word ≡ Some over
     → word ≡ disk_word over
 disk_read word over e = grind (arith, same_bytes, same_some, cond_some)
 
--- a message
 message_read : (left : Option (List ℕ)) (s : LineMeaning) → message_of left ≡ Some s
     → SaysLine (codes "message") left s
 message_read None s e = absurd (cc)
@@ -442,7 +383,6 @@ message_read (Some words) s e =
       ),
     )
 
--- what is heard of the parts of a line is said
 parts_read : (verb : List ℕ) (left : Option (List ℕ)) (s : LineMeaning)
     → parse_parts verb left ≡ Some s → SaysLine verb left s
 parts_read verb left s =
@@ -454,26 +394,20 @@ parts_read verb left s =
     (verb_read (λ v x. SaysLine v left x) verb (codes "message") _ _ s (message_read left s)
     (plain_read verb left s)))
 
--- what is heard is said
 pub parsed_read : (line : List ℕ) (s : LineMeaning) → parse_line line ≡ Some s → ParsesAs line s
 parsed_read line s e = parts_read (before_byte 32 line) (after_byte 32 line) s e
 
--- ---- what is said is heard
-
--- the size of a log's sectors
 size_again : (size : SectorSize) (left : Option (List ℕ)) → HasFields (size_fields size) left
     → size_of left ≡ Some size
 size_again sizes.B512 None has = refl
 size_again sizes.B4096 (Some text) has = grind (arith, last_word)
 size_again size left has = absurd has
 
--- the log disk's line is heard as it is
 pub log_again : (words : List ℕ) (n : ℕ) (size : SectorSize)
     → HasFields (number n ∷ size_fields size) (Some words)
     → log_of words ≡ Some (head_lines.Log n size)
 log_again words n size has = grind (arith, bind_at, size_again)
 
--- a line that submits is heard as it is
 submit_again : (s : Submission) (verb words : List ℕ) (name : ScriptId) → verb ≡ submission_word s
     → HasFields (One (Name name) ∷ submission_fields s) (Some words)
     → submit_of verb words ≡ Some (submit name s)
@@ -481,29 +415,24 @@ submit_again s verb words name is has =
     bind_at _ _ _ _ has.0
     (bind_at _ _ _ _ (submission_again s verb (after_byte 32 words) is has.1) refl)
 
--- a word that names a disk is heard as it is
 disk_again : (over : DiskName) (word : List ℕ) → word ≡ disk_word over
     → disk_of_word word ≡ Some over
 disk_again disks.Data word is = rw is refl
 disk_again disks.Log word is = rw is refl
 
--- a message is heard as it is
 message_again : (over : DiskName) (layer : ℕ) (text words : List ℕ)
     → HasFields (One (Given (disk_word over)) ∷ number layer ∷ Text text ∷ []) (Some words)
     → message_of (Some words) ≡ Some (step (steps.Message over layer text))
 message_again over layer text words has =
     grind (arith, word_left, text_left, bind_at, disk_again, cond-true)
 
--- a mark is heard as it is
 mark_again : (text : List ℕ) (left : Option (List ℕ)) → HasFields (Text text ∷ []) left
     → mark_of left ≡ Some (step (steps.Mark text))
 mark_again text left has = grind (arith, text_left, cond-true)
 
--- what is heard as a line of the head
 abbrev heard_head : Option HeadLine → Option LineMeaning
 heard_head s = option_map parsed_lines.Head s
 
--- what the parts of a line say is heard
 parts_again : (s : LineMeaning) (verb : List ℕ) (left : Option (List ℕ)) → SaysLine verb left s
     → parse_parts verb left ≡ Some s
 parts_again (parsed_lines.Head (head_lines.Data n)) verb (Some words) says =
@@ -518,16 +447,14 @@ parts_again (parsed_lines.Head (head_lines.Layer disks.Log asked)) verb (Some wo
     (rw says.1)
 parts_again (parsed_lines.Body
     (body_lines.Submit name (submits.Write first count byte options))) verb (Some words) says =
-    rw says.0 (submit_again (submits.Write first count byte options) (codes "w") words name refl
-    says.1)
+    grind (arith, submit_again)
 parts_again (parsed_lines.Body (body_lines.Submit name (submits.Discard first count))) verb
     (Some words) says =
     rw says.0 (submit_again (submits.Discard first count) (codes "d") words name refl says.1)
 parts_again (parsed_lines.Body (body_lines.Submit name submits.Flush)) verb (Some words) says =
     rw says.0 (submit_again submits.Flush (codes "f") words name refl says.1)
 parts_again (parsed_lines.Body (body_lines.Complete name)) verb (Some words) says =
-    rw says.0 (ap (option_map (λ k. parsed_lines.Body (body_lines.Complete k)))
-    (last_id_again words name says.1))
+    grind (arith, last_id_again words name says.1)
 parts_again (parsed_lines.Body (body_lines.Step steps.Close)) verb None says = rw says.0 refl
 parts_again (parsed_lines.Body (body_lines.Step (steps.Read first count))) verb (Some words) says =
     rw says.0 (bind_at _ _ _ _ (sectors_again words first count says.1) refl)
@@ -539,16 +466,12 @@ parts_again (parsed_lines.Body (body_lines.Step (steps.At moment))) verb (Some w
 parts_again (parsed_lines.Body (body_lines.Step (steps.Message over layer text))) verb
     (Some words) says =
     rw says.0 (message_again over layer text words says.1)
-parts_again (parsed_lines.Crash picks) verb left says =
-    rw says.0 (ap (option_map (λ (ps : List ℕ). parsed_lines.Crash ps))
-    (picks_again picks left says.1))
+parts_again (parsed_lines.Crash picks) verb left says = grind (arith, picks_again picks left says.1)
 parts_again s verb left says = absurd says.1
 
--- what is said is heard
 pub parsed_again : (line : List ℕ) (s : LineMeaning) → ParsesAs line s → parse_line line ≡ Some s
 parsed_again line s says = parts_again s (before_byte 32 line) (after_byte 32 line) says
 
--- nothing is heard of a comment
 comment_parts : (word : List ℕ) (rest : Option (List ℕ)) → parse_parts (35 ∷ word) rest ≡ None
 comment_parts word None = refl
 comment_parts word (Some words) =
@@ -560,27 +483,20 @@ comment_parts word (Some words) =
     no_submission (Some id) None = refl
     no_submission (Some id) (Some others) = refl
 
--- a line that says something isn't skipped, where nothing is heard of no bytes, nor of a comment
+-- A line with a meaning isn't skipped, if an empty line and a comment (`#`, 35) have no meaning.
 pub kept_by : {A : Type 0} (parse : List ℕ → Option A) → parse [] ≡ None
     → ((line : List ℕ) → parse (35 ∷ line) ≡ None) → (line : List ℕ) (s : A)
     → parse line ≡ Some s → is_skipped line ≡ false
 kept_by parse none comment [] s e = absurd (cc)
 kept_by parse none comment (b ∷ line) s e = grind (arith, eqb-true, cases_Bool)
 
--- a line that says something isn't skipped
 pub said_kept : (line : List ℕ) (s : LineMeaning) → ParsesAs line s → is_skipped line ≡ false
-said_kept line s says =
-    kept_by parse_line refl (λ l. comment_parts (before_byte 32 l) (after_byte 32 l)) line s
-    (parsed_again line s says)
+said_kept line s says = grind (arith, kept_by, comment_parts, parsed_again)
 
--- ---- what can be written
-
--- the numbers of sectors that pass the test are below 2 ^ 64
 pub range_low : (bytes sectors first count : ℕ) → sectors ≤ 1048576
     → range_test bytes sectors first count ≡ Ok tt → (first < 2 ^ 64) × (count < 2 ^ 64)
 range_low bytes sectors first count small e = grind (arith, barred_ok, sized_passed, ltb-false)
 
--- what a submission has can be written
 pub submission_fits : (bytes sectors : ℕ) (submission : Submission) → sectors ≤ 1048576
     → submission_answer bytes sectors submission ≡ Ok tt → WritesByte submission
     → FitsWord (Given (submission_word submission)) × Fits (submission_fields submission)
@@ -590,7 +506,6 @@ submission_fits bytes sectors (submits.Discard first count) small passes low =
     grind (arith, range_low)
 submission_fits bytes sectors submits.Flush small passes low = ((refl, refl), tt)
 
--- a line that names no request
 pub step_fits : (bytes sectors : ℕ) (it : Step) → sectors ≤ 1048576
     → step_answer bytes sectors it ≡ Ok tt → HasLineText it → FitsLine (step_fields it)
 step_fits bytes sectors steps.Close small passes text = grind arith

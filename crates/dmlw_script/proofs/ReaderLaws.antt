@@ -1,4 +1,4 @@
--- Laws of reading line by line, and what follows for the texts that a reader reads.
+-- Proves for any reader that reading lines gives a script exactly if they are the script's lines.
 use Rattle.std.proofs.Common.{Option, Some, None, Ok, Err, ⊎_elim, refl, ap, ◌∙◌, sym, arith, ◌≡◌}
 use Rattle.std.proofs.Common.{ℕ, ◌+◌, Bool, cond, true, false, not, List, [], ◌∷◌, ◌++◌, length}
 use Rattle.std.proofs.Common.{append_assoc}
@@ -15,88 +15,71 @@ use Rattle.dmlw_script.specs.inside.Readers.{and_then, at_line, line_by, read_by
 use Rattle.dmlw_script.specs.inside.Readers.{Reads}
 use Rattle.dmlw_script.specs.Words.{is_ascii_line, is_skipped, unskipped}
 
--- Laws of reading line by line, with any step: reading goes on, ends in a value, or ends at a
--- fault.
-
--- what goes on well has a value, from which it goes on well
 pub bind_ok : {A B : Type 0} (r : Result A Refusal) (f : A → Result B Refusal) (y : B)
     → (r >>= f) ≡ Ok y → (x : A) × (r ≡ Ok x) × (f x ≡ Ok y)
 bind_ok (Ok x) f y e = (x, refl, e)
 bind_ok (Err refusal) f y e = absurd (cc)
 
--- so does what makes something of it
 pub made_ok : {A B : Type 0} (r : Result A Refusal) (f : A → B) (y : B)
     → (r >>= λ x. Ok (f x)) ≡ Ok y → (x : A) × (r ≡ Ok x) × (f x ≡ y)
 made_ok (Ok x) f y e = (x, refl, cc)
 made_ok (Err refusal) f y e = absurd (cc)
 
--- and what is refused had none
 pub made_err : {A B : Type 0} (r : Result A Refusal) (f : A → B) (refusal : Refusal)
     → (r >>= λ x. Ok (f x)) ≡ Err refusal → r ≡ Err refusal
 made_err (Ok x) f refusal e = absurd (cc)
 made_err (Err other) f refusal e = cc
 
--- what has this value goes on from it
 pub bind_at : {A B : Type 0} (r : Result A Refusal) (f : A → Result B Refusal) (x : A)
     (y : Result B Refusal) → r ≡ Ok x → f x ≡ y → (r >>= f) ≡ y
 bind_at (Ok z) f x y e g = let same : z ≡ x = cc in ap f same ∙ g
 bind_at (Err refusal) f x y e g = absurd (cc)
 
--- a test that bars nothing leaves what is behind it
 pub barred_ok : {A E : Type 0} (t : Bool) (bad : E) (r : Result A E) (y : A)
     → cond t (Err bad) r ≡ Ok y → (t ≡ false) × (r ≡ Ok y)
 barred_ok true bad r y e = absurd (cc)
 barred_ok false bad r y e = (refl, e)
 
--- one that bars a value leaves its refusal
 pub barred_err : {A : Type 0} (t : Bool) (bad : Refusal) (x : A) (refusal : Refusal)
     → cond t (Err bad) (Ok x) ≡ Err refusal → (t ≡ true) × (bad ≡ refusal)
 barred_err true bad x refusal e = (refl, cc)
 barred_err false bad x refusal e = absurd (cc)
 
--- what is true of all of two lists is of both in a row
 pub all_append : {A : Type 0} (P : A → Type 0) (xs ys : List A) → AllByRecursion P xs
     → AllByRecursion P ys → AllByRecursion P (xs ++ ys)
 all_append P [] ys all others = others
 all_append P (x ∷ xs) ys all others = (all.0, all_append P xs ys all.1 others)
 
--- what is true of what is made of each
 pub all_map : {A B : Type 0} (P : A → Type 0) (Q : B → Type 0) (f : A → B)
     → ((x : A) → P x → Q (f x)) → (xs : List A) → AllByRecursion P xs
     → AllByRecursion Q (map f xs)
 all_map P Q f each [] all = tt
 all_map P Q f each (x ∷ xs) all = (each x all.0, all_map P Q f each xs all.1)
 
--- a good answer names no line
 pub line_ok : {A : Type 0} (number : ℕ) (r : Result A Refusal) (x : A) → at_line number r ≡ Ok x
     → r ≡ Ok x
 line_ok number (Ok y) x e = cc
 line_ok number (Err refusal) x e = absurd (cc)
 
--- a fault at a line has its number
 pub line_err : {A : Type 0} (number : ℕ) (r : Result A Refusal) (fault : Fault)
     → at_line number r ≡ Err fault →
     (fault.line ≡ Some number) × (r ≡ Err fault.refusal)
 line_err number (Ok x) fault e = absurd (cc)
 line_err number (Err refusal) fault e = grind arith
 
--- what goes on well has a value, and goes on well from there
 pub then_ok : {A B : Type 0} (r : Result A Fault) (f : A → Result B Fault) (y : B)
     → and_then r f ≡ Ok y → (x : A) × (r ≡ Ok x) × (f x ≡ Ok y)
 then_ok (Ok x) f y e = (x, refl, e)
 then_ok (Err fault) f y e = absurd (cc)
 
--- a fault with no line is that memory ran out
 pub memory_is : (fault : Fault) (line : Option ℕ) → fault.line ≡ line → line ≡ None
     → fault.refusal ≡ Memory → fault ≡ is_memory
 memory_is fault line is none memory = grind arith
 
--- what was read after these lines
 abbrev pub fold : {S W : Type 0} → (S → W → Result S Refusal) → S → List W → Result S Refusal
 fold step s [] = Ok s
 fold step s (w ∷ ws) = step s w >>= λ t. fold step t ws
 
--- what was read after these, and then others
 pub fold_append : {S W : Type 0} (step : S → W → Result S Refusal) (s t : S) (ws more : List W)
     → fold step s ws ≡ Ok t →
     fold step s (ws ++ more) ≡ fold step t more
@@ -105,13 +88,13 @@ fold_append step s t (w ∷ ws) more e =
     let r = bind_ok (step s w) _ t e in
     bind_at _ _ _ _ r.1 (fold_append step r.0 t ws more r.2)
 
--- what reading ends at, after lines that lead to s
+-- Reading stops in the state `s`: the next line is refused, or the text can't end here.
 abbrev pub StopsAt : {S A : Type 0} → (S → List ℕ → Result S Refusal) → (S → Result A Refusal) → S
     → List (List ℕ) → Refusal → Type 0
 StopsAt step finish s [] refusal = finish s ≡ Err refusal
 StopsAt step finish s (line ∷ more) refusal = step s line ≡ Err refusal
 
--- a fault, and the lines before it
+-- Reading stops with `fault` in the state `reached`, after the lines `before`.
 pub record Stopped {S A : Type 0} (step : S → List ℕ → Result S Refusal)
     (finish : S → Result A Refusal) (s : S) (number : ℕ)
     (lines : List (List ℕ)) (fault : Fault) : Type 0 where
@@ -124,27 +107,22 @@ pub record Stopped {S A : Type 0} (step : S → List ℕ → Result S Refusal)
   pub ends : StopsAt step finish reached more fault.refusal
 
 module _ {S A : Type 0} (step : S → List ℕ → Result S Refusal) (finish : S → Result A Refusal) where
-  -- one more line
   pub reads_line : (s t : S) (number : ℕ) (line : List ℕ) (lines : List (List ℕ))
       → step s line ≡ Ok t →
       read_by step finish s number (line ∷ lines) ≡ read_by step finish t (number + 1) lines
   reads_line s t number line lines e = grind arith
 
-  -- reading goes on after lines that lead somewhere
   pub reads_on : (s t : S) (number : ℕ) (before rest : List (List ℕ)) → fold step s before ≡ Ok t →
       read_by step finish s number (before ++ rest)
       ≡ read_by step finish t (number + length before) rest
   reads_on s t number [] rest e =
-      let same : s ≡ t = cc in
-      ap (λ x. read_by step finish x number rest) same
-      ∙ ap (λ n. read_by step finish t n rest) (omega arith)
+      grind arith
   reads_on s t number (line ∷ before) rest e =
       let r = bind_ok (step s line) _ t e in
       reads_line s r.0 number line (before ++ rest) r.1
       ∙ reads_on r.0 t (number + 1) before rest r.2
       ∙ ap (λ n. read_by step finish t n rest) (omega arith)
 
-  -- reading ends well where the lines lead to a value
   pub read_leads : (s : S) (number : ℕ) (lines : List (List ℕ)) (x : A)
       → read_by step finish s number lines ≡ Ok x → (fold step s lines >>= finish) ≡ Ok x
   read_leads s number [] x e = line_ok number (finish s) x e
@@ -155,7 +133,6 @@ module _ {S A : Type 0} (step : S → List ℕ → Result S Refusal) (finish : S
       bind_ok (fold step r.0 lines) finish x (read_leads r.0 (number + 1) lines x r.2) in
       bind_at _ _ _ _ (bind_at _ _ _ _ first others.1) others.2
 
-  -- lines that lead to a value are read as it
   pub leads_read : (s : S) (number : ℕ) (lines : List (List ℕ)) (x : A)
       → (fold step s lines >>= finish) ≡ Ok x → read_by step finish s number lines ≡ Ok x
   leads_read s number lines x e =
@@ -163,7 +140,6 @@ module _ {S A : Type 0} (step : S → List ℕ → Result S Refusal) (finish : S
       ap (λ ls. read_by step finish s number ls) (sym (append-nil lines))
       ∙ reads_on s r.0 number lines [] r.1 ∙ ap (at_line (number + length lines)) r.2
 
-  -- a fault after a line that was read
   stopped_later : (s t : S) (number : ℕ) (line : List ℕ) (lines : List (List ℕ)) (fault : Fault)
       → step s line ≡ Ok t →
       Stopped step finish t (number + 1) lines fault
@@ -178,7 +154,6 @@ module _ {S A : Type 0} (step : S → List ℕ → Result S Refusal) (finish : S
     ends = f.ends;
   }
 
-  -- where a fault is, reading ended there
   pub stopped : (s : S) (number : ℕ) (lines : List (List ℕ)) (fault : Fault)
       → read_by step finish s number lines ≡ Err fault →
       Stopped step finish s number lines fault
@@ -212,44 +187,35 @@ module _ {S A : Type 0} (step : S → List ℕ → Result S Refusal) (finish : S
             split = refl;
             gone = refl;
             place = sym (ap (λ (f : Fault). f.line) same) ∙ ap Some (omega arith);
-            ends = is ∙ ap (λ (f : Fault). Err f.refusal) same;
+            ends = grind (arith, is, same);
           }
 
--- ---- lines that say something
-
--- a skipped line isn't kept
 pub kept_skipped : (line : List ℕ) (lines : List (List ℕ)) → is_skipped line ≡ true
     → unskipped (line ∷ lines) ≡ unskipped lines
 kept_skipped line lines e = cond-false _ _ _ (ap not e)
 
--- another line is kept
 pub kept_said : (line : List ℕ) (lines : List (List ℕ)) → is_skipped line ≡ false
     → unskipped (line ∷ lines) ≡ line ∷ unskipped lines
 kept_said line lines e = cond-true _ _ _ (ap not e)
 
--- plain lines, of which those that aren't skipped say this
+-- Each line is ASCII without zero bytes, and the unskipped lines have the meanings `ws`.
 pub record Tells {W : Type 0} (Says : List ℕ → W → Type 0) (lines : List (List ℕ))
     (ws : List W) : Type 0 where
   pub plain : AllByRecursion (λ line. is_ascii_line line ≡ true) lines
   pub says : AllZip Says (unskipped lines) ws
 
--- one more line to skip
 pub tells_skipped : {W : Type 0} (Says : List ℕ → W → Type 0) (line : List ℕ)
     (lines : List (List ℕ)) (ws : List W) → is_ascii_line line ≡ true
     → is_skipped line ≡ true → Tells Says lines ws → Tells Says (line ∷ lines) ws
 tells_skipped Says line lines ws plain skipped h = grind (arith, kept_skipped)
 
--- one more line that says something
 pub tells_said : {W : Type 0} (Says : List ℕ → W → Type 0) (line : List ℕ) (lines : List (List ℕ))
     (w : W) (ws : List W) → is_ascii_line line ≡ true →
     is_skipped line ≡ false → Says line w → Tells Says lines ws → Tells Says (line ∷ lines) (w ∷ ws)
 tells_said Says line lines w ws plain kept says h = grind (arith, kept_said)
 
--- What the laws need to know of a reader of scripts (`Reader`), and what follows for the texts that
--- it reads.
-
--- a reader: what it hears of a line and makes of it, and where it ends; which lines spell a script;
--- and which lines say what it has read
+-- The reader of one kind of script, and the facts from which the laws of its texts follow.
+-- `S` is the state of the reader, `W` the meaning of a line, and `A` the script.
 pub record Reader (S W A : Type 0) : Type 1 where
   pub parse : List ℕ → Option W
   pub Says : List ℕ → W → Type 0
@@ -279,37 +245,31 @@ pub record Reader (S W A : Type 0) : Type 1 where
       → (fold step start (lines_of_script plan) >>= finish) ≡ Ok plan
 
 module _ {S W A : Type 0} (r : Reader S W A) where
-  -- one more line
   abbrev pub takes : S → List ℕ → Result S Refusal
   takes s line = line_by r.parse r.step s line
 
-  -- what is read of these lines, the first of which has this number
   abbrev pub reads : ℕ → List (List ℕ) → Result A Fault
   reads number lines = read_by takes r.finish r.start number lines
 
-  -- a line that isn't plain is a bad one
   pub strange_line : (s : S) (line : List ℕ) → is_ascii_line line ≡ false
       → takes s line ≡ Err BadLine
   strange_line s line e = cond-true _ _ _ (ap not e)
 
-  -- a skipped line changes nothing
   pub skipped_line : (s : S) (line : List ℕ) → is_ascii_line line ≡ true → is_skipped line ≡ true
       → takes s line ≡ Ok s
   skipped_line s line plain skipped = cond-false _ _ _ (ap not plain) ∙ cond-true _ _ _ skipped
 
-  -- another line is heard
   pub kept_line : (s : S) (line : List ℕ) → is_ascii_line line ≡ true → is_skipped line ≡ false
       → takes s line ≡ step_if r.step s (r.parse line)
   kept_line s line plain kept = cond-false _ _ _ (ap not plain) ∙ cond-false _ _ _ kept
 
-  -- lines that lead from s to t say this, and what was read is the beginning of a script
+  -- Reading `lines` in the state `s` adds the meanings `said`, and ends in the state `t`.
   record Grown (s t : S) (lines : List (List ℕ)) : Type 0 where
     said : List W
     tells : Tells r.Says lines said
     begun : r.IsBegun t
     more : r.lines_so_far t ≡ r.lines_so_far s ++ said
 
-  -- one more line
   line_grown : (s t u : S) (line : List ℕ) (lines : List (List ℕ)) → takes s line ≡ Ok t
       → r.IsBegun s → (r.IsBegun t → Grown t u lines) → Grown s u (line ∷ lines)
   line_grown s t u line lines e begun others =
@@ -319,16 +279,12 @@ module _ {S W A : Type 0} (r : Reader S W A) where
           → r.parse line ≡ o → step_if r.step s o ≡ Ok t → Grown s u (line ∷ lines)
       heard None plain kept is step = absurd (cc)
       heard (Some w) plain kept is step =
-          let says = r.parse_says line w is in
-          let first = r.step_grows s t w step (r.fine_said line w says) begun in
-          let g = others first.0 in
-          record {
-            said = w ∷ g.said;
-            tells = tells_said r.Says line lines w g.said plain kept says g.tells;
-            begun = g.begun;
-            more =
-                g.more ∙ rw first.1 (append_assoc (r.lines_so_far s) (w ∷ []) g.said);
-          }
+          grind (
+            arith,
+            tells_said,
+            append_assoc (r.lines_so_far s) (w ∷ []) (others (r.step_grows
+                s t w step (r.fine_said line w (r.parse_says line w is)) begun).0).said,
+          )
 
       by_tests : (plain skipped : Bool) → is_ascii_line line ≡ plain → is_skipped line ≡ skipped
           → Grown s u (line ∷ lines)
@@ -337,16 +293,8 @@ module _ {S W A : Type 0} (r : Reader S W A) where
       by_tests true false plain kept =
           heard (r.parse line) plain kept refl (sym (kept_line s line plain kept) ∙ e)
       by_tests true true plain skipped =
-          let same : s ≡ t = (let there = sym (skipped_line s line plain skipped) ∙ e in cc) in
-          let g = others (rw (← same) begun) in
-          record {
-            said = g.said;
-            tells = tells_skipped r.Says line lines g.said plain skipped g.tells;
-            begun = g.begun;
-            more = g.more ∙ ap (λ (x : S). r.lines_so_far x ++ g.said) (sym same);
-          }
+          grind (arith, tells_skipped)
 
-  -- lines that are read
   all_grown : (s t : S) (lines : List (List ℕ)) → fold takes s lines ≡ Ok t → r.IsBegun s
       → Grown s t lines
   all_grown s t [] e begun =
@@ -361,13 +309,12 @@ module _ {S W A : Type 0} (r : Reader S W A) where
       let f = bind_ok (takes s line) _ t e in
       line_grown s f.0 t line lines f.1 begun (all_grown f.0 t lines f.2)
 
-  -- lines that lead to this, and say what was read
+  -- Reading `lines` ends in the state `s`, which holds the meanings of all of them.
   pub record Reached (lines : List (List ℕ)) (s : S) : Type 0 where
     pub gone : fold takes r.start lines ≡ Ok s
     pub tells : Tells r.Says lines (r.lines_so_far s)
     pub begun : r.IsBegun s
 
-  -- lines that are read do
   pub reached : (lines : List (List ℕ)) (s : S) → fold takes r.start lines ≡ Ok s
       → Reached lines s
   reached lines s gone =
@@ -380,14 +327,10 @@ module _ {S W A : Type 0} (r : Reader S W A) where
         begun = g.begun;
       }
 
-  -- lines after which a text may end spell a script
   pub reached_spells : (lines : List (List ℕ)) (s : S) (plan : A) → Reached lines s
       → r.finish s ≡ Ok plan → r.Spells lines plan
-  reached_spells lines s plan here finish =
-      let f = r.finish_grows s plan finish here.begun in
-      r.spells lines plan (rw (← f.0) here.tells) f.1
+  reached_spells lines s plan here finish = grind arith
 
-  -- lines that are read as a script spell it
   pub lines_spell : (number : ℕ) (lines : List (List ℕ)) (plan : A) → reads number lines ≡ Ok plan
       → r.Spells lines plan
   lines_spell number lines plan e =
@@ -396,7 +339,6 @@ module _ {S W A : Type 0} (r : Reader S W A) where
       (read_leads takes r.finish r.start number lines plan e) in
       reached_spells lines f.0 plan (reached lines f.0 f.1) f.2
 
-  -- lines that say this are read
   told_lines : (s t : S) (lines : List (List ℕ)) (ws : List W)
       → AllByRecursion (λ line. is_ascii_line line ≡ true) lines
       → AllZip r.Says (unskipped lines) ws → fold r.step s ws ≡ Ok t → fold takes s lines ≡ Ok t
@@ -419,24 +361,17 @@ module _ {S W A : Type 0} (r : Reader S W A) where
           → fold takes s (line ∷ lines) ≡ Ok t
       said [] kept tells again others = absurd tells
       said (w ∷ vs) kept tells again others =
-          let f = bind_ok (r.step s w) _ t again in
-          bind_at _ _ _ _ (kept_line s line plain.0 kept
-          ∙ ap (step_if r.step s) (r.says_parse line w tells.0) ∙ f.1) (others f.0 vs tells.1 f.2)
+          grind (arith, bind_ok (r.step s w) _ t again, bind_at)
 
-  -- lines say one thing
   pub one_told : (lines : List (List ℕ)) (vs ws : List W) → AllZip r.Says lines vs
       → AllZip r.Says lines ws → vs ≡ ws
   one_told [] [] [] says again = refl
   one_told [] [] (w ∷ ws) says again = absurd again
   one_told (line ∷ lines) (v ∷ vs) [] says again = absurd again
   one_told (line ∷ lines) (v ∷ vs) (w ∷ ws) says again =
-      let same : v ≡ w =
-      (let both = sym (r.says_parse line v says.0) ∙ r.says_parse line w again.0 in cc) in
-      ap (λ (x : W). x ∷ vs) same
-      ∙ ap (λ (xs : List W). w ∷ xs) (one_told lines vs ws says.1 again.1)
+      grind (arith, one_told lines vs ws says.1 again.1)
   one_told lines vs ws says again = absurd says
 
-  -- lines that spell a script are read as it
   pub spelled_lines : (number : ℕ) (lines : List (List ℕ)) (plan : A) → r.Spells lines plan
       → reads number lines ≡ Ok plan
   spelled_lines number lines plan spells =
@@ -448,18 +383,15 @@ module _ {S W A : Type 0} (r : Reader S W A) where
       (bind_at _ _ _ _ (told_lines r.start f.0 lines (r.lines_of_script plan) it.0.plain it.0.says
       f.1) f.2)
 
-  -- lines spell one script
   pub one_script : (lines : List (List ℕ)) (plan other : A) → r.Spells lines plan
       → r.Spells lines other → plan ≡ other
   one_script lines plan other spells again =
       let both = sym (spelled_lines 1 lines plan spells) ∙ spelled_lines 1 lines other again in cc
 
-  -- a line says one thing
   pub one_said : (line : List ℕ) (v w : W) → r.Says line v → r.Says line w → v ≡ w
   one_said line v w says again =
       let both = sym (r.says_parse line v says) ∙ r.says_parse line w again in cc
 
-  -- the end of a text gives a script, if anything
   pub end_is_script : (s : S) (number : ℕ) (lines : List (List ℕ))
       → read_by takes r.finish s number [] ≡ reads 1 lines → IfOk (r.finish s) r.IsScript
   end_is_script s number lines e = by_end (r.finish s) e
@@ -469,7 +401,6 @@ module _ {S W A : Type 0} (r : Reader S W A) where
       by_end (Ok plan) same = (r.spelled lines plan (lines_spell 1 lines plan (sym same))).1
       by_end (Err refusal) same = tt
 
-  -- lines of a script have no fault
   no_fault_read : (lines : List (List ℕ)) (plan : A) (fault : Fault) (line : Option ℕ)
       → fault.line ≡ line → IsFault line fault (reads 1 lines) → r.Spells lines plan
       → fault ≡ is_memory
@@ -477,13 +408,12 @@ module _ {S W A : Type 0} (r : Reader S W A) where
   no_fault_read lines plan fault (Some number) is read spells =
       absurd (let both = sym (spelled_lines 1 lines plan spells) ∙ read in cc)
 
-  -- what is read is so spelled
   pub found : (lines : List (List ℕ)) (answer : Result A Fault) → Reads answer (reads 1 lines)
       → IfOk answer (λ plan. r.Spells lines plan)
   found lines (Ok plan) read = lines_spell 1 lines plan read
   found lines (Err fault) read = tt
 
-  -- what is so spelled is read, unless memory ran out
+  -- If the lines are the script's, the reader returns the script, or reports out of memory.
   pub only : (IsAnswer : Result A Fault → Type 0) (lines : List (List ℕ)) (plan : A)
       (answer : Result A Fault) → ((script : A) → script ≡ plan → IsAnswer (Ok script))
       → ((fault : Fault) → fault ≡ is_memory → IsAnswer (Err fault))

@@ -1,7 +1,6 @@
--- Why the reader of recorder's scripts refuses a text. These are the facts that `FaultLaws` needs.
-use Rattle.std.proofs.Common.{◌≡◌, ℕ, ◌+◌, true, false, List, [], ◌∷◌}
-use Rattle.std.proofs.Common.{◌++◌, Option, Some, None, Ok, Err, ◌⊎◌, inl, inr, ⊎_elim, refl, ap}
-use Rattle.std.proofs.Common.{◌∙◌, sym, arith, append_assoc}
+-- Proves why the reader of recorder's scripts refuses a text: the facts that `FaultLaws` needs.
+use Rattle.std.proofs.Common.{◌≡◌, ℕ, ◌+◌, true, false, List, [], ◌∷◌, ◌++◌, Option, Some, None, Ok}
+use Rattle.std.proofs.Common.{Err, ◌⊎◌, inl, inr, ⊎_elim, refl, ap, ◌∙◌, sym, arith, append_assoc}
 use Rattle.std.specs.Prelude.{Result, codes}
 use Rattle.std.specs.List.{list_any}
 use Rattle.std.proofs.lemmas.Bool.{cond-true, cond-false, cases_Bool, ltb-true}
@@ -34,10 +33,9 @@ use Rattle.dmlw_script.specs.inside.Drafts.{◌>>=◌, body_step, ended_next, na
 use Rattle.dmlw_script.specs.inside.Drafts.{step_test, with_command, Body}
 use Rattle.dmlw_script.specs.Grammar.{AreLinesOf}
 use Rattle.dmlw_script.specs.Words.{same_name}
-use Rattle.dmlw_script.specs.Plans.{disk_of, least_sectors, time_after, request_of}
-use Rattle.dmlw_script.specs.Plans.{step_answer, submission_answer, top_of, Disk, ScriptValue}
-use Rattle.dmlw_script.specs.Plans.{head_of, layer_line, lines_of_body, time_at_step}
-use Rattle.dmlw_script.specs.Plans.{time_from}
+use Rattle.dmlw_script.specs.Plans.{disk_of, least_sectors, time_after, request_of, step_answer}
+use Rattle.dmlw_script.specs.Plans.{submission_answer, top_of, Disk, ScriptValue, head_of}
+use Rattle.dmlw_script.specs.Plans.{layer_line, lines_of_body, time_at_step, time_from}
 use Rattle.dmlw_script.specs.inside.Readers.{body_line, crash_line, finish_step, finished}
 use Rattle.dmlw_script.specs.inside.Readers.{has_begun, parsed_step, Progress}
 use Rattle.dmlw_script.specs.FirstFault.{at_end, bad_line, bare, body_refusal, data_due}
@@ -49,15 +47,12 @@ use Rattle.dmlw_script.proofs.ReaderLaws.{barred_err, made_err}
 use Rattle.dmlw_script.proofs.BodyLaws.{in_draft, unlisted}
 use Rattle.dmlw_script.proofs.DraftLemmas.{listed}
 use Rattle.dmlw_script.proofs.HeadLaws.{after_both, after_layers, asked_refusal, bare_is}
-use Rattle.dmlw_script.proofs.HeadLaws.{head_refused, layer_lines, misplaced, no_layer}
-use Rattle.dmlw_script.proofs.HeadLaws.{HeadRefused, HeadStands}
+use Rattle.dmlw_script.proofs.HeadLaws.{head_refused, layer_lines, misplaced, no_layer, HeadRefused}
+use Rattle.dmlw_script.proofs.HeadLaws.{HeadStands}
 use Rattle.dmlw_script.proofs.RecorderLaws.{at, ended_plan, lines_of_progress, plan_of, recorder}
 use Rattle.dmlw_script.proofs.RecorderLaws.{IsBegun}
 use Rattle.dmlw_script.proofs.FaultLaws.{Completes, Faults}
 
--- ---- what was read begins a script
-
--- the lines of the head that are missing complete a script
 pub completes : (h : Stage) (b : Body) (number : ℕ) → Completes recorder (at h b) number
 completes (heads.Whole d l size) b number =
     record { more = []; plan = plan_of d l size b; read = refl }
@@ -72,32 +67,25 @@ completes heads.Empty b number =
       read = refl;
     }
 
--- a text that can't end yet is a bad line
 pub unfinished_is : (h : Stage) (b : Body) (refusal : Refusal) → finished h b ≡ Err refusal
     → refusal ≡ BadLine
 unfinished_is (heads.Data d) b refusal e = cc
 unfinished_is heads.Empty b refusal e = cc
 unfinished_is h b refusal e = absurd (cc)
 
--- ---- what comes next
-
--- how much a head of these disks and these commands are
 abbrev pub body_prefix : Disk → Disk → List Command → Prefix
 body_prefix d l [] = in_head d l
 body_prefix d l (command ∷ body) = in_body d l (time_after (command ∷ body))
 
--- how much was read
 abbrev pub prefix_of : Stage → List Command → Prefix
 prefix_of heads.Empty body = data_due
 prefix_of (heads.Data d) body = log_due d
 prefix_of (heads.Whole d l size) body = body_prefix d l body
 prefix_of (heads.Ended d l size picks) body = at_end
 
--- how much was read, with the commands
 abbrev pub prefix_at : Progress → Prefix
 prefix_at p = prefix_of p.head p.body.body
 
--- after the lines of commands, behind others
 after_more : (d l : Disk) (names : List ScriptId) (n moment : ℕ) (body : List Command)
     → prefix_after (in_body d l moment) (lines_of_body names n body)
     ≡ in_body d l (time_from moment body)
@@ -109,7 +97,6 @@ after_more d l names n moment (commands.Complete request ∷ body) =
 after_more d l names n moment (commands.Step step ∷ body) =
     after_more d l names n (time_at_step moment step) body
 
--- after those of a body
 after_body : (d l : Disk) (names : List ScriptId) (body : List Command)
     → prefix_after (in_head d l) (lines_of_body names 0 body) ≡ body_prefix d l body
 after_body d l names [] = refl
@@ -118,13 +105,11 @@ after_body d l names (commands.Complete request ∷ body) = after_more d l names
 after_body d l names (commands.Step step ∷ body) =
     after_more d l names 0 (time_at_step 0 step) body
 
--- a crash comes next after a head, or after commands
 next_crash : (d l : Disk) (body : List Command) (picks : List ℕ)
     → next (body_prefix d l body) (parsed_lines.Crash picks) ≡ at_end
 next_crash d l [] picks = refl
 next_crash d l (command ∷ body) picks = refl
 
--- after the lines behind those of both disks
 after_disks : (d l : Disk) (names : List ScriptId) (body : List Command)
     → prefix_after (in_head (bare d.sectors) (bare l.sectors))
     (layer_lines (layer_line disks.Data) (layer_line disks.Log) d l ++ lines_of_body names 0 body)
@@ -139,7 +124,6 @@ after_disks d l names body =
     (λ p s ss. refl) in_head (λ x y layer. refl) (λ x y layer. refl) d l)
     ∙ after_body d l names body
 
--- after the lines that were read
 pub after_lines : (h : Stage) (b : Body) → IsBegun (at h b)
     → prefix_after data_due (lines_of_progress (at h b)) ≡ prefix_at (at h b)
 after_lines heads.Empty b begun = grind (arith, data_due)
@@ -154,23 +138,18 @@ after_lines (heads.Ended d l size picks) b begun =
     ∙ ap (λ (p : Prefix). next p (parsed_lines.Crash picks)) (after_disks d l b.names b.body)
     ∙ next_crash d l b.body picks
 
--- ---- why a line is refused
-
--- why a line is refused that says this: it may not stand there, or what was read is a script after
--- which it is refused
+-- Either the line may not follow, or what was read is a script, after which the line is refused.
 abbrev pub Refuses : Progress → LineMeaning → Refusal → Type 0
 Refuses p s refusal =
     ((MayFollowInScript (prefix_at p) s → ⊥) × (BadLine ≡ refusal))
     ⊎ (MayFollowInScript (prefix_at p) s × (plan : ScriptValue) × (finish_step p ≡ Ok plan)
     × (line_refusal plan s ≡ Some refusal))
 
--- a test of sectors that is refused
 pub answered_err : (r : Result (Unit {0}) BadBio) (refusal : Refusal) → as_refusal r ≡ Err refusal
     → test_refusal r ≡ Some refusal
 answered_err (Ok u) refusal e = absurd (cc)
 answered_err (Err bad) refusal e = cc
 
--- an id with a request is among the names
 listed_place : (name : ScriptId) (names : List ScriptId) (request : ℕ)
     → request_of name names ≡ Some request → list_any (same_name name) names ≡ true
 listed_place name names request e =
@@ -181,7 +160,6 @@ listed_place name names request e =
     ≡ None = cond-false _ _ _ (listed (same_name name) names ∙ none) in cc))
     (cases_Bool (list_any (same_name name) names))
 
--- why a submission is refused
 submit_refused : (d l : Disk) (size : SectorSize) (b : Body) (name : ScriptId)
     (submission : Submission) (refusal : Refusal) (o : Option ℕ) → request_of name b.names ≡ o
     → (named_next o b name >>= λ submitted. as_refusal
@@ -189,27 +167,23 @@ submit_refused : (d l : Disk) (size : SectorSize) (b : Body) (name : ScriptId)
     (with_command submitted (commands.Submit submission))) ≡ Err refusal
     → body_refusal (plan_of d l size b) (body_lines.Submit name submission) ≡ Some refusal
 submit_refused d l size b name submission refusal None is e =
-    cond-false _ _ _ (unlisted name b.names is)
-    ∙ answered_err (submission_answer (bytes_of size) (top_of d) submission) refusal
-    (made_err (as_refusal (submission_answer (bytes_of size) (top_of d) submission)) _ refusal e)
+    grind (arith, cond-false, unlisted, answered_err, made_err)
 submit_refused d l size b name submission refusal (Some request) is e =
     cond-true _ _ _ (listed_place name b.names request is) ∙ cc
 
--- why an end is refused
 end_refused : (d l : Disk) (size : SectorSize) (b : Body) (name : ScriptId) (refusal : Refusal)
     (o : Option ℕ) → request_of name b.names ≡ o → ended_next o b ≡ Err refusal
     → body_refusal (plan_of d l size b) (body_lines.Complete name) ≡ Some refusal
 end_refused d l size b name refusal None is e = grind (arith, cond-false)
 end_refused d l size b name refusal (Some request) is e = grind (arith, barred_err, cond-false)
 
--- why a line of the body is refused: it doesn't come in time, or for its own reason
+-- Either the line decreases the time (`BadLine`), or `body_refusal` gives the refusal.
 abbrev pub BodyRefused : Disk → Disk → SectorSize → Body → BodyLine → Refusal → Type 0
 BodyRefused d l size b line refusal =
     ((ComesInTime (time_after b.body) line → ⊥) × (BadLine ≡ refusal))
     ⊎ (ComesInTime (time_after b.body) line
     × (body_refusal (plan_of d l size b) line ≡ Some refusal))
 
--- why a line that names no request is refused
 step_refused : (d l : Disk) (size : SectorSize) (b : Body) (step : Step) (refusal : Refusal)
     → step_test (bytes_of size) (top_of d) (time_after b.body) step ≡ Err refusal
     → BodyRefused d l size b (body_lines.Step step) refusal
@@ -217,7 +191,6 @@ step_refused d l size b (steps.At later) refusal e = grind (arith, barred_err, l
 step_refused d l size b step refusal e =
     inr (tt, answered_err (step_answer (bytes_of size) (top_of d) step) refusal e)
 
--- why a line of the body is refused by its own words
 body_refused : (d l : Disk) (size : SectorSize) (b : Body) (line : BodyLine) (refusal : Refusal)
     → body_step (bytes_of size) (top_of d) b line ≡ Err refusal
     → BodyRefused d l size b line refusal
@@ -225,26 +198,20 @@ body_refused d l size b (body_lines.Submit name submission) refusal e =
     inr (tt, submit_refused d l size b name submission refusal (request_of name b.names) refl e)
 body_refused d l size b (body_lines.Complete name) refusal e =
     inr (tt, end_refused d l size b name refusal (request_of name b.names) refl e)
-body_refused d l size b (body_lines.Step step) refusal e =
-    step_refused d l size b step refusal
-    (made_err (step_test (bytes_of size) (top_of d) (time_after b.body) step)
-    (λ (fine : Unit {0}). with_command b (commands.Step step)) refusal e)
+body_refused d l size b (body_lines.Step step) refusal e = grind (arith, step_refused, made_err)
 
--- a line of the body that comes in time may stand after a head, or after commands
 stands_body : (d l : Disk) (body : List Command) (line : BodyLine)
     → ComesInTime (time_after body) line
     → MayFollowInScript (body_prefix d l body) (parsed_lines.Body line)
 stands_body d l [] line in_time = in_time
 stands_body d l (command ∷ body) line in_time = in_time
 
--- and no other
 stood_body : (d l : Disk) (body : List Command) (line : BodyLine)
     → MayFollowInScript (body_prefix d l body) (parsed_lines.Body line)
     → ComesInTime (time_after body) line
 stood_body d l [] line stands = stands
 stood_body d l (command ∷ body) line stands = stands
 
--- why a line of the body is refused
 body_refuses : (h : Stage) (b : Body) (s : BodyLine) (refusal : Refusal)
     → body_line h (at h b) s ≡ Err refusal → Refuses (at h b) (parsed_lines.Body s) refusal
 body_refuses (heads.Whole d l size) b s refusal e =
@@ -259,14 +226,12 @@ body_refuses (heads.Whole d l size) b s refusal e =
     (λ (x : Body). in_draft d l size x) refusal e))
 body_refuses h b s refusal e = inl (λ stands. stands, cc)
 
--- why a crash is refused
 crash_refuses : (h : Stage) (b : Body) (picks : List ℕ) (refusal : Refusal)
     → crash_line h (at h b) picks ≡ Err refusal
     → Refuses (at h b) (parsed_lines.Crash picks) refusal
 crash_refuses (heads.Whole d l size) b picks refusal e = absurd (cc)
 crash_refuses h b picks refusal e = inl (λ stands. stands, cc)
 
--- a line of the head that may stand after what was read may stand in the head
 stood_head : (h : Stage) (body : List Command) (line : HeadLine)
     → MayFollowInScript (prefix_of h body) (parsed_lines.Head line)
     → HeadStands h line (has_begun body)
@@ -276,14 +241,12 @@ stood_head (heads.Whole d l size) [] (head_lines.Layer disks.Data asked) stands 
 stood_head (heads.Whole d l size) [] (head_lines.Layer disks.Log asked) stands = stands
 stood_head h body line stands = absurd stands
 
--- it is why a line of the head is refused
 head_refusal_is : (plan : ScriptValue) (over : DiskName) (asked : Result LayerSpec TableError)
     → head_refusal plan (head_lines.Layer over asked)
     ≡ asked_refusal (least_sectors over plan.log_size) (disk_of over plan) asked
 head_refusal_is plan over (Err error) = refl
 head_refusal_is plan over (Ok spec) = refl
 
--- why a line of the head is refused
 head_refuses : (h : Stage) (names : List ScriptId) (body : List Command) (line : HeadLine)
     (refusal : Refusal) → HeadRefused (has_begun body) refusal h line
     → Refuses (at h (record { names = names; body = body })) (parsed_lines.Head line) refusal
@@ -298,7 +261,6 @@ head_refuses h names [] line refusal (no_layer d l size disks.Log asked may stan
 head_refuses h names (command ∷ body) line refusal (no_layer d l size over asked may stands why) =
     absurd (cc)
 
--- why a line is refused
 pub line_refuses : (p : Progress) (s : LineMeaning) (refusal : Refusal)
     → parsed_step p s ≡ Err refusal → Refuses p s refusal
 line_refuses p (parsed_lines.Head line) refusal e =
@@ -309,7 +271,6 @@ line_refuses p (parsed_lines.Head line) refusal e =
 line_refuses p (parsed_lines.Body line) refusal e = body_refuses p.head p.body line refusal e
 line_refuses p (parsed_lines.Crash picks) refusal e = crash_refuses p.head p.body picks refusal e
 
--- why a line is at fault
 pub why_fault : (before : List (List ℕ)) (line : List ℕ) (refusal : Refusal)
     → IsLineFault before line refusal
     → (((s : LineMeaning) → IsLineAfter before line s → ⊥) × (refusal ≡ BadLine))
@@ -318,7 +279,6 @@ pub why_fault : (before : List (List ℕ)) (line : List ℕ) (refusal : Refusal)
 why_fault before line refusal (bad_line never) = inl (never, refl)
 why_fault before line refusal (refused s plan why at spells is) = inr (s, plan, at, spells, is)
 
--- the faults of a recorder's texts
 abbrev pub recorder_faults : Faults recorder Prefix
 recorder_faults = record {
   after = prefix_after data_due;

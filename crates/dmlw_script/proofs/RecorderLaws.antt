@@ -1,4 +1,4 @@
--- What the reader of recorder's scripts has read. These are the facts that `ReaderLaws` needs.
+-- Proves what the reader of recorder's scripts has read: the facts that `ReaderLaws` needs.
 use Rattle.std.proofs.Common.{◌≡◌, ℕ, ◌<◌, ◌^◌, List, [], ◌∷◌, ◌++◌, append_assoc, Option, Some}
 use Rattle.std.proofs.Common.{None, Ok, refl, ap, ◌∙◌, sym, subst}
 use Rattle.std.specs.Prelude.{map, Result}
@@ -24,9 +24,8 @@ use Rattle.dmlw_script.specs.inside.Stages.{Stage}
 use Rattle.dmlw_script.specs.inside.Stages as heads
 use Rattle.dmlw_script.specs.inside.Heads.{data_layer, head_step, with_data, with_log}
 use Rattle.dmlw_script.specs.inside.Drafts.{◌>>=◌, body_step, Body}
-use Rattle.dmlw_script.specs.Fields.{disk_word, fields_of, number, option_fields}
-use Rattle.dmlw_script.specs.Fields.{submission_fields, Byte, Given, HasFields, Number, One, Says}
-use Rattle.dmlw_script.specs.Fields.{Text}
+use Rattle.dmlw_script.specs.Fields.{disk_word, fields_of, number, option_fields, submission_fields}
+use Rattle.dmlw_script.specs.Fields.{Byte, Given, HasFields, Number, One, Says, Text}
 use Rattle.dmlw_script.specs.Grammar.{ParsesAs, AreLinesOf}
 use Rattle.dmlw_script.specs.Plans.{data_line, log_line, head_of, lines_of_body, layer_line}
 use Rattle.dmlw_script.specs.Plans.{lines_of_script, top_of, with_ending, ArePicks, Disk, IsPlan}
@@ -45,19 +44,15 @@ use Rattle.dmlw_script.proofs.BodyLaws.{step_grows, IsFine, IsSound}
 use Rattle.dmlw_script.proofs.ReaderLaws.{Reader, bind_at, fold_append, made_ok}
 use Rattle.dmlw_script.proofs.LineParserLaws.{parsed_again, parsed_read, text_left, word_left}
 use Rattle.dmlw_script.proofs.HeadLaws.{bodiless, data_push, fine_head, head_kept, head_taken}
-use Rattle.dmlw_script.proofs.HeadLaws.{layer_lines, layers_again, log_push, sizes_again}
-use Rattle.dmlw_script.proofs.HeadLaws.{data_size, data_top, log_size, log_top, Takes, IsFineHead}
-use Rattle.dmlw_script.proofs.HeadLaws.{IsHead}
+use Rattle.dmlw_script.proofs.HeadLaws.{layer_lines, layers_again, log_push, sizes_again, data_size}
+use Rattle.dmlw_script.proofs.HeadLaws.{data_top, log_size, log_top, Takes, IsFineHead, IsHead}
 
--- ---- what is heard of single lines
-
--- what is known of a line from its words alone
+-- What a line's own words guarantee about its meaning.
 abbrev pub IsFineLine : LineMeaning → Type 0
 IsFineLine (parsed_lines.Head line) = IsFineHead line
 IsFineLine (parsed_lines.Body line) = IsFine line
 IsFineLine (parsed_lines.Crash picks) = AllByRecursion (λ pick. pick < 2 ^ 64) picks
 
--- numbers are below 2 ^ 64
 numbers_low : (picks : List ℕ) (left : Option (List ℕ)) → HasFields (map number picks) left
     → AllByRecursion (λ pick. pick < 2 ^ 64) picks
 numbers_low [] left has = tt
@@ -65,7 +60,6 @@ numbers_low (pick ∷ picks) None has = absurd has
 numbers_low (pick ∷ picks) (Some words) has =
     (number_low (before_byte 32 words) pick (number_read (before_byte 32 words) pick has.0), numbers_low picks (after_byte 32 words) has.1)
 
--- a write writes a byte
 pub fine_submission : (s : Submission) (left : Option (List ℕ)) → HasFields (submission_fields s) left
     → WritesByte s
 fine_submission (submits.Write first count byte options) left has =
@@ -77,7 +71,6 @@ fine_submission (submits.Write first count byte options) left has =
     byte_low (before_byte 32 b.0) byte b.2
 fine_submission s left has = tt
 
--- what a line says is fine
 fine_left : (s : LineMeaning) (verb : List ℕ) (left : Option (List ℕ))
     → Says verb left (fields_of s) → IsFineLine s
 fine_left (parsed_lines.Head said) verb left says = fine_head said verb left says
@@ -100,18 +93,13 @@ fine_left s verb left says = tt
 pub fine_said : (line : List ℕ) (s : LineMeaning) → ParsesAs line s → IsFineLine s
 fine_said line s says = fine_left s (before_byte 32 line) (after_byte 32 line) says
 
--- ---- what was read
-
--- nothing was read of the body
 abbrev pub no_body : Body
 no_body = record { names = []; body = [] }
 
--- nothing is sound
 pub no_body_sound : (bytes sectors : ℕ) → IsSound bytes sectors no_body
 unfolding IsDistinct
 no_body_sound bytes sectors = record { ids = tt; distinct = tt; numbered = refl; well_formed = tt }
 
--- a body's plan, with the crash that ends it
 abbrev pub ended_plan : Disk → Disk → SectorSize → Option (List ℕ) → Body → ScriptValue
 ended_plan d l size ending b =
     record {
@@ -123,15 +111,12 @@ ended_plan d l size ending b =
       ending = ending;
     }
 
--- a body's plan, with no crash
 abbrev pub plan_of : Disk → Disk → SectorSize → Body → ScriptValue
 plan_of d l size b = ended_plan d l size None b
 
--- this was read
 abbrev pub at : Stage → Body → Progress
 at h b = record { head = h; body = b }
 
--- what was read of the body is the beginning of one
 abbrev pub HasBody : Stage → Body → Type 0
 HasBody heads.Empty b = b ≡ no_body
 HasBody (heads.Data d) b = b ≡ no_body
@@ -139,33 +124,30 @@ HasBody (heads.Whole d l size) b = IsSound (bytes_of size) (top_of d) b
 HasBody (heads.Ended d l size picks) b =
     IsSound (bytes_of size) (top_of d) b × AllByRecursion (λ pick. pick < 2 ^ 64) picks
 
--- what was read is the beginning of a script
+-- The state is that of a reader that has read a prefix of a script.
 abbrev pub IsBegun : Progress → Type 0
 IsBegun p = IsHead p.head × HasBody p.head p.body
 
--- the lines of the head, as far as it was read
 abbrev pub lines_of_head : Stage → List LineMeaning
 lines_of_head heads.Empty = []
 lines_of_head (heads.Data d) = parsed_lines.Head (head_lines.Data d.sectors) ∷ []
 lines_of_head (heads.Whole d l size) = head_of d l size
 lines_of_head (heads.Ended d l size picks) = head_of d l size
 
--- the crash that was read, if one was
 abbrev pub ending_of : Stage → Option (List ℕ)
 ending_of heads.Empty = None
 ending_of (heads.Data d) = None
 ending_of (heads.Whole d l size) = None
 ending_of (heads.Ended d l size picks) = Some picks
 
--- the lines that were read
 abbrev pub lines_of_progress : Progress → List LineMeaning
 lines_of_progress p = lines_of_head p.head ++ with_ending (ending_of p.head) (lines_of_draft p.body)
 
--- what was read is the beginning of a script, and its lines are these and one more
+-- The state `q` is the state `p` after one more line with the meaning `s`.
 abbrev pub GrowsBy : Progress → Progress → LineMeaning → Type 0
 GrowsBy p q s = IsBegun q × (lines_of_progress q ≡ lines_of_progress p ++ s ∷ [])
 
--- a body with no commands is sound over any sectors
+-- This lets a layer of the data disk change the number of sectors before the body begins.
 sound_anew : (bytes sectors other : ℕ) (names : List ScriptId)
     → IsSound bytes sectors (record { names = names; body = [] })
     → IsSound bytes other (record { names = names; body = [] })
@@ -177,11 +159,10 @@ sound_anew bytes sectors other names sound =
       well_formed = tt;
     }
 
--- the lines of both disks, and others
 abbrev first_two : Disk → Disk → SectorSize → List LineMeaning → List LineMeaning
 first_two d l size more = data_line d.sectors ∷ log_line l.sectors size ∷ more
 
--- what a line of the head leaves of the body, and the lines that were read with it
+-- A head line keeps the condition on the body, and adds one line to those that were read.
 head_adds : (h k : Stage) (names : List ScriptId) (body : List Command) (line : HeadLine)
     → Takes (has_begun body) h line k → IsBegun (at h (record { names = names; body = body }))
     → HasBody k (record { names = names; body = body })
@@ -211,7 +192,6 @@ head_adds h k names (command ∷ body) line (data_top d l size spec may none fit
     absurd (cc)
 head_adds h k names (command ∷ body) line (log_top d l size spec may fits) begun = absurd (cc)
 
--- one more line of the body
 body_grows : (h : Stage) (b : Body) (q : Progress) (line : BodyLine)
     → body_line h (at h b) line ≡ Ok q → IsFine line → IsBegun (at h b)
     → GrowsBy (at h b) q (parsed_lines.Body line)
@@ -228,7 +208,6 @@ body_grows (heads.Whole d l size) b q line e fine begun =
     )
 body_grows h b q line e fine begun = absurd (cc e)
 
--- a crash
 crash_grows : (h : Stage) (b : Body) (q : Progress) (picks : List ℕ)
     → crash_line h (at h b) picks ≡ Ok q → AllByRecursion (λ pick. pick < 2 ^ 64) picks
     → IsBegun (at h b) → GrowsBy (at h b) q (parsed_lines.Crash picks)
@@ -242,7 +221,6 @@ crash_grows (heads.Whole d l size) b q picks e low begun =
     )
 crash_grows h b q picks e low begun = absurd (cc e)
 
--- one more line
 pub line_grows : (p q : Progress) (s : LineMeaning) → parsed_step p s ≡ Ok q → IsFineLine s
     → IsBegun p → GrowsBy p q s
 line_grows p q (parsed_lines.Head line) e fine begun =
@@ -256,7 +234,6 @@ line_grows p q (parsed_lines.Body line) e fine begun = body_grows p.head p.body 
 line_grows p q (parsed_lines.Crash picks) e fine begun =
     crash_grows p.head p.body q picks e fine begun
 
--- a sound body makes a script
 sound_plan : (d l : Disk) (size : SectorSize) (ending : Option (List ℕ)) (b : Body)
     → IsHead (heads.Whole d l size) → IsSound (bytes_of size) (top_of d) b → ArePicks ending
     → IsPlan (ended_plan d l size ending b)
@@ -271,7 +248,6 @@ sound_plan d l size ending b is sound picks = record {
   picks = picks;
 }
 
--- what was read, at the end of a text
 pub finished_read : (h : Stage) (b : Body) (plan : ScriptValue) → finished h b ≡ Ok plan
     → IsBegun (at h b) → (lines_of_progress (at h b) ≡ lines_of_script plan) × IsPlan plan
 finished_read (heads.Whole d l size) b plan e begun =
@@ -284,9 +260,6 @@ finished_read (heads.Ended d l size picks) b plan e begun =
     (refl, sound_plan d l size (Some picks) b begun.0 begun.1.0 begun.1.1)
 finished_read h b plan e begun = absurd (cc e)
 
--- ---- the lines of a script are read as it
-
--- a body's lines and the crash behind them lead to the script that it ends
 ending_again : (d l : Disk) (size : SectorSize) (b : Body) (ss : List LineMeaning)
     (ending : Option (List ℕ)) → run (in_draft d l size no_body) ss ≡ Ok (in_draft d l size b)
     → (q : Progress) × (run (in_draft d l size no_body) (with_ending ending ss) ≡ Ok q)
@@ -299,7 +272,6 @@ ending_again d l size b ss (Some picks) read = (
   refl,
 )
 
--- the lines of a script are read as it
 pub script_again : (plan : ScriptValue) → IsPlan plan
     → (run nothing (lines_of_script plan) >>= finish_step) ≡ Ok plan
 script_again plan is =
@@ -336,7 +308,6 @@ script_again plan is =
     ∙ end.1 in
     bind_at _ _ _ _ (bind_at _ _ _ _ one (bind_at _ _ _ _ two rest)) end.2
 
--- a recorder's reader
 abbrev pub recorder : Reader Progress LineMeaning ScriptValue
 recorder = record {
   parse = parse_line;

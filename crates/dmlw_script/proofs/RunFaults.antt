@@ -1,4 +1,4 @@
--- Why the reader of run's scripts refuses a text. These are the facts that `FaultLaws` needs.
+-- Proves why the reader of run's scripts refuses a text: the facts that `FaultLaws` needs.
 use Rattle.std.proofs.Common.{◌≡◌, ℕ, ◌<◌, true, false, List, [], ◌∷◌, ◌++◌, Option, Some, None, Ok}
 use Rattle.std.proofs.Common.{Err, ◌⊎◌, inl, inr, ⊎_elim, refl, ap, ◌∙◌, sym}
 use Rattle.std.specs.Prelude.{Result, codes, map, nat_le, nat_lt}
@@ -33,21 +33,17 @@ use Rattle.dmlw_script.specs.inside.Readers.{with_call}
 use Rattle.dmlw_script.specs.inside.Stages.{Stage}
 use Rattle.dmlw_script.specs.inside.Stages as heads
 use Rattle.dmlw_script.proofs.ReaderLaws.{made_err}
-use Rattle.dmlw_script.proofs.HeadLaws.{after_both, after_layers, asked_refusal, bare_is}
-use Rattle.dmlw_script.proofs.HeadLaws.{cond_err, head_refused, layer_lines, misplaced, no_layer}
-use Rattle.dmlw_script.proofs.HeadLaws.{tested_err, HeadRefused, HeadStands}
+use Rattle.dmlw_script.proofs.HeadLaws.{after_both, after_layers, asked_refusal, bare_is, cond_err}
+use Rattle.dmlw_script.proofs.HeadLaws.{head_refused, layer_lines, misplaced, no_layer, tested_err}
+use Rattle.dmlw_script.proofs.HeadLaws.{HeadRefused, HeadStands}
 use Rattle.dmlw_script.proofs.RecorderFaults.{answered_err}
 use Rattle.dmlw_script.proofs.RunLaws.{lines_so_far, run_at, run_plan, runner, seated, IsRunBegun}
 use Rattle.dmlw_script.proofs.FaultLaws.{Completes, Faults}
 
--- ---- what may come next
-
--- how much a head of so many seats and these calls are
 abbrev pub seated_prefix : Disk → Disk → ℕ → List SeatCall → RunPrefix
 seated_prefix d l seats [] = in_head d l seats
 seated_prefix d l seats (line ∷ done) = in_body seats
 
--- how much was read
 abbrev pub prefix_of : Stage → Option ℕ → List SeatCall → RunPrefix
 prefix_of heads.Empty seats done = data_due
 prefix_of (heads.Data d) seats done = log_due d
@@ -55,23 +51,19 @@ prefix_of (heads.Whole d l size) None done = seats_due d l
 prefix_of (heads.Whole d l size) (Some seats) done = seated_prefix d l seats done
 prefix_of (heads.Ended d l size picks) seats done = at_end
 
--- the same of all that was read
 abbrev pub prefix_at : RunProgress → RunPrefix
 prefix_at q = prefix_of q.head q.seats q.calls
 
--- after a body
 after_body : (seats : ℕ) (done : List SeatCall)
     → prefix_after (in_body seats) (map run_lines.Body done) ≡ in_body seats
 after_body seats [] = refl
 after_body seats (line ∷ done) = after_body seats done
 
--- after a head and a body
 after_calls : (d l : Disk) (seats : ℕ) (done : List SeatCall)
     → prefix_after (in_head d l seats) (map run_lines.Body done) ≡ seated_prefix d l seats done
 after_calls d l seats [] = refl
 after_calls d l seats (line ∷ done) = after_body seats done
 
--- after both disks, the number of seats, the layers and a body
 after_seats : (d l : Disk) (seats : ℕ) (done : List SeatCall) →
     prefix_after (in_head (bare d.sectors) (bare l.sectors) seats)
     (layer_lines data_layer log_layer d l ++ map run_lines.Body done)
@@ -83,7 +75,6 @@ after_seats d l seats done =
     (λ p s ss. refl) (λ (x y : Disk). in_head x y seats) (λ x y layer. refl) (λ x y layer.
     refl) d l) (after_calls d l seats done)
 
--- after the lines that were read
 pub after_lines : (h : Stage) (seats : Option ℕ) (done : List SeatCall)
     → IsRunBegun (run_at h seats done)
     → prefix_after data_due (lines_so_far h seats done) ≡ prefix_of h seats done
@@ -94,9 +85,6 @@ after_lines (heads.Whole d l size) None [] begun =
 after_lines (heads.Whole d l size) (Some seats) done begun = after_seats d l seats done
 after_lines h seats done begun = absurd (begun.1)
 
--- ---- what was read begins a script
-
--- the lines of the head that are missing complete a script
 pub completes : (h : Stage) (seats : Option ℕ) (done : List SeatCall) (number : ℕ)
     → IsRunBegun (run_at h seats done) → Completes runner (run_at h seats done) number
 completes heads.Empty None [] number begun =
@@ -117,30 +105,24 @@ completes (heads.Whole d l size) (Some seats) done number begun =
     record { more = []; plan = run_plan d l size seats done; read = refl }
 completes h seats done number begun = absurd (begun.1)
 
--- a text that can't end yet is a bad line
 pub unfinished_is : (h : Stage) (seats : Option ℕ) (done : List SeatCall) (refusal : Refusal)
     → finished_run h seats done ≡ Err refusal → refusal ≡ BadLine
 unfinished_is (heads.Whole d l size) (Some seats) done refusal e = absurd (cc)
 unfinished_is h seats done refusal e = cc
 
--- ---- why a line is refused
-
--- why a line is refused that says this: it may not stand there,
--- or what was read is a script after which it is refused
+-- Either the line may not follow, or what was read is a script, after which the line is refused.
 abbrev pub Refuses : RunProgress → RunLine → Refusal → Type 0
 Refuses q said refusal =
     ((MayFollowInRun (prefix_at q) said → ⊥) × (BadLine ≡ refusal))
     ⊎ (MayFollowInRun (prefix_at q) said × (plan : RunPlan) × (run_finish_step q ≡ Ok plan)
     × (line_refusal plan said ≡ Some refusal))
 
--- it is why a line of the head is refused
 head_refusal_is : (plan : RunPlan) (over : DiskName) (asked : Result LayerSpec TableError) →
     head_refusal plan (head_lines.Layer over asked)
     ≡ asked_refusal (least_sectors over plan.log_size) (run_disk over plan) asked
 head_refusal_is plan over (Err error) = refl
 head_refusal_is plan over (Ok spec) = refl
 
--- a line of the head that may stand after what was read may stand in the head
 stood_head : (h : Stage) (seats : Option ℕ) (done : List SeatCall) (line : HeadLine)
     → MayFollowInRun (prefix_of h seats done) (run_lines.Head line)
     → HeadStands h line (is_closed seats done)
@@ -151,7 +133,6 @@ stood_head (heads.Whole d l size) (Some seats) [] (head_lines.Layer disks.Data a
 stood_head (heads.Whole d l size) (Some seats) [] (head_lines.Layer disks.Log asked) stands = stands
 stood_head h seats done line stands = absurd stands
 
--- why a line of the head is refused
 head_refuses : (h : Stage) (seats : Option ℕ) (done : List SeatCall) (line : HeadLine)
     (refusal : Refusal) → HeadRefused (is_closed seats done) refusal h line
     → Refuses (run_at h seats done) (run_lines.Head line) refusal
@@ -167,7 +148,6 @@ head_refuses h None done line refusal (no_layer d l size over asked may stands w
 head_refuses h (Some seats) (one ∷ done) line refusal
     (no_layer d l size over asked may stands why) = absurd (cc)
 
--- the number of seats stands behind nothing but both disks
 seats_refused : (h : Stage) (seats : Option ℕ) (done : List SeatCall) (count : ℕ)
     (refusal : Refusal) →
     seats_line h seats (run_at h seats done) count ≡ Err refusal
@@ -185,21 +165,18 @@ seats_refused (heads.Whole d l size) None done count refusal e =
     )
 seats_refused h seats done count refusal e = inl (λ stands. stands, cc)
 
--- a line of the body stands where its seat is one of so many
 stands_body : (d l : Disk) (seats : ℕ) (done : List SeatCall) (line : SeatCall)
     → line.seat < seats →
     MayFollowInRun (seated_prefix d l seats done) (run_lines.Body line)
 stands_body d l seats [] line below = below
 stands_body d l seats (one ∷ done) line below = below
 
--- and no other
 stood_body : (d l : Disk) (seats : ℕ) (done : List SeatCall) (line : SeatCall)
     → MayFollowInRun (seated_prefix d l seats done) (run_lines.Body line) →
     line.seat < seats
 stood_body d l seats [] line stands = stands
 stood_body d l seats (one ∷ done) line stands = stands
 
--- why a line of the body is refused
 call_refused : (h : Stage) (seats : Option ℕ) (done : List SeatCall) (line : SeatCall)
     (refusal : Refusal) →
     call_line h seats (run_at h seats done) line ≡ Err refusal
@@ -227,7 +204,6 @@ call_refused (heads.Whole d l size) (Some seats) done line refusal e =
     (tested_err (nat_lt line.seat seats) (with_call p line (as_refusal answer)) BadLine refusal e)
 call_refused h seats done line refusal e = inl (λ stands. stands, cc)
 
--- why a line is refused
 pub said_refused : (q : RunProgress) (said : RunLine) (refusal : Refusal)
     → said_step q said ≡ Err refusal → Refuses q said refusal
 said_refused q (run_lines.Head line) refusal e =
@@ -239,7 +215,6 @@ said_refused q (run_lines.Seats count) refusal e =
     seats_refused q.head q.seats q.calls count refusal e
 said_refused q (run_lines.Body line) refusal e = call_refused q.head q.seats q.calls line refusal e
 
--- why a line is at fault
 pub why_fault : (before : List (List ℕ)) (line : List ℕ) (refusal : Refusal)
     → IsRunLineFault before line refusal
     → (((s : RunLine) → IsRunLineAfter before line s → ⊥) × (refusal ≡ BadLine))
@@ -248,7 +223,6 @@ pub why_fault : (before : List (List ℕ)) (line : List ℕ) (refusal : Refusal)
 why_fault before line refusal (bad_line never) = inl (never, refl)
 why_fault before line refusal (refused s plan why at spells is) = inr (s, plan, at, spells, is)
 
--- the faults of a run's texts
 abbrev pub runner_faults : Faults runner RunPrefix
 runner_faults = record {
   after = prefix_after data_due;

@@ -1,6 +1,5 @@
--- What the reader of run's scripts has read. These are the facts that `ReaderLaws` needs.
--- The parser finds a meaning of a line of a run's script exactly if the line has the fields of this
--- meaning.
+-- Proves what the reader of run's scripts has read: the facts that `ReaderLaws` needs.
+-- Its parser finds a meaning of a line exactly if the line has the fields of this meaning.
 use Rattle.std.proofs.Common.{None, ⊎_elim, Ok, refl, ap, ◌∙◌, sym, subst, ◌≡◌, ℕ, ◌≤◌, true, false}
 use Rattle.std.proofs.Common.{List, [], ◌∷◌, ◌++◌, append_assoc, Option, Some}
 use Rattle.std.specs.Prelude.{◌==◌, codes, map, nat_le, nat_lt, Result}
@@ -57,9 +56,6 @@ use Rattle.dmlw_script.specs.RunPlans.{IsAllowed, FitsLine, IsRunPlan, RunPlan, 
 use Rattle.dmlw_script.specs.RunPlans.{data_layer, lines_of_run, log_layer, run_head}
 use Rattle.dmlw_script.specs.Words.{is_line_text, is_skipped}
 
--- ---- what is heard is said
-
--- what is heard as a seat's mark
 seat_mark_read : (left : Option (List ℕ)) (call : Call) → mark_call left ≡ Some call
     → SaysLine (codes "mark") left (call_fields call)
 seat_mark_read None call e = absurd (cc)
@@ -67,7 +63,6 @@ seat_mark_read (Some text) call e =
     let p = cond_some (is_line_text text) (calls.Mark text) call e in
     subst (λ (x : Call). SaysLine (codes "mark") (Some text) (call_fields x)) p.1 (refl, (p.0, refl))
 
--- what is heard of what a seat does is said
 call_read : (verb : List ℕ) (left : Option (List ℕ)) (call : Call) → call_of verb left ≡ Some call
     → SaysLine verb left (call_fields call)
 call_read verb left call =
@@ -76,7 +71,6 @@ call_read verb left call =
     (λ e. let p = map_some calls.Submit (submission_of verb left) call e in
     subst (λ (x : Call). SaysLine verb left (call_fields x)) p.2 (submission_read verb left p.0 p.1))
 
--- the fields of a call are left where they are said, and the other way round
 call_left : (call : Call) (words : List ℕ) → IsLineWith words (call_fields call)
     → HasFields (all_of (call_fields call)) (Some words)
 call_left (calls.Submit submission) words says = says
@@ -88,7 +82,6 @@ left_call (calls.Submit submission) (Some words) has = (words, refl, has)
 left_call (calls.Mark text) (Some words) has = (words, refl, has)
 left_call call left has = absurd has
 
--- a word that names a seat is `s` and its number
 seat_read : (verb : List ℕ) (seat : ℕ) → seat_of verb ≡ Some seat → IsWord verb (Seat seat)
 seat_read [] seat e = absurd (cc)
 seat_read (byte ∷ word) seat e =
@@ -96,11 +89,9 @@ seat_read (byte ∷ word) seat e =
     (word, is, rw (eqb-true byte 115 s)))
     (λ other none. absurd (cc none))
 
--- the line says this, by its first word and the others
 abbrev SaysRun : List ℕ → List ℕ → RunLine → Type 0
 SaysRun words verb said = SaysLine verb (Some words) (run_fields said)
 
--- what is heard as a seat's line is said
 seat_line_read : (verb words : List ℕ) (said : RunLine) → seat_line verb words ≡ Some said
     → SaysRun words verb said
 seat_line_read verb words said e =
@@ -110,7 +101,6 @@ seat_line_read verb words said e =
     (same_some (run_lines.Body (record { seat = a.0; call = b.0 })) said b.2)
     (seat_read verb a.0 a.1, call_left b.0 words (call_read _ _ b.0 b.1))
 
--- what is heard as a line of a run's head is said
 run_head_read : (verb words : List ℕ) (said : RunLine) → run_head_line verb words ≡ Some said
     → SaysRun words verb said
 run_head_read verb words said =
@@ -122,7 +112,6 @@ run_head_read verb words said =
     let p = map_some run_lines.Head (head_words verb words) said head in
     subst (λ (x : RunLine). SaysRun words verb x) p.2 (head_read verb words p.0 p.1))
 
--- what is heard of the parts of a line is said
 run_parts_read : (verb : List ℕ) (left : Option (List ℕ)) (said : RunLine)
     → run_line_parts verb left ≡ Some said → SaysLine verb left (run_fields said)
 run_parts_read verb None said e = absurd (cc)
@@ -130,14 +119,10 @@ run_parts_read verb (Some words) said e =
     ⊎_elim (run_head_read verb words said) (seat_line_read verb words said)
     (first_some (run_head_line verb words) _ said e)
 
--- what is heard is said
 pub says_run : (line : List ℕ) (said : RunLine) → parse_run_line line ≡ Some said
     → MeansLine line said
 says_run line said e = run_parts_read (before_byte 32 line) (after_byte 32 line) said e
 
--- ---- what is said is heard
-
--- what a seat does is heard as it is
 call_again : (call : Call) (words : List ℕ) → IsLineWith words (call_fields call)
     → call_of (before_byte 32 words) (after_byte 32 words) ≡ Some call
 call_again (calls.Submit submission) words says =
@@ -150,7 +135,7 @@ call_again (calls.Mark text) words says =
     ap (λ (v : List ℕ). call_of v (after_byte 32 words)) says.0
     ∙ ap (call_of (codes "mark")) t.0 ∙ cond-true _ _ _ t.1
 
--- a seat's first word isn't that of the number of seats
+-- A seat's word is `s` and a number, so it is never the word `seats`.
 not_seats : (word : List ℕ) (seat : ℕ) → number_of word ≡ Some seat
     → bytes_eq word (codes "eats") ≡ false
 not_seats word seat is =
@@ -161,17 +146,14 @@ not_seats word seat is =
     (λ (other : bytes_eq word (codes "eats") ≡ false). other)
     (cases_Bool (bytes_eq word (codes "eats")))
 
--- a seat's line is no line of a head
 not_head : (word words : List ℕ) (seat : ℕ) → number_of word ≡ Some seat
     → run_head_line (codes "s" ++ word) words ≡ None
 not_head word words seat is =
     rw (not_seats word seat is)
 
--- what is heard of a line that a recorder's head may have too
 abbrev heard_head : Option HeadLine → Option RunLine
 heard_head s = option_or (option_map run_lines.Head s) None
 
--- what the parts of a line say is heard
 run_parts_again : (said : RunLine) (verb : List ℕ) (left : Option (List ℕ))
     → SaysLine verb left (run_fields said) → run_line_parts verb left ≡ Some said
 run_parts_again (run_lines.Head (head_lines.Data n)) verb (Some words) says =
@@ -196,31 +178,25 @@ run_parts_again (run_lines.Body said) verb left says =
     (bind_word_at _ _ _ _ (call_again said.call l.0 l.2) refl)
 run_parts_again said verb left says = absurd says.1
 
--- what is said is heard
 pub parses_run : (line : List ℕ) (said : RunLine) → MeansLine line said
     → parse_run_line line ≡ Some said
 parses_run line said says = run_parts_again said (before_byte 32 line) (after_byte 32 line) says
 
--- nothing is heard of a comment
 comment_parts : (word : List ℕ) (rest : Option (List ℕ)) → run_line_parts (35 ∷ word) rest ≡ None
 comment_parts word None = refl
 comment_parts word (Some words) = refl
 
--- a line that says something isn't skipped
 pub run_said_kept : (line : List ℕ) (said : RunLine) → MeansLine line said → is_skipped line ≡ false
 run_said_kept line said says =
     kept_by parse_run_line refl (λ l. comment_parts (before_byte 32 l) (after_byte 32 l)) line said
     (parses_run line said says)
 
--- ---- what is known of single lines
-
--- what is known of a line from its words alone
+-- What a line's own words guarantee about its meaning.
 abbrev pub IsFineRunLine : RunLine → Type 0
 IsFineRunLine (run_lines.Head line) = IsFineHead line
 IsFineRunLine (run_lines.Seats count) = Unit {0}
 IsFineRunLine (run_lines.Body line) = FitsLine line.call
 
--- what a call says may stand in a line
 fine_call : (call : Call) (left : Option (List ℕ)) → HasFields (all_of (call_fields call)) left
     → FitsLine call
 fine_call (calls.Submit submission) (Some words) has =
@@ -229,29 +205,23 @@ fine_call (calls.Mark text) (Some words) has =
     let t = text_left text (after_byte 32 words) has.1 in t.1
 fine_call call left has = absurd has
 
--- what a line says is fine
 pub fine_run_line : (line : List ℕ) (said : RunLine) → MeansLine line said → IsFineRunLine said
 fine_run_line line (run_lines.Head said) says =
     fine_head said (before_byte 32 line) (after_byte 32 line) says
 fine_run_line line (run_lines.Seats count) says = tt
 fine_run_line line (run_lines.Body said) says = fine_call said.call (after_byte 32 line) says.1
 
--- ---- what was read begins a script
-
--- what was read
 abbrev pub run_at : Stage → Option ℕ → List SeatCall → RunProgress
 run_at head seats calls = record { head = head; seats = seats; calls = calls }
 
--- the head is whole, with so many seats, and these lines of the body were read
 abbrev pub seated : Disk → Disk → SectorSize → ℕ → List SeatCall → RunProgress
 seated d l size seats calls = run_at (heads.Whole d l size) (Some seats) calls
 
--- the script of these
 abbrev pub run_plan : Disk → Disk → SectorSize → ℕ → List SeatCall → RunPlan
 run_plan d l size seats calls =
     record { data_disk = d; log_disk = l; log_size = size; seats = seats; calls = calls }
 
--- the number of seats and the calls that were read are those of a script
+-- Before the number of seats is read, there are no layers and no calls.
 abbrev pub HasSeats : Stage → Option ℕ → List SeatCall → Type 0
 HasSeats heads.Empty None [] = Unit {0}
 HasSeats (heads.Data d) None [] = Unit {0}
@@ -260,11 +230,10 @@ HasSeats (heads.Whole d l size) (Some seats) calls =
     (1 ≤ seats) × (seats ≤ 64) × AllByRecursion (IsAllowed (bytes_of size) (top_of d) seats) calls
 HasSeats _ _ _ = ⊥
 
--- what was read is the beginning of a script
+-- The state is that of a reader that has read a prefix of a run's script.
 abbrev pub IsRunBegun : RunProgress → Type 0
 IsRunBegun p = IsHead p.head × HasSeats p.head p.seats p.calls
 
--- the lines that were read
 abbrev pub lines_so_far : Stage → Option ℕ → List SeatCall → List RunLine
 lines_so_far (heads.Data d) seats calls = run_lines.Head (head_lines.Data d.sectors) ∷ []
 lines_so_far (heads.Whole d l size) None calls =
@@ -273,22 +242,20 @@ lines_so_far (heads.Whole d l size) (Some seats) calls =
     lines_of_run (run_plan d l size seats calls)
 lines_so_far _ seats calls = []
 
--- the same of all that was read
 abbrev pub lines_of_progress : RunProgress → List RunLine
 lines_of_progress p = lines_so_far p.head p.seats p.calls
 
--- what was read is the beginning of a script, and its lines are these and one more
+-- The state `q` is the state `p` after one more line with the meaning `said`.
 abbrev pub GrowsTo : RunProgress → RunProgress → RunLine → Type 0
 GrowsTo p q said =
     IsRunBegun q × (lines_of_progress q ≡ lines_of_progress p ++ said ∷ [])
 
--- the first three lines of a head, and others
 abbrev three : Disk → Disk → SectorSize → ℕ → List RunLine → List RunLine
 three d l size seats more =
     run_lines.Head (head_lines.Data d.sectors) ∷ run_lines.Head
     (head_lines.Log l.sectors size) ∷ run_lines.Seats seats ∷ more
 
--- what a line of the head leaves of the seats, and the lines that were read with it
+-- A head line keeps the condition on the seats, and adds one line to those that were read.
 head_adds : (h k : Stage) (seats : Option ℕ) (done : List SeatCall) (line : HeadLine)
     → Takes (is_closed seats done) h line k → IsRunBegun (run_at h seats done)
     → HasSeats k seats done
@@ -310,7 +277,6 @@ head_adds h k (Some seats) (one ∷ done) line (data_top d l size spec may none 
 head_adds h k (Some seats) (one ∷ done) line (log_top d l size spec may fits) begun = absurd (cc)
 head_adds h k seats done line taken begun = absurd (begun.1)
 
--- the number of seats
 seats_grown : (h : Stage) (seats : Option ℕ) (done : List SeatCall) (q : RunProgress) (count : ℕ)
     → seats_line h seats (run_at h seats done) count ≡ Ok q → IsRunBegun (run_at h seats done)
     → GrowsTo (run_at h seats done) q (run_lines.Seats count)
@@ -327,7 +293,6 @@ seats_grown (heads.Whole d l size) None [] q count e begun =
     )
 seats_grown h seats done q count e begun = absurd (cc e)
 
--- one more line of the body
 call_grown : (h : Stage) (seats : Option ℕ) (done : List SeatCall) (q : RunProgress)
     (line : SeatCall) → call_line h seats (run_at h seats done) line ≡ Ok q →
     FitsLine line.call → IsRunBegun (run_at h seats done) →
@@ -359,7 +324,6 @@ call_grown (heads.Whole d l size) (Some seats) done q line e fine begun =
     )
 call_grown h seats done q line e fine begun = absurd (cc e)
 
--- one more line
 pub said_grown : (p q : RunProgress) (said : RunLine) → said_step p said ≡ Ok q
     → IsFineRunLine said → IsRunBegun p → GrowsTo p q said
 said_grown p q (run_lines.Head line) e fine begun =
@@ -374,7 +338,6 @@ said_grown p q (run_lines.Seats count) e fine begun =
 said_grown p q (run_lines.Body line) e fine begun =
     call_grown p.head p.seats p.calls q line e fine begun
 
--- what was read, at the end of a text
 pub finished_grown : (h : Stage) (seats : Option ℕ) (done : List SeatCall) (plan : RunPlan)
     → finished_run h seats done ≡ Ok plan → IsRunBegun (run_at h seats done)
     → (lines_so_far h seats done ≡ lines_of_run plan) × IsRunPlan plan
@@ -393,10 +356,6 @@ finished_grown (heads.Whole d l size) (Some seats) done plan e begun =
     )
 finished_grown h seats done plan e begun = absurd (cc e)
 
--- ---- the lines of a script are read as it
-
--- the lines of a body give it again: those after its
--- beginning lead from there to all of it
 calls_read : (d l : Disk) (size : SectorSize) (seats : ℕ) (done lines : List SeatCall)
     → AllByRecursion (IsAllowed (bytes_of size) (top_of d) seats) lines →
     fold said_step (seated d l size seats done) (map run_lines.Body lines)
@@ -412,7 +371,6 @@ calls_read d l size seats done (line ∷ lines) all =
     ∙ ap (λ (ls : List SeatCall). Ok (seated d l size seats ls))
     (append_assoc done (line ∷ []) lines))
 
--- the lines of a script lead to it
 pub script_read : (plan : RunPlan) → IsRunPlan plan
     → (fold said_step nothing_read (lines_of_run plan) >>= run_finish_step) ≡ Ok plan
 script_read plan is =
@@ -448,7 +406,6 @@ script_read plan is =
     ∙ calls_read d l size seats [] plan.calls is.calls in
     bind_at _ _ _ _ (bind_at _ _ _ _ one (bind_at _ _ _ _ two (bind_at _ _ _ _ third rest))) refl
 
--- a run's reader
 abbrev pub runner : Reader RunProgress RunLine RunPlan
 runner = record {
   parse = parse_run_line;

@@ -1,9 +1,8 @@
--- Laws of whole recorder's scripts: their texts, skipped lines, the lines of commands, and the ends
--- of requests. Serves `scripts_have_own_texts` and `requests_end_once`, among other laws of
+-- Proves the laws of a whole recorder's script, such as `requests_end_once`, that are in
 -- `laws.rt`.
-use Rattle.std.proofs.Common.{◌≡◌, ℕ, zero, suc, ◌+◌, ◌<◌, ◌≤◌, Bool, true, false, not, cond}
-use Rattle.std.proofs.Common.{List, [], ◌∷◌, ◌++◌, length, Option, Some, None, ⊎_elim, get_or, refl}
-use Rattle.std.proofs.Common.{ap, ◌∙◌, sym, subst, arith, append_assoc}
+use Rattle.std.proofs.Common.{◌≡◌, ℕ, zero, suc, ◌+◌, ◌<◌, ◌≤◌, Bool, true, false, not, cond, List}
+use Rattle.std.proofs.Common.{[], ◌∷◌, ◌++◌, length, Option, Some, None, ⊎_elim, get_or, refl, ap}
+use Rattle.std.proofs.Common.{◌∙◌, sym, subst, arith, append_assoc}
 use Rattle.std.specs.Prelude.{is_some, slice_get}
 use Rattle.std.specs.List.{AllByRecursion, AllZip}
 use Rattle.std.proofs.lemmas.Bool.{cases_lt, eq-eqb}
@@ -23,59 +22,47 @@ use Rattle.dmlw_script.specs.Grammar.{canonical_text, IsLineOf, ParsesAs, IsText
 use Rattle.dmlw_script.specs.Words.{unskipped_numbers, lines_of, command_line, is_ascii_line}
 use Rattle.dmlw_script.specs.Words.{is_skipped, unskipped}
 use Rattle.dmlw_script.specs.Plans.{count_after_command, count_after_head, head_count, head_of}
-use Rattle.dmlw_script.specs.Plans.{lines_after_head, lines_of_body}
-use Rattle.dmlw_script.specs.Plans.{is_ended, lines_of_script, top_of, with_ending, IsWellFormed}
-use Rattle.dmlw_script.specs.Plans.{IsPlan, CanFollow, ScriptValue}
+use Rattle.dmlw_script.specs.Plans.{lines_after_head, lines_of_body, is_ended, lines_of_script}
+use Rattle.dmlw_script.specs.Plans.{top_of, with_ending, IsWellFormed, IsPlan, CanFollow}
+use Rattle.dmlw_script.specs.Plans.{ScriptValue}
 use Rattle.dmlw_script.proofs.CanonicalTextLaws.{spelling_spells}
 use Rattle.dmlw_script.proofs.FaultLaws.{longer}
 use Rattle.dmlw_script.proofs.RecorderLaws.{recorder}
 use Rattle.dmlw_script.proofs.LineParserLaws.{said_kept}
 
--- ---- spellings
-
--- scripts of one text are one
 pub same_from_spelling : (plan other : ScriptValue) → IsPlan plan → IsPlan other
     → canonical_text plan ≡ canonical_text other → plan ≡ other
 same_from_spelling plan other is_plan is_other same =
     one_script recorder (lines_of (canonical_text plan)) plan other (spelling_spells plan is_plan)
     (subst (λ (text : List ℕ). IsTextOf text other) (sym same) (spelling_spells other is_other))
 
--- ---- skipped lines
-
--- a line that is skipped isn't kept
 kept_without : (before after : List (List ℕ)) (line : List ℕ) → is_skipped line ≡ true
     → unskipped (before ++ line ∷ after) ≡ unskipped (before ++ after)
 kept_without before after line skipped = grind (arith, filter-append, kept_skipped)
 
--- lines with one more are plain where they are, and it is
 plain_with : (before after : List (List ℕ)) (line : List ℕ) → is_ascii_line line ≡ true
     → AllByRecursion (λ l. is_ascii_line l ≡ true) (before ++ after)
     → AllByRecursion (λ l. is_ascii_line l ≡ true) (before ++ line ∷ after)
 plain_with [] after line plain all = (plain, all)
 plain_with (first ∷ before) after line plain all = (all.0, plain_with before after line plain all.1)
 
--- and without it
 plain_without : (before after : List (List ℕ)) (line : List ℕ)
     → AllByRecursion (λ l. is_ascii_line l ≡ true) (before ++ line ∷ after)
     → AllByRecursion (λ l. is_ascii_line l ≡ true) (before ++ after)
 plain_without [] after line all = all.1
 plain_without (first ∷ before) after line all = (all.0, plain_without before after line all.1)
 
--- a skipped line may be put between the lines of a script
 pub spells_with : (before after : List (List ℕ)) (line : List ℕ) (plan : ScriptValue)
     → is_ascii_line line ≡ true → is_skipped line ≡ true
     → AreLinesOf (before ++ after) plan → AreLinesOf (before ++ line ∷ after) plan
 spells_with before after line plan plain skipped spells = grind (arith, plain_with, kept_without)
 
--- and may be left out
 pub spells_without : (before after : List (List ℕ)) (line : List ℕ) (plan : ScriptValue)
     → is_skipped line ≡ true
     → AreLinesOf (before ++ line ∷ after) plan → AreLinesOf (before ++ after) plan
 spells_without before after line plan skipped spells = grind (arith, plain_without, kept_without)
 
--- ---- the lines of commands
-
--- the line of this number, where the first line has that number, is kept at this place
+-- Line `n` is the unskipped line at the index `i`, if the first of `lines` is line `number`.
 record KeptAt (number : ℕ) (lines : List (List ℕ)) (i n : ℕ) : Type 0 where
   pub before : List (List ℕ)
   pub line : List ℕ
@@ -85,13 +72,11 @@ record KeptAt (number : ℕ) (lines : List (List ℕ)) (i n : ℕ) : Type 0 wher
   pub after_byte : length (unskipped before) ≡ i
   pub there : slice_get (unskipped lines) i ≡ Some line
 
--- what stands behind others, counted from there
 get_behind : {A : Type 0} (front rest : List A) (place : ℕ)
     → slice_get (front ++ rest) (place + length front) ≡ slice_get rest place
 get_behind [] rest place = ap (slice_get rest) (omega arith)
 get_behind (s ∷ front) rest place = grind (arith, get_behind front rest place)
 
--- one line in front, of which this is kept
 kept_behind : (number : ℕ) (first : List ℕ) (lines kept : List (List ℕ)) (i j n : ℕ)
     → ((ls : List (List ℕ)) → unskipped (first ∷ ls) ≡ kept ++ unskipped ls) → j ≡ i + length kept
     → KeptAt (number + 1) lines i n → KeptAt number (first ∷ lines) j n
@@ -111,7 +96,6 @@ kept_behind number first lines kept i j n is place rest =
           (unskipped lines) i ∙ rest.there);
     }
 
--- a line in front that is the one
 kept_first : (number : ℕ) (first : List ℕ) (lines : List (List ℕ)) (n : ℕ)
     → is_skipped first ≡ false → Some number ≡ Some n → KeptAt number (first ∷ lines) zero n
 kept_first number first lines n kept same =
@@ -126,7 +110,6 @@ kept_first number first lines n kept same =
       there = rw (kept_said first lines kept);
     }
 
--- one more line in front
 kept_step : (number : ℕ) (first : List ℕ) (lines : List (List ℕ)) (i n : ℕ) (t : Bool)
     → is_skipped first ≡ t
     → slice_get (cond t (unskipped_numbers (number + 1) lines)
@@ -141,7 +124,6 @@ kept_step number first lines (suc i) n false kept e rest =
     kept_behind number first lines (first ∷ []) i (suc i) n (λ ls. kept_said first ls kept)
     (omega arith) (rest i e)
 
--- a number of the lines that aren't skipped is that of a kept line
 kept_at : (number : ℕ) (lines : List (List ℕ)) (i n : ℕ)
     → slice_get (unskipped_numbers number lines) i ≡ Some n → KeptAt number lines i n
 kept_at number [] i n e = absurd (cc)
@@ -149,7 +131,6 @@ kept_at number (first ∷ lines) i n e =
     kept_step number first lines i n (is_skipped first) refl e
     (λ j found. kept_at (number + 1) lines j n found)
 
--- what a line says, which has this place among those that say something
 said_at : (lines : List (List ℕ)) (ss : List LineMeaning) (i : ℕ) (line : List ℕ)
     → AllZip ParsesAs lines ss → slice_get lines i ≡ Some line
     → (s : LineMeaning) × (slice_get ss i ≡ Some s) × ParsesAs line s
@@ -158,12 +139,10 @@ said_at (first ∷ lines) (s ∷ ss) zero line says e = grind arith
 said_at (first ∷ lines) (s ∷ ss) (suc i) line says e = said_at lines ss i line says.1 e
 said_at lines ss i line says e = absurd (says)
 
--- as many lines are in a head as its disks and layers
 length-head : (plan : ScriptValue)
     → length (head_of plan.data_disk plan.log_disk plan.log_size) ≡ head_count plan
 length-head plan = grind (arith, length-append, length-map)
 
--- the line of a command is the one that says it
 pub line_says : (text : List ℕ) (plan : ScriptValue) (place number : ℕ) → IsTextOf text plan
     → command_line text (place + head_count plan) ≡ Some number
     → IsLineOf (lines_of text) plan place number
@@ -187,7 +166,6 @@ line_says text plan place number spells e =
       says = said.2;
     }
 
--- as many numbers are printed as lines are kept
 length-unskipped_numbers : (number : ℕ) (lines : List (List ℕ))
     → length (unskipped_numbers number lines) ≡ length (unskipped lines)
 length-unskipped_numbers number [] = refl
@@ -200,20 +178,17 @@ length-unskipped_numbers number (line ∷ lines) =
     counted_step true n l ns ks same = same
     counted_step false n l ns ks same = ap suc same
 
--- a body's commands have a line each
 length-lines_of_body : (names : List ScriptId) (before : ℕ) (body : List Command)
     → length (lines_of_body names before body) ≡ length body
 length-lines_of_body names before [] = refl
 length-lines_of_body names before (command ∷ body) =
     ap suc (length-lines_of_body names (count_after_command before command) body)
 
--- lines and the crash behind them
 length-with_ending : (ending : Option (List ℕ)) (ss : List LineMeaning)
     → length (with_ending ending ss) ≡ length ss + cond (is_some ending) 1 0
 length-with_ending None ss = omega arith
 length-with_ending (Some picks) ss = length-append ss (parsed_lines.Crash picks ∷ [])
 
--- as many lines are kept as the head, the commands and the crash have
 length-unskipped : (text : List ℕ) (plan : ScriptValue) → IsTextOf text plan
     → length (unskipped_numbers 1 (lines_of text)) ≡ count_after_head plan + head_count plan
 length-unskipped text plan spells =
@@ -228,7 +203,6 @@ length-unskipped text plan spells =
     let head = length-head plan in
     omega arith
 
--- each command of a script has a line
 pub line_found : (text : List ℕ) (plan : ScriptValue) (place : ℕ) → IsTextOf text plan
     → place < count_after_head plan
     → (number : ℕ) × (command_line text (place + head_count plan) ≡ Some number)
@@ -239,17 +213,15 @@ line_found text plan place spells within =
           (omega arith),
     )
 
--- just the commands of a script have a line
+-- A place after the last command and the crash has no line.
 pub lined : (text : List ℕ) (plan : ScriptValue) (place : ℕ) → IsTextOf text plan
     → count_after_head plan ≤ place → command_line text (place + head_count plan) ≡ None
 lined text plan place spells past = grind (arith, length-unskipped, slice_get_past)
 
--- more lines are kept after one that isn't skipped
 kept_more : (before between : List (List ℕ)) (line : List ℕ) → is_skipped line ≡ false
     → length (unskipped before) < length (unskipped (before ++ line ∷ between))
 kept_more before between line kept = grind (arith, filter-append, kept_said, length-append)
 
--- no line of a command is after another
 not_later : (lines : List (List ℕ)) (plan : ScriptValue) (place m n : ℕ)
     → IsLineOf lines plan place m → IsLineOf lines plan place n → n ≤ m
 not_later lines plan place m n a b =
@@ -272,7 +244,6 @@ not_later lines plan place m n a b =
     (λ (no_less : n ≤ m). no_less)
     (cases_lt m n)
 
--- a command has one line
 pub one_line : (lines : List (List ℕ)) (plan : ScriptValue) (place m n : ℕ)
     → IsLineOf lines plan place m → IsLineOf lines plan place n → m ≡ n
 one_line lines plan place m n a b =
@@ -280,9 +251,6 @@ one_line lines plan place m n a b =
     let down = not_later lines plan place n m b a in
     omega arith
 
--- ---- ends
-
--- a command of a well-formed body may come after those before it
 well_formed_at : (bytes sectors : ℕ) (done before : List Command) (command : Command)
     (rest : List Command) → IsWellFormed bytes sectors done (before ++ command ∷ rest)
     → CanFollow bytes sectors (done ++ before) command
@@ -295,20 +263,17 @@ well_formed_at bytes sectors done (first ∷ before) command rest well_formed =
       append_assoc,
     )
 
--- each command of a script may come after those before it
 pub can_follow : (plan : ScriptValue) (before : List Command) (command : Command)
     (rest : List Command) → IsPlan plan → plan.commands ≡ before ++ command ∷ rest
     → CanFollow (bytes_of plan.log_size) (top_of plan.data_disk) before command
 can_follow plan before command rest is split = grind (arith, well_formed_at)
 
--- a request that a command ends has ended after it
 ended_behind : (request : ℕ) (before between : List Command)
     → is_ended request (before ++ commands.Complete request ∷ between) ≡ true
 ended_behind request [] between = grind (arith, eq-eqb)
 ended_behind request (first ∷ before) between =
     grind (arith, ended_behind request before between, or-true)
 
--- no request ends twice
 pub ends_once : (plan : ScriptValue) (before between rest : List Command) (request : ℕ)
     → IsPlan plan
     → plan.commands ≡ before
@@ -316,8 +281,7 @@ pub ends_once : (plan : ScriptValue) (before between rest : List Command) (reque
 ends_once plan before between rest request is split =
     let regrouped : plan.commands ≡ (before ++ commands.Complete request ∷ between)
     ++ commands.Complete request ∷ rest =
-    split ∙ sym (append_assoc before (commands.Complete request ∷ between)
-    (commands.Complete request ∷ rest)) in
+    grind (arith, append_assoc) in
     let may =
     can_follow plan (before ++ commands.Complete request ∷ between)
     (commands.Complete request) rest is regrouped in

@@ -1,7 +1,6 @@
--- The canonical texts of both kinds of scripts, part by part: of the head, the body and the ending.
--- The canonical text of the fields of a line is a line with these fields. `CanonicalTextLaws`,
--- `LineParserLaws`, `CanonicalTextLaws` and `Spelling` cite it.
-use Rattle.std.proofs.Common.{zero, suc, ap, ◌∙◌, sym, subst, arith, append_assoc, ◌≡◌, ℕ, ◌^◌, ◌<◌}
+-- Proves that the canonical text of a line's fields has these fields, for words, fields and lines.
+-- A script's canonical text is split into the parts that are printed one after another.
+use Rattle.std.proofs.Common.{zero, suc, ◌∙◌, sym, subst, arith, append_assoc, ◌≡◌, ℕ, ◌^◌, ◌<◌}
 use Rattle.std.proofs.Common.{Bool, true, false, not, List, [], ◌∷◌, ◌++◌, Option, Some, None, refl}
 use Rattle.std.specs.Prelude.{Result, ◌==◌, decimal, replicate, flat_map, map}
 use Rattle.std.proofs.lemmas.Bool.{and_from, and_parts, cond-true}
@@ -32,76 +31,60 @@ use Rattle.dmlw_script.specs.LineMeaning.{LineMeaning}
 use Rattle.dmlw_script.specs.LineMeaning as parsed_lines
 use Rattle.dmlw_script.specs.Words.{byte_text, hex_digit, id_of_word, is_id, is_line_byte}
 use Rattle.dmlw_script.specs.Words.{is_line_text, is_name_byte, letters_of, script_id}
-use Rattle.dmlw_script.specs.Plans.{IsName, lines_after_head, lines_of_body, with_ending, Disk}
-use Rattle.dmlw_script.specs.Plans.{data_line, layer_line, log_line, ScriptValue, head_of}
+use Rattle.dmlw_script.specs.Plans.{IsName, lines_of_body, with_ending, Disk, data_line, layer_line}
+use Rattle.dmlw_script.specs.Plans.{log_line, ScriptValue, head_of}
 use Rattle.dmlw_script.specs.RunPlans.{data_layer, log_layer, run_head, RunPlan}
 
--- ---- bytes that may stand in a line
-
--- each byte may stand in a line
 abbrev pub IsLineText : List ℕ → Type 0
 IsLineText word = is_line_text word ≡ true
 
--- zeroes after a word without one leave it in front
+-- The zeroes that fill a stored id don't change its letters.
 front_zeros : (word : List ℕ) (n : ℕ) → lacks 0 word ≡ true
     → before_byte 0 (word ++ replicate n 0) ≡ word
 front_zeros word zero lack = (cut_word 0 word None lack).0
 front_zeros word (suc n) lack = (cut_word 0 word (Some (replicate n 0)) lack).0
 
--- a character of an id isn't zero
 name_byte_not_zero : (b : ℕ) → is_name_byte b ≡ true → not (b == 0) ≡ true
 name_byte_not_zero b letter = grind (arith, nat_tests)
 
--- the letters of an id are read as it
 pub letters_id : (name : ScriptId) → IsName name → id_of_word (letters_of name) ≡ Some name
 letters_id name is =
     grind (arith, front_zeros, all_weaker, name_byte_not_zero, and_parts, cond-true)
 
--- two such texts in a row
 pub line_text_append : (a b : List ℕ) → IsLineText a → IsLineText b → IsLineText (a ++ b)
 line_text_append a b first second =
     list_all-append is_line_byte a b ∙ and_from _ _ first second
 
--- a digit is one
 line_digit : (b : ℕ) → is_ascii_digit b ≡ true → is_line_byte b ≡ true
 line_digit b digit = grind (arith, nat_tests)
 
--- a character of an id is one
 line_name_byte : (b : ℕ) → is_name_byte b ≡ true → is_line_byte b ≡ true
 line_name_byte b letter = grind (arith, nat_tests)
 
--- a hexadecimal digit is one
 line_hex : (half : ℕ) → half < 16 → is_line_byte (hex_digit half) ≡ true
 line_hex half low = grind (arith, nat_tests)
 
--- a number's digits are such bytes
 pub line_number : (n : ℕ) → n < 2 ^ 64 → IsLineText (decimal n)
 line_number n low = all_weaker _ _ line_digit (decimal n) (digits_decimal number_model n low)
 
--- a number's digits are read as it
 read_decimal : (n : ℕ) → n < 2 ^ 64 → number_of (decimal n) ≡ Some n
 read_decimal n low = number_again (decimal n) n (decimal_number n low)
 
--- an id's characters are such bytes
 line_id : (name : ScriptId) → IsName name → IsLineText (letters_of name)
 line_id name is =
     let id =
     cond_some (is_id (letters_of name)) (script_id (letters_of name)) name (letters_id name is) in
     all_weaker is_name_byte is_line_byte line_name_byte (letters_of name) (and_parts _ _ id.0).1
 
--- a byte's digits are such bytes
 line_byte : (byte : ℕ) → byte < 256 → IsLineText (byte_text byte)
 line_byte byte low = grind (arith, and_from, line_hex)
 
--- ---- words
-
--- what can be written of a word: its text is one word of a line, and is read as it
+-- The canonical text of the word is one word of a line, and is read as this word.
 pub record IsWritable (word : Word) : Type 0 where
   pub good : IsLineText (word_text word)
   pub whole : lacks 32 (word_text word) ≡ true
   pub is : IsWord (word_text word) word
 
--- a word may stand in a line
 abbrev pub FitsWord : Word → Type 0
 FitsWord (Given word) = IsLineText word × (lacks 32 word ≡ true)
 FitsWord (Number n) = n < 2 ^ 64
@@ -109,7 +92,6 @@ FitsWord (Name name) = IsName name
 FitsWord (Byte byte) = byte < 256
 FitsWord (Seat seat) = seat < 2 ^ 64
 
--- such a word can be written
 pub writable : (word : Word) → FitsWord word → IsWritable word
 writable (Given word) fits = record { good = fits.0; whole = fits.1; is = refl }
 writable (Number n) low = record {
@@ -134,20 +116,16 @@ writable (Seat seat) low = record {
   is = (decimal seat, read_decimal seat low, refl);
 }
 
--- ---- fields
-
--- one more field in front
 pub after_field : (field : Field) (fields : List Field)
     → text_after (field ∷ fields) ≡ field_text field ++ text_after fields
 after_field field [] = sym (append-nil (field_text field))
 after_field field (next ∷ fields) = refl
 
--- a table line's text may stand in a line, and asks for this
+-- The canonical table line may be in a line, and its test gives `asked` again.
 pub record IsTable (asked : Result LayerSpec TableError) : Type 0 where
   pub good : IsLineText (table_text asked)
   pub asks : line_answer (words_of (table_text asked)) ≡ asked
 
--- the fields can be written
 abbrev pub Fits : List Field → Type 0
 Fits [] = Unit {0}
 Fits (One word ∷ fields) = FitsWord word × Fits fields
@@ -156,30 +134,18 @@ Fits (Text text ∷ []) = IsLineText text
 Fits (Table asked ∷ []) = IsTable asked
 Fits (field ∷ fields) = ⊥
 
--- what is read after this word
+-- If `word ++ text` is cut at its first space, `word` is before it, and `fields` are after it.
 record Reads (word text : List ℕ) (fields : List Field) : Type 0 where
   first : before_byte 32 (word ++ text) ≡ word
   rest : HasFields fields (after_byte 32 (word ++ text))
 
--- the text after a word and one space
 read_after : (word text : List ℕ) (fields : List Field) → lacks 32 word ≡ true
     → HasFields fields (Some text) → Reads word (32 ∷ text) fields
-read_after word text fields whole has =
-    let c = cut_word 32 word (Some text) whole in
-    record {
-      first = c.0;
-      rest = rw c.1 has;
-    }
+read_after word text fields whole has = grind (arith, cut_word 32 word (Some text) whole)
 
--- the text of fields after a word is read as it is
 reads_after : (fields : List Field) (word : List ℕ) → lacks 32 word ≡ true → Fits fields
     → Reads word (text_after fields) fields
-reads_after [] word whole fits =
-    let c = cut_word 32 word None whole in
-    record {
-      first = c.0;
-      rest = rw c.1 tt;
-    }
+reads_after [] word whole fits = grind (arith, cut_word 32 word None whole)
 reads_after (One next ∷ fields) word whole fits =
     let w = writable next fits.0 in
     let more = reads_after fields (word_text next) w.whole fits.1 in
@@ -203,12 +169,10 @@ reads_after (Table asked ∷ []) word whole fits =
     read_after word (table_text asked) (Table asked ∷ []) whole fits.asks
 reads_after (field ∷ fields) word whole fits = absurd fits
 
--- an option's text may stand in a line
 line_option : (given : Bool) (text : List ℕ) → IsLineText text → IsLineText (option_text given text)
 line_option true text good = good
 line_option false text good = refl
 
--- the text of fields may stand in a line
 line_after : (fields : List Field) → Fits fields → IsLineText (text_after fields)
 line_after [] fits = refl
 line_after (One word ∷ fields) fits =
@@ -221,72 +185,41 @@ line_after (Text text ∷ []) fits = fits
 line_after (Table asked ∷ []) fits = fits.good
 line_after (field ∷ fields) fits = absurd fits
 
--- ---- lines
-
--- the fields of a line can be written
 pub record FitsLine (fields : Fields) : Type 0 where
   pub first : FitsWord fields.first
   pub others : Fits fields.others
 
--- the text of a line's fields has them
 pub text_has : (fields : Fields) → FitsLine fields → IsLineWith (text_of fields) fields
 text_has fields fits =
     let w = writable fields.first fits.first in
     let r = reads_after fields.others (word_text fields.first) w.whole fits.others in
     (rw r.first w.is, r.rest)
 
--- and may stand in a line
 pub text_good : (fields : Fields) → FitsLine fields → IsLineText (text_of fields)
 text_good fields fits =
     line_text_append (word_text fields.first) (text_after fields.others)
     (let w = writable fields.first fits.first in w.good) (line_after fields.others fits.others)
 
--- The canonical text of a script is the text of its head, its body and its ending, in this order.
--- `print_script` writes it in these three parts.
-
--- the text of lines and of the crash behind them
 ending_spelled : (ending : Option (List ℕ)) (ss : List LineMeaning)
     → flat_map ended_line (with_ending ending ss) ≡ flat_map ended_line ss ++ ending_text ending
 ending_spelled None ss = sym (append-nil (flat_map ended_line ss))
-ending_spelled (Some picks) ss =
-    flat_map-append ended_line ss (parsed_lines.Crash picks ∷ []) ∙ rw (append-nil (ended_line
-    (parsed_lines.Crash picks)))
+ending_spelled (Some picks) ss = grind (arith, flat_map-append, append-nil)
 
--- picks after a word, each after a space
 pub picks_spelled : (picks : List ℕ)
     → text_after (map number picks) ≡ flat_map (λ n. 32 ∷ decimal n) picks
 picks_spelled [] = refl
 picks_spelled (pick ∷ picks) =
-    after_field (number pick) (map number picks)
-    ∙ ap (λ (x : List ℕ). 32 ∷ (decimal pick ++ x)) (picks_spelled picks)
+    grind (arith, after_field (number pick) (map number picks), picks_spelled picks)
 
--- a text that is written in three parts, from nothing, is the script's
+-- `head`, `body` and `whole` are the texts after the three parts that `print_script` writes.
 pub text_in_parts : (plan : ScriptValue) (d l : Disk) (size : SectorSize)
     (start head body whole : List ℕ) → d ≡ plan.data_disk → l ≡ plan.log_disk → size ≡ plan.log_size
     → start ≡ [] → head ≡ start ++ flat_map ended_line (head_of d l size)
     → body ≡ head ++ flat_map ended_line (lines_of_body plan.names 0 plan.commands)
     → whole ≡ body ++ ending_text plan.ending → whole ≡ canonical_text plan
 text_in_parts plan d l size start head body whole is_data is_log is_size none is_head is_body
-    is_whole =
-    let lines = lines_of_body plan.names 0 plan.commands in
-    let front = flat_map ended_line (head_of plan.data_disk plan.log_disk plan.log_size) in
-    let first : head ≡ front =
-    is_head ∙ ap (λ (x : List ℕ). x ++ flat_map ended_line (head_of d l size)) none
-    ∙ ap (λ (x : Disk). flat_map ended_line (head_of x l size)) is_data
-    ∙ ap (λ (x : Disk). flat_map ended_line (head_of plan.data_disk x size)) is_log
-    ∙ ap (λ (x : SectorSize). flat_map ended_line (head_of plan.data_disk plan.log_disk x))
-    is_size in
-    is_whole ∙ ap (λ (x : List ℕ). x ++ ending_text plan.ending)
-    (is_body ∙ ap (λ (x : List ℕ). x ++ flat_map ended_line lines) first)
-    ∙ append_assoc front (flat_map ended_line lines) (ending_text plan.ending)
-    ∙ ap (λ (x : List ℕ). front ++ x) (sym (ending_spelled plan.ending lines))
-    ∙ sym (flat_map-append ended_line (head_of plan.data_disk plan.log_disk plan.log_size)
-    (lines_after_head plan))
+    is_whole = grind (arith, append_assoc, ending_spelled, flat_map-append)
 
--- The canonical lines of a run's head are those of a recorder's head, and the line of the number of
--- seats.
-
--- layers are spelled as in a recorder's script
 data_layers_spelled : (layers : List LayerSpec)
     → flat_map ended_run_line (map data_layer layers)
     ≡ flat_map ended_line (map (layer_line disks.Data) layers)
@@ -301,35 +234,22 @@ log_layers_spelled [] = refl
 log_layers_spelled (layer ∷ layers) =
     rw (log_layers_spelled layers)
 
--- the lines of both disks' layers
 both_spelled : (plan : RunPlan)
     → flat_map ended_run_line
     (map data_layer plan.data_disk.layers ++ map log_layer plan.log_disk.layers)
     ≡ flat_map ended_line (map (layer_line disks.Data) plan.data_disk.layers)
     ++ flat_map ended_line (map (layer_line disks.Log) plan.log_disk.layers)
-both_spelled plan =
-    flat_map-append ended_run_line (map data_layer plan.data_disk.layers) (map log_layer
-    plan.log_disk.layers) ∙ rw (
-      data_layers_spelled plan.data_disk.layers,
-      log_layers_spelled
-          plan.log_disk.layers,
-    )
+both_spelled plan = grind (arith, flat_map-append, data_layers_spelled, log_layers_spelled)
 
--- a run's head is written in three parts: its disks, its seats, and the disks' layers
 pub run_head_in_parts : (plan : RunPlan) → flat_map ended_run_line (run_head plan)
     ≡ (ended_line (data_line plan.data_disk.sectors)
     ++ ended_line (log_line plan.log_disk.sectors plan.log_size))
     ++ (ended_run_line (seats_line plan.seats)
     ++ (flat_map ended_line (map (layer_line disks.Data) plan.data_disk.layers)
     ++ flat_map ended_line (map (layer_line disks.Log) plan.log_disk.layers)))
-run_head_in_parts plan =
-    let first = ended_line (data_line plan.data_disk.sectors) in
-    let second = ended_line (log_line plan.log_disk.sectors plan.log_size) in
-    let seats = ended_run_line (seats_line plan.seats) in
-    ap (λ (x : List ℕ). first ++ (second ++ (seats ++ x))) (both_spelled plan)
-    ∙ sym (append_assoc first second _)
+run_head_in_parts plan = grind (arith, both_spelled, append_assoc)
 
--- what is written in these three parts is a run's head
+-- `with_disks` and `with_seats` are the texts after the first two parts are written.
 pub run_head_written : (plan : RunPlan) (data_disk log_disk : Disk)
     (data_sectors log_sectors seats : ℕ) (size : SectorSize) (start with_disks with_seats : List ℕ)
     → data_disk ≡ plan.data_disk → log_disk ≡ plan.log_disk → data_sectors ≡ data_disk.sectors
@@ -342,31 +262,4 @@ pub run_head_written : (plan : RunPlan) (data_disk log_disk : Disk)
     ≡ start ++ flat_map ended_run_line (run_head plan)
 run_head_written plan data_disk log_disk data_sectors log_sectors seats size start with_disks
     with_seats is_data is_log is_data_sectors is_log_sectors is_size is_count is_disks is_seats =
-    let front = λ (n m : ℕ) (s : SectorSize). ended_line (data_line n)
-    ++ ended_line (log_line m s) in
-    let middle = λ (k : ℕ). ended_run_line (seats_line k) in
-    let layers =
-    λ (d l : Disk). flat_map ended_line (map (layer_line disks.Data) d.layers)
-    ++ flat_map ended_line (map (layer_line disks.Log) l.layers) in
-    let head =
-    λ (n m : ℕ) (s : SectorSize) (k : ℕ) (d l : Disk). start
-    ++ (front n m s ++ (middle k ++ layers d l)) in
-    ap (λ (x : List ℕ). x ++ layers data_disk log_disk)
-    (is_seats ∙ ap (λ (x : List ℕ). x ++ middle seats) is_disks)
-    ∙ append_assoc (start ++ front data_sectors log_sectors size) (middle seats)
-    (layers data_disk log_disk)
-    ∙ append_assoc start (front data_sectors log_sectors size)
-    (middle seats ++ layers data_disk log_disk)
-    ∙ ap (λ (n : ℕ). head n log_sectors size seats data_disk log_disk)
-    (is_data_sectors ∙ ap (λ (d : Disk). d.sectors) is_data)
-    ∙ ap (λ (m : ℕ). head plan.data_disk.sectors m size seats data_disk log_disk)
-    (is_log_sectors ∙ ap (λ (d : Disk). d.sectors) is_log)
-    ∙ ap (λ (s : SectorSize). head plan.data_disk.sectors plan.log_disk.sectors s seats data_disk
-    log_disk) is_size
-    ∙ ap (λ (k : ℕ). head plan.data_disk.sectors plan.log_disk.sectors plan.log_size k data_disk
-    log_disk) is_count
-    ∙ ap (λ (d : Disk). head plan.data_disk.sectors plan.log_disk.sectors plan.log_size plan.seats d
-    log_disk) is_data
-    ∙ ap (λ (l : Disk). head plan.data_disk.sectors plan.log_disk.sectors plan.log_size plan.seats
-    plan.data_disk l) is_log
-    ∙ ap (λ (x : List ℕ). start ++ x) (sym (run_head_in_parts plan))
+    grind (arith, append_assoc, run_head_in_parts)

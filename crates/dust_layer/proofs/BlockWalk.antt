@@ -1,7 +1,7 @@
--- What holds after some blocks of a call were done, and after the last.
-use Rattle.std.proofs.Common.{◌≡◌, ℕ, suc, ◌+◌, ◌-◌, ◌*◌, ◌/◌, ◌<◌, ◌≤◌, Bool, true, false}
-use Rattle.std.proofs.Common.{◌&&◌, Option, None, Ok, Err, length, take, drop}
-use Rattle.std.proofs.Common.{refl, ap, sym, subst, ◌∙◌, arith}
+-- What holds after some blocks of a call are done, and after the last block.
+use Rattle.std.proofs.Common.{◌≡◌, ℕ, suc, ◌+◌, ◌-◌, ◌*◌, ◌/◌, ◌<◌, ◌≤◌, Bool, true, false, ◌&&◌}
+use Rattle.std.proofs.Common.{Option, None, Ok, Err, length, take, drop, refl, ap, sym, subst, ◌∙◌}
+use Rattle.std.proofs.Common.{arith}
 use Rattle.std.proofs.lemmas.Bool.{cases_lt, lt-ltb, le-ltb, le-leb, leb-true}
 use Rattle.std.proofs.lemmas.Bool.Decides.{nat_tests}
 use Rattle.std.proofs.Math.Bool.{and-false}
@@ -10,8 +10,8 @@ use Rattle.std.proofs.Math.Nat.{div-mul-le_self, lt-div-mul-add, mul-le-mul_righ
 use Rattle.std.specs.Prelude.{Result, nat_le, nat_lt, if◌then◌else◌}
 use Rattle.bio.specs.declared.outcome.DevError.{DevError}
 use Rattle.blockdev.specs.View.{Call, Discards, Flushes, Reads, View, Writes}
-use Rattle.blockdev.specs.JoinLaws.{goes_cut, goes_next, goes_none, lands_all}
-use Rattle.blockdev.specs.JoinLaws.{lands_first, lands_next, no_lie_parts}
+use Rattle.blockdev.specs.JoinLaws.{goes_cut, goes_next, goes_none, lands_all, lands_first}
+use Rattle.blockdev.specs.JoinLaws.{lands_next, no_lie_parts}
 use Rattle.blockdev.specs.Law.{DeviceFrame, WriteDone, NoLie}
 use Rattle.bio.specs.Content.{HasNoneBelow, HasNoneFrom, SameValues, below, between}
 use Rattle.bio.specs.ContentLaws.{discards-between, over-after, over-below, writes-between}
@@ -23,62 +23,39 @@ use Rattle.dust_layer.specs.Walk.{FailsBelow, Passes, begin_of, block_behind, pa
 use Rattle.dust_layer.specs.Walk.{stops, list_passed, KeepsRest, part_of, Bad, IsList, left_at}
 use Rattle.dust_layer.specs.Walk.{with_entry, without}
 
--- ---- blocks
-
 suc-times : (q b : ℕ) → suc q * b ≡ q * b + b
 suc-times q b = omega arith
 
 pub times-le : (p q b : ℕ) → p ≤ q → p * b ≤ q * b
 times-le p q b h = mul-le-mul_right b h
 
--- the first block's beginning isn't behind the first sector
 reach_first : (block first count : ℕ) → 0 < count → reach block first count (first / block) ≡ first
 reach_first block first count some = grind (arith, div-mul-le_self)
 
--- where the last block ends, the call has ended
 pub reach_last : (block first count : ℕ) → 0 < block → 0 < count
     → reach block first count (block_behind block first count) ≡ first + count
 reach_last block first count positive some = grind (arith, lt-div-mul-add, suc-times)
 
--- each block that a call touches has a part of it
 pub reach_more : (block first count place : ℕ) → 0 < block → 0 < count → first / block ≤ place
     → place < block_behind block first count
     → reach block first count place < reach block first count (suc place)
 reach_more block first count place positive some low high =
     grind (arith, div-mul-le_self, times-le, lt-div-mul-add, suc-times)
 
--- ---- parts of a call
-
--- a part has the values of its sectors
 pub part-values : (first count from to : ℕ) (change : Change)
     → count_of (call_of first count change) ≡ count → first ≤ from → from ≤ to → to ≤ first + count
     → SameValues (patch_of (part_within from to (call_of first count change)))
     (between from to (patch_of (call_of first count change)))
 part-values first count from to (changes.Write bytes fua) size low order high =
-    let k = from - first in
-    let n = to - from in
-    let start : first + k ≡ from = omega arith in
-    let end : first + k + n ≡ to = omega arith in
-    let whole : 512 * (k + n) ≤ length bytes.now = omega arith in
-    subst (λ (x : ℕ). SameValues
-    (patch_of (Writes x (take (512 * n) (drop (512 * k) bytes.now)) fua))
-    (between x to (patch_of (Writes first bytes.now fua)))) start
-    (subst (λ (x : ℕ). SameValues
-    (patch_of (Writes (first + k) (take (512 * n) (drop (512 * k) bytes.now)) fua))
-    (between (first + k) x (patch_of (Writes first bytes.now fua)))) end
-    (writes-between first k n bytes.now whole))
+    grind (
+      arith,
+      length bytes.now,
+      take (512 * (to - from)) (drop (512 * (from - first))
+          bytes.now),
+      writes-between first (from - first) (to - from) bytes.now (omega arith),
+    )
 part-values first count from to changes.Discard size low order high =
-    let k = from - first in
-    let n = to - from in
-    let start : first + k ≡ from = omega arith in
-    let end : first + k + n ≡ to = omega arith in
-    subst (λ (x : ℕ). SameValues (patch_of (Discards x n))
-    (between x to (patch_of (Discards first count)))) start
-    (subst (λ (x : ℕ). SameValues (patch_of (Discards (first + k) n))
-    (between (first + k) x (patch_of (Discards first count)))) end
-    (discards-between first count k n (omega arith)))
-
--- ---- the list
+    grind (arith, discards-between first count (from - first) (to - from) (omega arith))
 
 pub without-in : (from to : ℕ) (bad : Bad) (block : ℕ) → from ≤ block → block < to
     → without from to bad block ≡ None
@@ -97,7 +74,6 @@ pub without-after : (from to : ℕ) (bad : Bad) (block : ℕ) → to ≤ block
     → without from to bad block ≡ bad block
 without-after from to bad block h = grind (arith, le-ltb, and-false)
 
--- no block has left the list yet
 pub without-none : (begin : ℕ) (bad : Bad) → IsList bad (without begin (begin + 0) bad)
 without-none begin bad = grind (arith, cases_lt, without-before, without-after)
 
@@ -109,14 +85,13 @@ entry-apart : (place : ℕ) (entry : Option ℕ) (bad : Bad) (block : ℕ) → (
     → with_entry place entry bad block ≡ bad block
 entry-apart place entry bad block apart = grind (arith, nat_tests)
 
--- one more leaves it
 pub without-next : (begin count : ℕ) (bad now : Bad)
     → IsList now (without begin (begin + count) bad)
     → IsList (with_entry (begin + count) None now) (without begin (begin + suc count) bad)
 without-next begin count bad now same =
     grind (arith, cases_lt, entry-apart, without-before, without-in, entry-here, without-after)
 
--- After so many blocks of a call: what is done below, and what the list holds.
+-- The first `count` blocks of a call are done, and the next part begins at sector `from`.
 pub record HasPassed {D : Type 0} (does : D → Call → ℕ → Result ℕ DevError → D → Type 0) (block : ℕ)
     (call : Call) (bad now_bad : Bad) (count from : ℕ)
     (old : D) (now : ℕ) (new : D) (end : ℕ) : Type 0 where
@@ -125,7 +100,6 @@ pub record HasPassed {D : Type 0} (does : D → Call → ℕ → Result ℕ DevE
   pub list : IsList now_bad (list_passed call (begin_of block call) count bad)
   pub moment : now ≤ end
 
--- none of them yet
 none-passed : (begin : ℕ) (call : Call) (bad : Bad) → IsList bad (list_passed call begin 0 bad)
 none-passed begin (Reads first before after) bad = λ place. refl
 none-passed begin (Writes first bytes fua) bad = without-none begin bad
@@ -137,7 +111,6 @@ pub passed_first : {D : Type 0} (does : D → Call → ℕ → Result ℕ DevErr
     → 0 < count_of call → HasPassed does block call bad bad 0 (first_of call) old now old now
 passed_first does block call bad old now some = grind (arith, reach_first, none-passed)
 
--- one more
 pub passed_next : {D : Type 0} (does : D → Call → ℕ → Result ℕ DevError → D → Type 0) (block : ℕ)
     (call : Call) (bad before after : Bad) (count from to : ℕ)
     (old : D) (now : ℕ) (mid : D) (at : ℕ) (new : D) (end : ℕ)
@@ -150,9 +123,6 @@ pub passed_next : {D : Type 0} (does : D → Call → ℕ → Result ℕ DevErro
 passed_next does block call bad before after count from to old now mid at new end so_far free is_to
     done later list = grind (arith, last_or_below)
 
--- ---- a write or a discard
-
--- it begins where it is asked for
 pub change-first : (first count : ℕ) (change : Change)
     → first_of (call_of first count change) ≡ first
 change-first first count (changes.Write bytes fua) = refl
@@ -172,7 +142,6 @@ pub blocks-change : (block first count : ℕ) (change : Change)
     → blocks_of block (call_of first count change) ≡ (first + count - 1) / block + 1 - first / block
 blocks-change block first count change size = grind (arith, change-first)
 
--- it has values for its own sectors alone
 pub none-before : (first count : ℕ) (change : Change)
     → HasNoneBelow first (patch_of (call_of first count change))
 none-before first count (changes.Write bytes fua) = grind (arith, over-below)
@@ -184,7 +153,8 @@ pub none-behind : (first count : ℕ) (change : Change)
 none-behind first count (changes.Write bytes fua) size = grind (arith, over-after)
 none-behind first count changes.Discard size = grind (arith, over-after)
 
--- the list at the next block tells whether it stops the call
+-- the current list `before` lacks only blocks before the next one, so it says whether that one
+-- stops the call
 pub stops-change : (first count : ℕ) (change : Change) (begin done : ℕ) (bad before : Bad)
     → IsList before (list_passed (call_of first count change) begin done bad)
     → stops (call_of first count change) bad (begin + done)
@@ -193,7 +163,6 @@ stops-change first count (changes.Write bytes fua) begin done bad before same =
     grind (arith, without-after)
 stops-change first count changes.Discard begin done bad before same = grind (arith, without-after)
 
--- a block whose part is done leaves the list
 pub list-next : (first count : ℕ) (change : Change) (begin done : ℕ) (bad before struck after : Bad)
     → IsList before (list_passed (call_of first count change) begin done bad) → IsList struck before
     → IsList after (with_entry (begin + done) None struck)
@@ -203,7 +172,8 @@ list-next first count (changes.Write bytes fua) begin done bad before struck aft
 list-next first count changes.Discard begin done bad before struck after same stays forgets =
     grind (arith, without-next)
 
--- What a write or a discard has done so far.
+-- The first `count` blocks of a write or a discard are done: its values below sector `from` are
+-- put.
 pub record Changes {D : Type 0} (does : D → Call → ℕ → Result ℕ DevError → D → Type 0)
     (shown : D → View) (block : ℕ) (call : Call) (fua : Bool)
     (bad now_bad : Bad) (count from : ℕ) (old : D) (now : ℕ) (new : D) (end : ℕ) : Type 0 where
@@ -244,17 +214,11 @@ changes_next does shown block first count change bad before after done from to o
     record {
       passed = passed;
       goes =
-          goes_next from to (patch_of call) piece (shown old) (shown mid)
-          (shown new) order same so_far.goes goes;
+          grind (arith, goes_next);
       lands = λ told.
-          let both =
-          no_lie_parts (below from (patch_of call)) piece (shown old) (shown mid)
-          (shown new) so_far.goes goes told in
-          lands_next from to (patch_of call) piece (fua_of change) (shown old) (shown mid)
-          (shown new) order same (so_far.lands both.0) (lands both.1);
+          grind (arith, no_lie_parts, lands_next);
     }
 
--- so far it went by the whole call
 pub changes_goes : {D : Type 0} (does : D → Call → ℕ → Result ℕ DevError → D → Type 0)
     (shown : D → View) (block : ℕ) (call : Call) (fua : Bool)
     (bad list : Bad) (done from : ℕ) (old : D) (now : ℕ) (new : D) (end : ℕ)
@@ -263,7 +227,7 @@ pub changes_goes : {D : Type 0} (does : D → Call → ℕ → Result ℕ DevErr
 changes_goes does shown block call fua bad list done from old now new end so_far =
     grind (arith, goes_cut)
 
--- where the next part begins and ends
+-- The next part has the sectors from `from` to before `to`.
 pub record IsNextPart (block first count done from to : ℕ) : Type 0 where
   pub begins : from ≡ reach block first count (first / block + done)
   pub low : first ≤ from
@@ -286,7 +250,6 @@ pub next_part : {D : Type 0} (does : D → Call → ℕ → Result ℕ DevError 
 next_part does block first count change bad list done from old now mid at positive some size within
     so_far = grind (arith, next_part_from, change-first)
 
--- once a part is done, the call got a block further
 pub changes_step : {D : Type 0} (does : D → Call → ℕ → Result ℕ DevError → D → Type 0)
     (shown : D → View) (block first count : ℕ) (change : Change)
     (bad before struck after : Bad) (done from to : ℕ) (old : D) (now : ℕ) (mid : D) (at : ℕ)
@@ -338,7 +301,6 @@ changes_step does shown block first count change bad before struck after done fr
     (let h = part.order in omega arith) (let h = part.high in omega (arith, ends)) so_far
     passed goes lands)
 
--- where a part of it begins and ends, by its block
 part-change : (block first count : ℕ) (change : Change) (done from to : ℕ)
     → count_of (call_of first count change) ≡ count
     → from ≡ reach block (first_of (call_of first count change))
@@ -349,7 +311,6 @@ part-change : (block first count : ℕ) (change : Change) (done from to : ℕ)
     (begin_of block (call_of first count change) + done)
 part-change block first count change done from to size begins ends = grind (arith, change-first)
 
--- a part that fails below
 pub changes_failed : {D : Type 0} (does : D → Call → ℕ → Result ℕ DevError → D → Type 0)
     (shown : D → View) (block first count : ℕ) (change : Change)
     (bad before struck : Bad) (done from to : ℕ) (old : D) (now : ℕ) (mid : D) (at : ℕ) (new : D)
@@ -366,7 +327,6 @@ changes_failed does shown block first count change bad before struck done from t
     error size within is_to so_far free stays did =
     grind (arith, blocks-change, stops-change, begin-change, part-change, rest-change)
 
--- and has landed
 pub changes_land : {D : Type 0} (does : D → Call → ℕ → Result ℕ DevError → D → Type 0)
     (shown : D → View) (block first count : ℕ) (change : Change)
     (bad list : Bad) (done from : ℕ) (old : D) (now : ℕ) (new : D) (end : ℕ)
@@ -380,7 +340,6 @@ changes_land does shown block first count change bad list done from old now new 
     size is so_far told =
     grind (arith, div-mul-le_self, le-div, change-first, reach_last, lands_all, none-behind)
 
--- a part that fails goes by the whole call too
 pub changes_fails : {D : Type 0} (does : D → Call → ℕ → Result ℕ DevError → D → Type 0)
     (shown : D → View) (block first count : ℕ) (change : Change)
     (bad list : Bad) (done from to : ℕ) (old : D) (now : ℕ) (mid : D) (at : ℕ) (new : D)

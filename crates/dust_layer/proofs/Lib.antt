@@ -1,4 +1,4 @@
--- The lemmas of `dust_layer`. The proof of a function is in the folder named after its source file.
+-- The lemmas of `dust_layer`. The proof of each function is in the folder of its source file.
 mod BlockWalk
 mod ReadParts
 mod OrderLaws

@@ -20,15 +20,11 @@ use Rattle.dust_layer.specs.declared.parts.Stop.TheVariants.{Below, Struck}
 use Rattle.dust_layer.specs.DustRule.{IsDusted, IsMessageDone, IsNoOrder, answer_of}
 use Rattle.dust_layer.specs.Orders.{AsksFor, IsAnswered}
 
--- How calls and messages change the list, the mode and the counts, by what the specs say of them.
-
--- ---- calls
-
 -- whether a call can change a device so: device before, call, time, result, device after
 abbrev Doing : Type 0 → Type 1
 Doing D = D → Call → ℕ → Result ℕ DevError → D → Type 0
 
--- In bypass the lower device does the call. The list and this device's own count of faults stay.
+-- In bypass, the lower device does the call, and the list and the count of faults don't change.
 bypass-keeps : {D : Type 0} (does : Doing D) (call : Call) (now : ℕ) (result : Result ℕ DevError)
     (old new : Dust D) → old.mode ≡ Bypass
     → IsDusted does call now result old new
@@ -36,20 +32,17 @@ bypass-keeps : {D : Type 0} (does : Doing D) (call : Call) (now : ℕ) (result :
     × (new.faults ≡ old.faults)
 bypass-keeps does call now result old new mode dusted = grind arith
 
--- No call changes the mode or the block size.
 mode-stays : {D : Type 0} (does : Doing D) (call : Call) (now : ℕ) (result : Result ℕ DevError)
     (old new : Dust D)
     → IsDusted does call now result old new → (new.mode ≡ old.mode) × (new.block ≡ old.block)
 mode-stays does call now result old new dusted = (dusted.mode, dusted.block)
 
--- If a call has one part, the part is done at the time at which the call begins.
 one-part : {D : Type 0} (does : Doing D) (part : ℕ → Call) (begin : ℕ) (old : D) (now : ℕ) (new : D)
     (end : ℕ) → DoesParts does part begin 1 old now new end
     → does old (part (begin + 0)) now (Ok end) new
 one-part {D} does part begin old now new end (mid, at, (is, same), last) = grind arith
 
--- If a write ends Ok, none of its blocks is listed after it. A read that ends Ok doesn't change the
--- list.
+-- If a write ends Ok, none of its blocks is listed after it.
 write-mends : {D : Type 0} (does : Doing D) (block first : ℕ) (bytes : List ℕ) (fua : Bool)
     (bad after : Bad) (old : D) (now : ℕ) (new : D) (end place : ℕ)
     → ByBlock does block (Writes first bytes fua) bad after old now new (Ok end)
@@ -67,8 +60,8 @@ read-leaves does block first before bytes bad after old now new end is = is.list
 abbrev behind : ℕ → ℕ → Bad → Bad
 behind begin count bad = without begin (begin + count) bad
 
--- A write is stopped by a block with a count above 0, and the count is lowered by one. The blocks
--- before that block have left the list.
+-- A block with a count above 0 stops the write, which lowers the count by one; the blocks before it
+-- leave the list.
 write-stopped : {D : Type 0} (does : Doing D) (block first : ℕ) (bytes : List ℕ) (fua : Bool)
     (bad after : Bad) (old : D) (now : ℕ) (new : D)
     → ByBlock does block (Writes first bytes fua) bad after old now new (Err Struck)
@@ -85,8 +78,7 @@ read-stopped : {D : Type 0} (does : Doing D) (block first : ℕ) (before bytes :
     → (count : ℕ) × (is_some (bad (first / block + count)) ≡ true) × IsList after bad
 read-stopped does block first before bytes bad after old now new is = grind arith
 
--- If the lower device fails a part of a write, the part's block doesn't stop the write. Only the
--- blocks before that block leave the list.
+-- If the lower device fails a part of a write, only the blocks before that part leave the list.
 write-failed : {D : Type 0} (does : Doing D) (block first : ℕ) (bytes : List ℕ) (fua : Bool)
     (bad after : Bad) (old : D) (now : ℕ) (new : D) (error : DevError)
     → ByBlock does block (Writes first bytes fua) bad after old now new (Err (Below error))
@@ -94,17 +86,13 @@ write-failed : {D : Type 0} (does : Doing D) (block first : ℕ) (bytes : List �
     × IsList after (behind (first / block) count bad)
 write-failed does block first bytes fua bad after old now new error is = grind arith
 
--- ---- messages
-
--- A refused order changes neither the list nor the mode.
 refused-stays : (size sectors : ℕ) (order : Order) (error : MessageError) (old : Bad) (was : Bool)
     (new : Bad) (enabled : Bool)
     → IsAnswered size sectors order (Err error) old was new enabled
     → IsList new old × (enabled ≡ was)
 refused-stays size sectors order error old was new enabled (refused, list, mode) = (list, mode)
 
--- An added block is within the layer and wasn't listed. A removed block is within the layer and was
--- listed.
+-- An added block is within the layer and wasn't listed before.
 added : (size sectors block count : ℕ) (done : Unit {0}) (old : Bad) (was : Bool) (new : Bad)
     (enabled : Bool)
     → IsAnswered size sectors (orders.Add block count) (Ok done) old was new enabled
@@ -119,8 +107,6 @@ removed : (size sectors block : ℕ) (done : Unit {0}) (old : Bad) (was : Bool) 
     × IsList new (with_entry block None old) × (enabled ≡ was)
 removed size sectors block done old was new enabled ((within, there), list, mode) = grind arith
 
--- If Add fails with Memory, its block could be added. If Add fails with BadMessage, its block is
--- past the end.
 no-memory : (size sectors block count : ℕ) (old : Bad) (was : Bool) (new : Bad) (enabled : Bool)
     → IsAnswered size sectors (orders.Add block count) (Err errors.Memory) old was new enabled
     → (block * size < sectors) × (is_some (old block) ≡ false)
@@ -141,7 +127,6 @@ not-bad : (size sectors block : ℕ) (old : Bad) (was : Bool) (new : Bad) (enabl
     → (block * size < sectors) × (is_some (old block) ≡ false)
 not-bad size sectors block old was new enabled (is, list, mode) = is
 
--- If a text asks for an order, `IsNoOrder` refuses it for layer 1.
 no-order : {D : Type 0} (text : List ℕ) (result : Result (Unit {0}) MessageError) (old new : Dust D)
     (order : Order) → AsksFor text order
     → IsNoOrder 1 text result old new → ⊥
@@ -155,16 +140,12 @@ to-no-layer : {D : Type 0} (sectors : ℕ) (text : List ℕ) (result : Result (U
     × (new.mode ≡ old.mode)
 to-no-layer sectors text result old new done = grind arith
 
--- No message changes the lower device, the block size or the device's own faults.
 rest-stays : {D : Type 0} (sectors layer : ℕ) (text : List ℕ)
     (result : Result (Unit {0}) MessageError) (old new : Dust D)
     → IsMessageDone sectors layer text result old new
     → (new.lower ≡ old.lower) × (new.block ≡ old.block) × (new.faults ≡ old.faults)
 rest-stays sectors layer text result old new done = (done.lower, done.block, done.faults)
 
--- If bad blocks fail calls and a call ends Ok, the call touched no block that fails it.
-
--- a call that ended well went over blocks that don't stop it
 ended : {D : Type 0} (does : D → Call → ℕ → Result ℕ DevError → D → Type 0) (block : ℕ)
     (call : Call) (bad after : Bad) (old : D) (now : ℕ) (new : D)
     (stop : Result ℕ Stop) (end place : ℕ) → Ok end ≡ answer_of stop

@@ -1,7 +1,6 @@
 -- The parser finds an order in a text exactly if the text asks for that order (`AsksFor`).
-use Rattle.std.proofs.Common.{◌≡◌, ℕ, ◌≤◌, Bool, true, false, cond, List, [], ◌∷◌, ◌++◌}
-use Rattle.std.proofs.Common.{Option, Some, None, ◌⊎◌, inl, inr, ⊎_elim, refl, ap, subst, ◌∙◌, sym}
-use Rattle.std.proofs.Common.{arith}
+use Rattle.std.proofs.Common.{◌≡◌, ℕ, ◌≤◌, Bool, true, false, cond, List, [], ◌∷◌, ◌++◌, Option}
+use Rattle.std.proofs.Common.{Some, None, ◌⊎◌, inl, inr, ⊎_elim, refl, ap, subst, ◌∙◌, sym, arith}
 use Rattle.std.specs.Prelude.{◌==◌, codes, nat_lt, not}
 use Rattle.std.specs.Char.{is_ascii_digit}
 use Rattle.std.specs.List.{list_all}
@@ -20,42 +19,31 @@ use Rattle.dust_layer.specs.Orders.{spaced, AsksFor, IsCount}
 use Rattle.dust_layer.specs.inside.{add_of, count_of, in_byte, lone_order, order_of, order_parts}
 use Rattle.dust_layer.specs.inside.{order_with}
 
--- ---- choices
-
--- which side was chosen
 chosen : {A : Type 0} (t : Bool) (x y z : A) → cond t x y ≡ z
     → ((t ≡ true) × (x ≡ z)) ⊎ ((t ≡ false) × (y ≡ z))
 chosen true x y z e = inl (refl, e)
 chosen false x y z e = inr (refl, e)
 
--- what goes on well has a value, and goes on well from there
 bind_some : {A B : Type 0} (f : A → Option B) (o : Option A) (y : B) → option_and_then f o ≡ Some y
     → (x : A) × (o ≡ Some x) × (f x ≡ Some y)
 bind_some f None y e = absurd (cc)
 bind_some f (Some x) y e = (x, refl, e)
 
--- a value that is there goes on
 bind_at : {A B : Type 0} (f : A → Option B) (o : Option A) (x : A) (y : Option B) → o ≡ Some x
     → f x ≡ y → option_and_then f o ≡ y
 bind_at f o x y e g = ap (option_and_then f) e ∙ g
 
--- a mapped value is one that was there
 map_some : {A B : Type 0} (f : A → B) (o : Option A) (y : B) → option_map f o ≡ Some y
     → (x : A) × (o ≡ Some x) × (f x ≡ y)
 map_some f None y e = absurd (cc)
 map_some f (Some x) y e = (x, refl, cc)
 
--- the test of two texts says whether they are one
 same_bytes : (xs ys : List ℕ) → bytes_eq xs ys ≡ true → xs ≡ ys
 same_bytes xs ys e = (bytes_eq-Decides xs ys).0 e
 
--- ---- cuts
-
--- no such byte stands in the word
 abbrev lacks : ℕ → List ℕ → Bool
 lacks mark word = list_all (λ b. not (b == mark)) word
 
--- a digit is no space
 digit_not_space : (b : ℕ) → is_ascii_digit b ≡ true → not (b == 32) ≡ true
 digit_not_space b digit = grind (arith, nat_tests)
 
@@ -66,18 +54,16 @@ digits_lack_space (b ∷ word) all =
     and_parts _ _ all in
     and_from _ _ (digit_not_space b parts.0) (digits_lack_space word parts.1)
 
--- no space stands in a number
 number_lacks_space : (word : List ℕ) → is_number word ≡ true → lacks 32 word ≡ true
 number_lacks_space word number = digits_lack_space word (and_parts _ _ (and_parts _ _ number).0).1
 
--- one more byte before the mark
+-- For the prover: one step of `cut_at`, with its test as the variable `t`
 front_step : (t : Bool) (b : ℕ) (word f bytes rest : List ℕ) (behind_rest : Option (List ℕ))
     → not t ≡ true → f ≡ word → behind_rest ≡ Some rest
     → (cond t [] (b ∷ f) ≡ b ∷ word) × (cond t (Some bytes) behind_rest ≡ Some rest)
 front_step true b word f bytes rest behind_rest apart same there = absurd (cc)
 front_step false b word f bytes rest behind_rest apart same there = grind arith
 
--- a cut after a word that lacks the mark
 cut_at : (mark : ℕ) (word rest : List ℕ) → lacks mark word ≡ true
     → (before_byte mark (word ++ mark ∷ rest) ≡ word)
     × (after_byte mark (word ++ mark ∷ rest) ≡ Some rest)
@@ -87,7 +73,6 @@ cut_at mark (b ∷ word) rest lack =
     let more = cut_at mark word rest parts.1 in
     front_step (b == mark) b word _ _ rest _ parts.0 more.0 more.1
 
--- a word with nothing behind it is all
 cut_alone : (word : List ℕ) → lacks 32 word ≡ true
     → (before_byte 32 word ≡ word) × (after_byte 32 word ≡ None)
 cut_alone [] lack = (refl, refl)
@@ -102,7 +87,7 @@ cut_alone (b ∷ word) lack =
     alone_step true b word front rest apart same none = absurd (cc)
     alone_step false b word front rest apart same none = grind arith
 
--- one more byte before the mark, or the mark
+-- For the prover: one step of `cut_joined`, with its test as the variable `t`
 joined_step : (t : Bool) (b mark : ℕ) (bytes f rest : List ℕ) (behind_rest : Option (List ℕ))
     → (t ≡ true → b ≡ mark)
     → (behind_rest ≡ Some rest → bytes ≡ f ++ mark ∷ rest)
@@ -110,33 +95,28 @@ joined_step : (t : Bool) (b mark : ℕ) (bytes f rest : List ℕ) (behind_rest :
 joined_step true b mark bytes f rest behind_rest here more e = grind arith
 joined_step false b mark bytes f rest behind_rest here more e = grind arith
 
--- the parts of a cut, joined by the mark
 cut_joined : (mark : ℕ) (bytes rest : List ℕ) → after_byte mark bytes ≡ Some rest
     → bytes ≡ before_byte mark bytes ++ mark ∷ rest
 cut_joined mark [] rest e = absurd (cc)
 cut_joined mark (b ∷ bytes) rest e =
     grind (arith, cut_joined mark bytes rest, joined_step, eqb-true)
 
--- one more byte that isn't the mark
+-- For the prover: one step of `before_all`, with its test as the variable `t`
 all_step : (t : Bool) (b : ℕ) (bytes front : List ℕ) (rest : Option (List ℕ))
     → cond t (Some bytes) rest ≡ None → (rest ≡ None → front ≡ bytes)
     → cond t [] (b ∷ front) ≡ b ∷ bytes
 all_step true b bytes front rest e more = absurd (cc e)
 all_step false b bytes front rest e more = grind arith
 
--- what stands before a byte that isn't there is all
 before_all : (mark : ℕ) (bytes : List ℕ) → after_byte mark bytes ≡ None
     → before_byte mark bytes ≡ bytes
 before_all mark [] none = refl
 before_all mark (b ∷ bytes) none = all_step (b == mark) b bytes _ _ none (before_all mark bytes)
 
--- ---- what is read is asked for
-
--- a number that one byte holds
 byte_read : (n count : ℕ) → in_byte n ≡ Some count → (n ≡ count) × (count ≤ 255)
 byte_read n count e = grind (arith, cond_some, ltb-true)
 
--- what stands behind the block's word: no count, or a word that is one
+-- After the block's word, `words` has only the words `count_words`, which give `count`.
 record CountRead (words : List ℕ) (count : ℕ) : Type 0 where
   count_words : List (List ℕ)
   counted : IsCount count_words count
@@ -155,7 +135,6 @@ count_read words (Some word) count cut e =
       joined = cut_joined 32 words word cut;
     }
 
--- what is read of the words behind the verb
 add_read : (words : List ℕ) (order : Order) → add_of words ≡ Some order
     → AsksFor (codes "addbadblock" ++ 32 ∷ words) order
 add_read words order e =
@@ -199,7 +178,6 @@ with_read verb words order e =
     (chosen _ _ _ _ h.1))
     (chosen _ _ _ _ e)
 
--- an order of one word
 word_read : (verb word : List ℕ) (it order : Order) (y : Option Order) → AsksFor word it
     → (y ≡ Some order → AsksFor verb order)
     → cond (bytes_eq verb word) (Some it) y ≡ Some order → AsksFor verb order
@@ -219,13 +197,9 @@ parts_read text (Some words) order cut e =
 parts_read text None order cut e =
     rw (← before_all 32 text cut) (lone_read (before_byte 32 text) order e)
 
--- what is read is asked for
 pub order_read : (text : List ℕ) (order : Order) → order_of text ≡ Some order → AsksFor text order
 order_read text order e = parts_read text (after_byte 32 text) order refl e
 
--- ---- what is asked for is read
-
--- the count of these words, behind a block's word
 count_again : (word : List ℕ) (words : List (List ℕ)) (count : ℕ) → lacks 32 word ≡ true
     → IsCount words count
     → (before_byte 32 (spaced (word ∷ words)) ≡ word)
@@ -248,11 +222,9 @@ add_again : (word : List ℕ) (words : List (List ℕ)) (block count : ℕ) → 
 add_again word words block count number is =
     grind (arith, count_again, number_lacks_space, bind_at, number_again)
 
--- what is asked for is read
 pub order_again : (text : List ℕ) (order : Order) → AsksFor text order → order_of text ≡ Some order
 order_again text (orders.Add block count) asks =
-    rw asks.spelled (add_again asks.block_word asks.count_words block count asks.number
-    asks.counted)
+    grind (arith, add_again asks.block_word asks.count_words block count asks.number asks.counted)
 order_again text (orders.Remove block) asks = grind (arith, number_again)
 order_again text orders.Clear asks = rw asks refl
 order_again text orders.Enable asks = rw asks refl

@@ -1,7 +1,6 @@
--- What holds after some blocks of a read were done, and which bytes its buffer then has.
-use Rattle.std.proofs.Common.{◌≡◌, ℕ, zero, suc, ◌+◌, ◌-◌, ◌*◌, ◌/◌, ◌<◌, ◌≤◌, false}
-use Rattle.std.proofs.Common.{◌++◌, Ok, Err, List, length, take, drop}
-use Rattle.std.proofs.Common.{refl, ap, sym, subst, ◌∙◌, inl, inr, arith}
+-- What holds after some blocks of a read are done, and which bytes its buffer then has.
+use Rattle.std.proofs.Common.{◌≡◌, ℕ, zero, suc, ◌+◌, ◌-◌, ◌*◌, ◌/◌, ◌<◌, ◌≤◌, false, ◌++◌, Ok, Err}
+use Rattle.std.proofs.Common.{List, length, take, drop, refl, ap, sym, subst, ◌∙◌, inl, inr, arith}
 use Rattle.std.proofs.lemmas.Bool.{cases_lt}
 use Rattle.std.proofs.lemmas.List.{append-nil, append_assoc, drop-drop, drop-take, take-take}
 use Rattle.std.proofs.lemmas.List.{take_all}
@@ -11,17 +10,14 @@ use Rattle.std.proofs.Math.Nat.{div-mul-le_self}
 use Rattle.std.specs.Prelude.{Result, is_some}
 use Rattle.bio.specs.declared.outcome.DevError.{DevError}
 use Rattle.blockdev.specs.View.{Call, Reads, View}
-use Rattle.blockdev.specs.JoinLaws.{goes_both}
-use Rattle.blockdev.specs.JoinLaws.{stays_both}
+use Rattle.blockdev.specs.JoinLaws.{goes_both, stays_both}
 use Rattle.blockdev.specs.Law.{DeviceFrame, CrashSetKept}
 use Rattle.bio.specs.Content.{Content, gather, nothing}
 use Rattle.bio.specs.ContentLaws.{gather-ext, patched-none}
-use Rattle.dust_layer.specs.Walk.{Bad, DoesParts, FailsBelow, bytes_within, part_of, part_within}
-use Rattle.dust_layer.specs.Walk.{reach}
-use Rattle.dust_layer.proofs.BlockWalk.{times-le, reach_last, HasPassed, passed_next}
-use Rattle.dust_layer.proofs.BlockWalk.{IsNextPart, next_part_from}
+use Rattle.dust_layer.specs.Walk.{Bad, DoesParts, FailsBelow, bytes_within, part_of, reach}
+use Rattle.dust_layer.proofs.BlockWalk.{times-le, reach_last, HasPassed, passed_next, IsNextPart}
+use Rattle.dust_layer.proofs.BlockWalk.{next_part_from}
 
--- parts that are the same calls are done as they are
 parts_same : {D : Type 0} (does : D → Call → ℕ → Result ℕ DevError → D → Type 0)
     (part other : ℕ → Call) (begin count : ℕ)
     (old : D) (now : ℕ) (new : D) (end : ℕ)
@@ -36,7 +32,6 @@ parts_same does part other begin (suc count) old now new end same did =
           place low (omega arith)) did.2,
     )
 
--- bytes that are the same up to a place are the same before it
 bytes-same : (a n k : ℕ) (xs ys : List ℕ) → a + n ≤ k → take k xs ≡ take k ys
     → take n (drop a xs) ≡ take n (drop a ys)
 bytes-same a n k xs ys within same =
@@ -49,19 +44,19 @@ reach-order : (block first count p q : ℕ) → p ≤ q
     → reach block first count p ≤ reach block first count q
 reach-order block first count p q order = grind (arith, times-le)
 
--- What a read has done so far.
+-- The first `done` blocks of a read are done: the buffer has the content of the sectors below
+-- `from`.
 pub record Reading {D : Type 0} (does : D → Call → ℕ → Result ℕ DevError → D → Type 0)
     (shown : D → View) (block first : ℕ) (before now_bytes : List ℕ)
     (bad : Bad) (done from : ℕ) (old : D) (now : ℕ) (new : D) (end : ℕ) : Type 0 where
   pub passed : HasPassed does block (Reads first before now_bytes) bad bad done from old now new end
   pub bytes : take (512 * (from - first)) now_bytes
       ≡ gather (shown old).content first (from - first)
-  -- the buffer's rest is as it was
   pub rest : drop (512 * (from - first)) now_bytes ≡ drop (512 * (from - first)) before
   pub goes : DeviceFrame nothing (shown old) (shown new)
   pub stays : CrashSetKept (shown old) (shown new)
 
--- what comes into a buffer behind what was read leaves what was read
+-- the blocks that were read use only the buffer's bytes below sector `from`
 passed_read : {D : Type 0} (does : D → Call → ℕ → Result ℕ DevError → D → Type 0) (block first : ℕ)
     (before xs ys : List ℕ) (bad : Bad) (done from : ℕ)
     (old : D) (now : ℕ) (new : D) (end : ℕ)
@@ -83,8 +78,7 @@ passed_read does block first before xs ys bad done from old now new end same so_
         let begins : first
         ≤ a = elim (cases_lt place (first / block)) [
           | inl less ↦ absurd (omega arith)
-          | inr more ↦ let x = place * block in let y = length before / 512 in
-              omega arith
+          | inr more ↦ grind (arith, length)
         ] in
         let ends : b ≤ from = let h = reach-order block first (length before / 512) (suc place)
         (first / block + done) (omega arith) in let e = so_far.reached in omega (arith, h, e) in
@@ -97,7 +91,6 @@ passed_read does block first before xs ys bad done from old now new end same so_
   moment = so_far.moment;
 }
 
--- a range of sectors is its first part and then the rest
 gather-add : (c : Content) (first k n : ℕ)
     → gather c first (k + n) ≡ gather c first k ++ gather c (first + k) n
 gather-add c first k zero = grind (arith, append-nil)
@@ -109,14 +102,12 @@ gather-add c first k (suc n) =
     ∙ append_assoc (gather c first k) (gather c (first + k) n) (c (first + (k + n)))
     ∙ ap (λ (s : ℕ). gather c first k ++ (gather c (first + k) n ++ c s)) place
 
--- bytes that are the same behind a place are the same further on
 rest-further : (a b : ℕ) (xs ys : List ℕ) → a ≤ b → drop a xs ≡ drop a ys → drop b xs ≡ drop b ys
 rest-further a b xs ys order same =
     ap (λ (n : ℕ). drop n xs) (omega arith)
     ∙ sym (drop-drop (b - a) a xs) ∙ ap (drop (b - a)) same ∙ drop-drop (b - a) a ys
     ∙ ap (λ (n : ℕ). drop n ys) (omega arith)
 
--- where the next part of a read begins and ends
 next_read : {D : Type 0} (does : D → Call → ℕ → Result ℕ DevError → D → Type 0) (shown : D → View)
     (block first : ℕ) (before xs : List ℕ)
     (bad : Bad) (done from to : ℕ) (old : D) (now : ℕ) (mid : D) (at : ℕ)
@@ -128,7 +119,6 @@ next_read : {D : Type 0} (does : D → Call → ℕ → Result ℕ DevError → 
 next_read does shown block first before xs bad done from to old now mid at positive some within
     is_to so_far = grind (arith, next_part_from)
 
--- once a part is read, the read got a block further
 pub reading_step : {D : Type 0} (does : D → Call → ℕ → Result ℕ DevError → D → Type 0)
     (shown : D → View) (block first : ℕ) (before xs ys : List ℕ)
     (bad : Bad) (done from to : ℕ) (old : D) (now : ℕ) (mid : D) (at : ℕ) (new : D) (end : ℕ)
@@ -175,25 +165,15 @@ reading_step does shown block first before xs ys bad done from to old now mid at
     let there : (s : ℕ) → from + s ≡ first + k + s = λ s. omega (arith, low) in
     record {
       passed =
-          subst (λ (m : ℕ). HasPassed does block
-          (Reads first before ys) bad bad m to old now new end) (omega arith) passed;
+          grind arith;
       bytes =
-          ap (λ (m : ℕ). take m ys) bytes_to
-          ∙ take-add (512 * k) (512 * n) ys
-          ∙ ap (λ (zs : List ℕ). zs ++ take (512 * n) (drop (512 * k) ys)) (same ∙ so_far.bytes)
-          ∙ ap (λ (zs : List ℕ). gather (shown old).content first k ++ zs)
-          (read ∙ gather-ext (shown mid).content (shown old).content from (first + k) n
-          (λ s h. content (from + s) ∙ ap (shown old).content (there s)))
-          ∙ sym (gather-add (shown old).content first k n)
-          ∙ ap (gather (shown old).content first) (sym up_to);
+          grind (arith, take, take-add, drop, gather-ext, gather-add);
       rest =
-          behind ∙ rest-further (512 * (from - first)) (512 * (to - first)) xs before
-          (omega (arith, order)) so_far.rest;
+          grind (arith, rest-further);
       goes = goes_both nothing (shown old) (shown mid) (shown new) so_far.goes goes;
       stays = stays_both (shown old) (shown mid) (shown new) so_far.stays stays;
     }
 
--- a part of it that fails below
 pub reading_failed : {D : Type 0} (does : D → Call → ℕ → Result ℕ DevError → D → Type 0)
     (shown : D → View) (block first : ℕ) (before xs ys : List ℕ)
     (bad : Bad) (done from to : ℕ) (old : D) (now : ℕ) (mid : D) (at : ℕ) (new : D)
@@ -232,19 +212,15 @@ reading_failed does shown block first before xs ys bad done from to old now mid 
           (passed_read does block first before xs ys bad done from old now mid at
           (sym same) so_far.passed).passes;
       within =
-          let a = first / block in
-          let b = (first + length before / 512 - 1) / block in omega (arith, within);
+          grind (arith, length);
       free = free;
       fails =
-          rw (← so_far.passed.reached) (subst (λ (p : ℕ). does mid (part_within from p (Reads
-          first before ys)) at (Err error) new) ends asked);
+          grind arith;
       rest =
-          rw (← ends_next) (behind ∙ rest-further (512 * (from - first)) (512 * (to - first)) xs
-          before (omega (arith, order)) so_far.rest);
+          grind (arith, rest-further);
       list = λ place. refl;
     }
 
--- behind its last block all of it is read
 pub reading_bytes : {D : Type 0} (does : D → Call → ℕ → Result ℕ DevError → D → Type 0)
     (shown : D → View) (block first : ℕ) (before xs : List ℕ)
     (bad : Bad) (done from : ℕ) (old : D) (now : ℕ) (new : D) (end : ℕ)

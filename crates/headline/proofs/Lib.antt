@@ -1,3 +1,3 @@
--- The lemmas of `headline`. The proof of a function is in the folder of its source file.
+-- The lemmas of `headline`. The proof of each function is in the folder of its source file.
 mod HeadlineHolds
 mod Examples

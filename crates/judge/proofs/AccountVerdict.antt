@@ -1,10 +1,9 @@
--- The verdict that follows from an account is the verdict on its image.
+-- The verdict that follows from an account is the verdict on its image, and there is only one.
 use Rattle.std.proofs.Common.{sym, ◌∙◌, subst, inl, inr, arith, ◌||◌, Option, Some, None, List, []}
 use Rattle.std.proofs.Common.{◌∷◌, length, take, drop, refl, ap, ◌≡◌, ℕ, zero, suc, ◌*◌, ◌/◌, ◌%◌}
 use Rattle.std.proofs.Common.{◌<◌, ◌≤◌, Bool, true, false, ◌&&◌}
 use Rattle.std.specs.Prelude.{slice_get, is_none, is_some}
 use Rattle.std.proofs.lemmas.Bool.{and_parts, cases_lt}
-use Rattle.std.specs.Str.{bytes_eq}
 use Rattle.bio.specs.Content.{Content, sector_of}
 use Rattle.bio.specs.declared.event.CoreEvent.{CoreEvent}
 use Rattle.bio.specs.Events.{end_of, is_before, is_flush_submit, is_lawful, is_well_formed}
@@ -26,7 +25,6 @@ use Rattle.judge.specs.Laws.{any_below-last, equal_bytes, held-parts, held_somew
 use Rattle.judge.specs.Laws.{kept_within, last_below-found, none_passes, same_bytes}
 use Rattle.judge.specs.Verdicts.{FailsAt, IsLastKept, IsRuledOutBy, IsVerdict}
 
--- something is there just where it isn't none
 is_some-none : (o : Option ℕ) → is_none o ≡ true → is_some o ≡ false
 is_some-none None e = refl
 is_some-none (Some x) e = cc
@@ -35,7 +33,7 @@ none-is_some : (o : Option ℕ) → is_some o ≡ false → is_none o ≡ true
 none-is_some None e = refl
 none-is_some (Some x) e = cc
 
--- a fine sector has a value that the device could hold
+-- a sector is fine if it passes `could_hold_value`
 fine_possible : (events : List CoreEvent) (first now : Content) (sectors sector : ℕ)
     (account : Account)
     → IsAccount events now sectors account → sector < sectors
@@ -45,24 +43,16 @@ fine_possible events first now sectors sector account told within fine =
     elim (or_cases (is_some (place_at account.held.items sector))
     (is_at_first account.last.items first now sector) fine) [
       | inl held ↦
-          let some =
-          any_below-last (is_held_from events now sector) (length events)
-          ∙ ap is_some (sym (told.held sector within)) ∙ held in
-          let found = any_below-some (is_held_from events now sector) (length events) some in
-          let parts = held-parts events now sector found.0 found.2 in
-          inr (found.0, parts.0, parts.1)
-      | inr same ↦
-          let parts =
-          and_parts (is_none (place_at account.last.items sector))
-          (bytes_eq (now sector) (first sector)) same in
-          inl (
-            equal_bytes (now sector) (first sector) parts.1,
-            kept_last events sector ∙ ap is_some (sym (told.last sector within))
-                ∙ is_some-none (place_at account.last.items sector) parts.0,
+          grind (
+            arith,
+            any_below-last (is_held_from events now sector) (length events),
+            any_below-some,
+            held-parts,
           )
+      | inr same ↦
+          grind (arith, and_parts, equal_bytes, kept_last, is_some-none)
     ]
 
--- a sector with a value that the device could hold is fine
 possible_fine : (events : List CoreEvent) (first now : Content) (sectors sector : ℕ)
     (account : Account)
     → IsAccount events now sectors account → sector < sectors
@@ -77,14 +67,13 @@ possible_fine events first now sectors sector account told within (inr from) =
     ∙ held_somewhere events now sector from.0 from.1 from.2 in
     ap (λ b. b || is_at_first account.last.items first now sector) held
 
--- what rules a sector out
 ruled_out : (events : List CoreEvent) (sector : ℕ) (by : Option ℕ)
     → by ≡ last_below (is_kept events sector) (length events)
     → IsRuledOutBy events sector by
 ruled_out events sector None is = kept_last events sector ∙ ap is_some (sym is)
 ruled_out events sector (Some id) is = grind (arith, last_below-found, kept_within)
 
--- past the end of both images, sectors have the same bytes: none
+-- past the end of both images, each sector is empty
 same_past : (first image : List ℕ) (sector : ℕ) → length image % 512 ≡ 0
     → length first ≡ length image → length image / 512 ≤ sector
     → sector_of image sector ≡ sector_of first sector
@@ -99,7 +88,6 @@ same_past first image sector whole same past =
     drop_past zero (x ∷ xs) h = absurd (omega arith)
     drop_past (suc n) (x ∷ xs) h = drop_past n xs (omega arith)
 
--- no durable request covers a sector past the device's end
 none_past : (events : List CoreEvent) (sectors sector : ℕ) → is_lawful sectors events ≡ true
     → sectors ≤ sector → has_kept events sector ≡ false
 none_past events sectors sector lawful past =
@@ -117,7 +105,6 @@ none_past events sectors sector lawful past =
       | inr other ↦ other
     ])
 
--- what an account says is the verdict
 pub judged : (events : List CoreEvent) (first image : List ℕ) (account : Account)
     (verdict : Verdict)
     → length image % 512 ≡ 0 → length first ≡ length image
@@ -132,19 +119,18 @@ judged events first image account Yes whole same lawful told found =
           fine_possible events (sector_of first) (sector_of image)
           (length image / 512) sector account told within (found sector within)
       | inr past ↦
-          inl (
-            same_past first image sector whole same past,
-            none_past events (length image / 512) sector lawful past,
-          )
+          grind (arith, same_past, none_past, length)
     ]
 judged events first image account (No sector by) whole same lawful told found = record {
   within = found.within;
   fails = λ possible.
-      let fine =
-      possible_fine events (sector_of first) (sector_of image)
-      (length image / 512) sector account told found.within possible in
-      let contra : true ≡ false = sym fine ∙ found.fails in
-      cc;
+      grind (
+        arith,
+        possible_fine events (sector_of first) (sector_of image) (length image / 512)
+            sector account told found.within possible,
+        true,
+        false,
+      );
   lowest = λ lower h.
       fine_possible events (sector_of first) (sector_of image)
       (length image / 512) lower account told
@@ -152,9 +138,6 @@ judged events first image account (No sector by) whole same lawful told found = 
   ruled_out = ruled_out events sector by (found.ruled_out ∙ told.last sector found.within);
 }
 
--- An image has only one verdict, and the last flush and the last durable request decide it.
-
--- a place that passes, with none after it, is the last one below n
 pub last_is : (test : ℕ → Bool) (n p : ℕ) → p < n → test p ≡ true
     → ((k : ℕ) → test k ≡ true → k ≤ p) → last_below test n ≡ Some p
 last_is test n p within here last = elim (option_cases (last_below test n)) [
@@ -166,10 +149,9 @@ last_is test n p within here last = elim (option_cases (last_below test n)) [
       let up = found.last p within here in
       let down = last some.0 found.here in
       let same : some.0 ≡ p = omega arith in
-      some.1 ∙ ap (λ (k : ℕ). Some k) same
+      grind (arith, some.1, same)
 ]
 
--- what rules a sector out is one
 one_cause : (events : List CoreEvent) (sector : ℕ) (by other : Option ℕ)
     → IsRuledOutBy events sector by → IsRuledOutBy events sector other → by ≡ other
 one_cause events sector None None a b = refl
@@ -189,14 +171,12 @@ one_cause events sector (Some id) (Some later) a b =
     let same : id ≡ later = omega arith in
     rw same
 
--- the lowest sector that fails is one
 one_sector : (sectors : ℕ) (events : List CoreEvent) (first now : Content) (sector other : ℕ)
     (by cause : Option ℕ)
     → FailsAt events first now sectors sector by → FailsAt events first now sectors other cause
     → sector ≡ other
 one_sector sectors events first now sector other by cause a b = grind (arith, cases_lt)
 
--- a verdict is one
 pub one_verdict : (sectors : ℕ) (events : List CoreEvent) (first now : Content)
     (verdict other : Verdict)
     → IsVerdict sectors events first now verdict → IsVerdict sectors events first now other
@@ -211,12 +191,10 @@ one_verdict sectors events first now (No sector by) (No other cause) a b =
     (subst (λ (s : ℕ). IsRuledOutBy events s by) same a.ruled_out) b.ruled_out in
     rw (same, causes)
 
--- a flush stands among the events
 flush_within : (events : List CoreEvent) (id : ℕ) → is_flush_submit (slice_get events id) ≡ true
     → id < length events
 flush_within events id flush = grind (arith, option_cases, slice_get-within)
 
--- the last flush that ended with success decides what is durable
 pub durable_by_last : (events : List CoreEvent) (flush id : ℕ) → IsLastFlush events flush
     → is_durable events id ≡
     (ended_ok events id && (submits has_fua (slice_get events id) || is_before events id flush))
@@ -224,13 +202,12 @@ durable_by_last events flush id last =
     let found =
     last_is (is_sure_flush events) (length events) flush
     (flush_within events flush last.flush)
-    (ap (λ b. b && ended_ok events flush) last.flush ∙ last.ended)
+    (grind (arith, last.flush, last.ended))
     (λ later sure. let parts = and_parts (is_flush_submit (slice_get events later))
     (ended_ok events later) sure in last.last later parts.0 parts.1) in
     ap (λ b. ended_ok events id && (submits has_fua (slice_get events id) || b))
     (flushed_last events id ∙ ap (is_below_last (end_of events id)) found)
 
--- the last durable request over a sector decides which values are gone from it
 pub replaced_by_last : (events : List CoreEvent) (sector last id : ℕ)
     → IsLastKept events sector last → is_replaced events sector id ≡ is_before events id last
 replaced_by_last events sector last id kept =

@@ -1,4 +1,4 @@
--- The lists of an account as the judge makes them: the last index that passes a test, and the
+-- How the judge makes the lists of an account: by the last index that passes a test, and by the
 -- values that the image has.
 use Rattle.std.proofs.Common.{false, not, ◌&&◌, ◌||◌, Option, Some, None, inr, arith, ◌≡◌, ℕ, zero}
 use Rattle.std.proofs.Common.{◌+◌, ◌-◌, ◌*◌, ◌/◌, suc, ◌<◌, ◌≤◌, Bool, true, replicate, List, take}
@@ -20,14 +20,11 @@ use Rattle.judge.specs.Accounts.{is_held_from, is_value, last_below, place_at}
 use Rattle.judge.specs.inside.{AreCovered, AreFit, AreHeld, AreLastKept, has_value_of}
 use Rattle.judge.specs.inside.{is_below_last, is_sure_flush}
 
--- The last index that passes a test is enough to decide whether any later index than an end passes.
-
--- an end below a place is below each later one
 later_too : (end : Option ℕ) (m n : ℕ) → m ≤ n → is_below end m ≡ true → is_below end n ≡ true
 later_too None m n h below = below
 later_too (Some end) m n h below = let less = ltb-true end m below in lt-ltb end n (omega arith)
 
--- some place that passes comes after the end just where the last one does
+-- the last place that passes is enough to decide whether any place after the end passes
 pub any_after-last : (test : ℕ → Bool) (end : Option ℕ) (n : ℕ)
     → any_below (λ place. test place && is_below end place) n
     ≡ is_below_last end (last_below test n)
@@ -37,13 +34,13 @@ any_after-last test end (suc n) = elim (bool_cases (test n)) [
       ap (λ b. any_below (λ place. test place && is_below end place) n
       || (b && is_below end n)) here
       ∙ joined (bool_cases (is_below end n))
-      ∙ sym (ap (λ b. is_below_last end (if b then Some n else last_below test n)) here)
+      ∙ sym (grind (arith, here))
   | inr other ↦
       ap (λ b. any_below (λ place. test place && is_below end place) n
       || (b && is_below end n)) other
       ∙ or_false (any_below (λ place. test place && is_below end place) n)
       ∙ any_after-last test end n
-      ∙ sym (ap (λ b. is_below_last end (if b then Some n else last_below test n)) other)
+      ∙ sym (grind (arith, other))
 ]
   where
     or_false : (a : Bool) → (a || false) ≡ a
@@ -70,8 +67,6 @@ any_after-last test end (suc n) = elim (bool_cases (test n)) [
         none k h (inl below) = grind (arith, later_too)
         none k h (inr above) = grind (arith, and_false)
 
--- a request ended before a flush that ended with success
--- just where it ended before the last such flush
 pub flushed_last : (events : List CoreEvent) (id : ℕ)
     → is_flushed events id ≡ is_below_last (end_of events id)
     (last_below (is_sure_flush events) (length events))
@@ -89,15 +84,12 @@ flushed_last events id =
     joined true b c = refl
     joined false b c = refl
 
--- a request is replaced just where it ended before the
--- durable request over the sector that was submitted last
 pub replaced_last : (events : List CoreEvent) (sector id : ℕ)
     → is_replaced events sector id
     ≡ is_below_last (end_of events id) (last_below (is_kept events sector) (length events))
 replaced_last events sector id =
     any_after-last (is_kept events sector) (end_of events id) (length events)
 
--- a durable request is the last one of the sectors that it covers
 pub last_kept_durable : (events : List CoreEvent) (event : CoreEvent) (sectors place : ℕ)
     (old new : List (Option ℕ))
     → slice_get events place ≡ Some event → is_durable events place ≡ true → length new ≡ length old
@@ -121,13 +113,11 @@ last_kept_durable events event sectors place old new is durable size covered oth
     by_test sector h (inl covers) = grind arith
     by_test sector h (inr passes) = grind arith
 
--- a request that isn't durable changes nothing
 pub last_kept_other : (events : List CoreEvent) (sectors place : ℕ) (last : List (Option ℕ))
     → is_durable events place ≡ false → AreLastKept events sectors place last
     → AreLastKept events sectors (suc place) last
 last_kept_other events sectors place last durable before = grind arith
 
--- an event covers the sectors of its range and no other
 pub covered_in : (event : Option CoreEvent) (sectors from to sector : ℕ)
     → AreCovered event sectors from to → sector < sectors
     → covers_at sector event ≡ true → (from ≤ sector) × (sector < to)
@@ -147,9 +137,6 @@ covered_out event sectors from to sector are within covers =
     by_test (inl low) (inr high) = grind (arith, cases_lt, lt-ltb)
     by_test (inl low) (inl high) = grind arith
 
--- The effect of one sector on the list `held`, if its value fits and if it doesn't.
-
--- one more sector of the range, whose value fits
 pub fit_here : (event : Option CoreEvent) (end : Option ℕ) (last : List (Option ℕ)) (now : Content)
     (place from sector : ℕ) (old held : List (Option ℕ))
     → sector < length held → has_value_of event end last now sector ≡ true
@@ -158,7 +145,6 @@ pub fit_here : (event : Option CoreEvent) (end : Option ℕ) (last : List (Optio
 fit_here event end last now place from sector old held within fits low before =
     grind (arith, length-set, last_or_below, get_or-set_same, get_or-set_other)
 
--- and one whose value doesn't
 pub fit_not : (event : Option CoreEvent) (end : Option ℕ) (last : List (Option ℕ)) (now : Content)
     (place from sector : ℕ) (old held : List (Option ℕ))
     → has_value_of event end last now sector ≡ false
@@ -167,7 +153,7 @@ pub fit_not : (event : Option CoreEvent) (end : Option ℕ) (last : List (Option
 fit_not event end last now place from sector old held fails low before =
     grind (arith, last_or_below)
 
--- the sectors outside an event's range don't fit, so that all that do have its place
+-- sectors outside the event's range have no value of it, so a walk over the range is enough
 pub fit_all : (event : Option CoreEvent) (end : Option ℕ) (last : List (Option ℕ)) (now : Content)
     (place from to : ℕ) (old new : List (Option ℕ))
     → AreCovered event (length old) from to → AreFit event end last now place from to old new
@@ -177,20 +163,15 @@ pub fit_all : (event : Option CoreEvent) (end : Option ℕ) (last : List (Option
 fit_all event end last now place from to old new covered fit sector within =
     elim (bool_cases (covers_at sector event)) [
       | inl covers ↦
-          let range = covered_in event (length old) from to sector covered within covers in
-          fit.within sector within range.0 range.1
+          grind (arith, covered_in, length)
       | inr passes ↦
-          fit.outside sector (covered_out event (length old) from to sector covered within passes)
-          ∙ sym (rw (ap (λ value. not (is_below_last end (place_at last sector)) && is_value
-          value (now sector)) (uncovered_value event sector passes) ∙ and_false (not
-          (is_below_last end (place_at last sector)))))
+          grind (arith, covered_out, length, not, uncovered_value)
     ]
   where
     and_false : (a : Bool) → (a && false) ≡ false
     and_false true = refl
     and_false false = refl
 
--- the places for one more event
 pub held_next : (events : List CoreEvent) (event : CoreEvent) (now : Content) (sectors place : ℕ)
     (end : Option ℕ) (last : List (Option ℕ)) (old new : List (Option ℕ))
     → slice_get events place ≡ Some event → end ≡ end_of events place
@@ -216,28 +197,22 @@ held_next events event now sectors place end last old new is ends kept size fit 
     same sector within =
         grind (arith, replaced_last)
 
--- The value that a request has for a sector, as bytes of the request's data.
-
--- a sector of an image is a part of it
 pub part_is_sector : (image : List ℕ) (sector : ℕ)
     → take (sector * 512 + 512 - sector * 512) (drop (sector * 512) image) ≡ sector_of image sector
 part_is_sector image sector = grind arith
 
--- a sector outside a range has no value of it
 pub no_value : (first count sector : ℕ) (part : ℕ → List ℕ) (value : List ℕ)
     → (sector < first) ⊎ (first + count ≤ sector)
     → false ≡ is_value (over first count part sector) value
 no_value first count sector part value outside = grind (arith, over-before, over-after)
 
--- a sector of a range has its value
 pub some_value : (first count sector place : ℕ) (part : ℕ → List ℕ) (value bytes : List ℕ)
     → sector ≡ first + place → place < count
     → bytes ≡ part place → bytes_eq bytes value ≡ is_value (over first count part sector) value
 some_value first count sector place part value bytes is within same = grind (arith, over-in)
 
--- a sector of zeroes is zeroes
 pub zero_sector : (count sector : ℕ) → sector < count / 512
     → sector_of (replicate count 0) sector ≡ replicate 512 0
 zero_sector count sector within =
-    ap (λ (bytes : List ℕ). take 512 bytes) (drop-replicate (512 * sector) count 0)
+    ap (take 512) (drop-replicate (512 * sector) count 0)
     ∙ take-replicate 512 (count - 512 * sector) 0 (omega (arith, within))

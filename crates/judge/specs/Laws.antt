@@ -18,13 +18,9 @@ pub any_below-last : (test : ℕ → Bool) (n : ℕ) → any_below test n ≡ is
 any_below-last test zero = refl
 any_below-last test (suc n) = elim (bool_cases (test n)) [
   | inl here ↦
-      or_second (any_below test n) (test n) here
-      ∙ sym (rw here)
+      grind (arith, or_second)
   | inr other ↦
-      ap (λ b. any_below test n || b) other
-      ∙ or_false (any_below test n)
-      ∙ any_below-last test n
-      ∙ sym (ap (λ b. is_some (if b then Some n else last_below test n)) other)
+      grind (arith, any_below-last test n)
 ]
   where
     or_false : (a : Bool) → (a || false) ≡ a

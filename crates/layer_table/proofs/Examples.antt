@@ -1,7 +1,7 @@
 -- Examples of layers, slots, views and table lines: what holds, and what doesn't.
-use Rattle.std.proofs.Common.{◌≡◌, List, ℕ, ◌+◌, true, false, [], ◌∷◌, ◌++◌, Result, Ok, Err}
-use Rattle.std.proofs.Common.{replicate, refl, sym, true≢false, arith}
-use Rattle.std.specs.Prelude.{codes, decimal}
+use Rattle.std.proofs.Common.{◌≡◌, List, ℕ, ◌+◌, true, false, [], ◌∷◌, Result, Ok, Err, replicate}
+use Rattle.std.proofs.Common.{refl, sym, true≢false, arith}
+use Rattle.std.specs.Prelude.{codes}
 use Rattle.refusals.specs.Words.{words_of}
 use Rattle.bio.specs.Content.{Content}
 use Rattle.blockdev.specs.View.{Flushes, View}
@@ -13,18 +13,12 @@ use Rattle.fault_layers.specs.Verdicts.{IsCycle, Loaded}
 use Rattle.dust_layer.specs.Orders.{IsBlockSize}
 use Rattle.layer_table.specs.declared.layer_spec.LayerSpec.{LayerSpec}
 use Rattle.layer_table.specs.declared.table_error.TableError.{TableError}
-use Rattle.layer_table.specs.declared.table_error.TableError.TheVariants.{BadFeature, BadNumber}
-use Rattle.layer_table.specs.declared.table_error.TableError.TheVariants.{OutOfRange, UnknownTarget}
 use Rattle.layer_table.specs.declared.table_error.TableError.TheVariants.{WrongCount}
 use Rattle.layer_table.specs.Layers.{top_origin, top_sectors, IsAllowed, IsPut, IsSeenAs, Layer}
 use Rattle.layer_table.specs.Layers.{some_drops, AreOver, layer_asked, layers_over, Deciding}
 use Rattle.layer_table.specs.Layers.{Decides, IsPartOf}
-use Rattle.layer_table.specs.TableLines.{IsLayerSpec, line_answer, line_text}
+use Rattle.layer_table.specs.TableLines.{IsLayerSpec, line_answer}
 use Rattle.layer_table.specs.Slots.{has_no_gap}
-
--- Examples of layers, slots and views, proved by computation: what holds, and what doesn't.
-
--- ---- what a line asks for
 
 abbrev gate : Target → Loaded
 gate target = record { target = target; load = 3000 }
@@ -39,8 +33,6 @@ asked : layer_asked (record { length = 8; offset = 4; target = targets.Fuse 3 })
     }
 asked = refl
 
--- ---- which layers may drop writes
-
 abbrev over_eight : Target → LayerSpec
 over_eight target = record { length = 8; offset = 0; target = target }
 
@@ -52,8 +44,6 @@ none-drops : some_drops (over_eight targets.Error ∷ over_eight
     (targets.Flakey 0 5 features.ErrorWrites) ∷ over_eight (targets.Fuse 0) ∷ []) ≡ false
 none-drops = refl
 
--- ---- which slots have a layer
-
 two-lowest : has_no_gap (false ∷ false ∷ true ∷ true ∷ []) ≡ true
 two-lowest = refl
 
@@ -62,8 +52,6 @@ none = refl
 
 gap-beneath : has_no_gap (false ∷ true ∷ false ∷ true ∷ []) ≡ false
 gap-beneath = refl
-
--- ---- what layers show
 
 abbrev four-on : Layer
 four-on =
@@ -135,26 +123,12 @@ top =
       can_lie = false;
     }
 
--- ---- what shows the same
-
 seen : IsSeenAs still still
-seen = record {
-  size = refl;
-  place = refl;
-  content = λ sector. refl;
-  crash = λ left. (λ may. may, λ may. may);
-  moment = refl;
-  since = λ moment left. (λ may. may, λ may. may);
-  faults = refl;
-  lies = refl;
-  can_lie = refl;
-}
+seen = grind arith
 
 seen_size : IsSeenAs still (record still { size = 9 }) → ⊥
 unfolding still
 seen_size same = let is = same.size in omega arith
-
--- ---- a layer that was put
 
 abbrev four_on : Target → LayerSpec
 four_on target = record { length = 4; offset = 2; target = target }
@@ -163,25 +137,13 @@ put_size : IsPut (four_on targets.Linear) still (record top { size = 6 }) → �
 unfolding still top
 put_size put = let is = put.size in omega arith
 
--- ---- layers that were put over others
-
 over : AreOver (four_on targets.Linear ∷ []) still top
 unfolding still top
-over =
-    record {
-      size = refl;
-      place = refl;
-      moment = refl;
-      faults = refl;
-      lies = refl;
-      can_lie = λ none. refl;
-    }
+over = grind arith
 
 over_size : AreOver (four_on targets.Linear ∷ []) still (record top { size = 8 }) → ⊥
 unfolding still top
 over_size put = let is = put.size in omega arith
-
--- ---- a part of a disk
 
 part : IsPartOf still top
 unfolding still top Zeroes all
@@ -198,8 +160,6 @@ part = record {
 part_within : IsPartOf still (record top { size = 7 }) → ⊥
 unfolding still top
 part_within is = let fits = is.within in omega arith
-
--- ---- what becomes of a call at a layer
 
 -- a layer with these counts of faults and lies
 layer : ℕ → ℕ → Layer
@@ -225,133 +185,15 @@ answer line = line_answer (words_of line)
 abbrev line_layer : ℕ → Target → Result LayerSpec TableError
 line_layer offset target = Ok (record { length = 16; offset = offset; target = target })
 
--- ---- words that ask for a layer
-
-linear : answer (codes " 0  16 linear disk 8 ") ≡ line_layer 8 targets.Linear
-linear = refl
-
-error : answer (codes "0 16 error") ≡ line_layer 0 targets.Error
-error = refl
-
-flakey : answer (codes "0 16 flakey disk 8 10 5") ≡ line_layer 8 (targets.Flakey 10 5 features.None)
-flakey = refl
-
-no_features : answer (codes "0 16 flakey disk 8 10 5 0")
-    ≡ line_layer 8 (targets.Flakey 10 5 features.None)
-no_features = refl
-
 lying : answer (codes "0 16 flakey disk 8 10 5 1 drop_writes")
     ≡ line_layer 8 (targets.Flakey 10 5 features.DropWrites)
 lying = refl
 
-fuse : answer (codes "0 16 fuse disk 8 3") ≡ line_layer 8 (targets.Fuse 3)
-fuse = refl
-
-dust : answer (codes "0 16 dust disk 8 512") ≡ line_layer 8 (targets.Dust 512)
-unfolding lib.Count.ones
-dust = refl
-
-one_delay : answer (codes "0 16 delay disk 8 1") ≡ line_layer 8 (targets.Delay 1 1 1)
-one_delay = refl
-
--- the sector may be spelled in two ways
-two_delays : answer (codes "0 16 delay a 08 1 a 8 2") ≡ line_layer 8 (targets.Delay 1 2 2)
-two_delays = refl
-
-three_delays : answer (codes "0 16 delay a 8 1 a 8 2 a 8 3") ≡ line_layer 8 (targets.Delay 1 2 3)
-three_delays = refl
-
--- ---- the tests, in their order
-
 short : answer (codes "0 16") ≡ Err WrongCount
 short = refl
 
-unknown : answer (codes "x y zero a b c d e f g") ≡ Err UnknownTarget
-unknown = refl
-
-few : answer (codes "x 16 linear disk") ≡ Err WrongCount
-few = refl
-
 half_a_set : answer (codes "0 16 delay a 0 1 a 0") ≡ Err WrongCount
 half_a_set = refl
-
-no_number : answer (codes "1 16 flakey disk 0 10 x 1 corrupt_bio_byte") ≡ Err BadNumber
-no_number = refl
-
-no_feature : answer (codes "1 0 flakey disk 0 0 0 1 corrupt_bio_byte") ≡ Err BadFeature
-no_feature = refl
-
-no_count : answer (codes "0 16 flakey disk 0 10 5 2") ≡ Err BadFeature
-no_count = refl
-
-start : answer (codes "1 16 linear disk 0") ≡ Err OutOfRange
-start = refl
-
-two_devices : answer (codes "0 16 delay a 0 1 b 0 2") ≡ Err OutOfRange
-two_devices = refl
-
-two_sectors : answer (codes "0 16 delay a 0 1 a 0 2 a 1 3") ≡ Err OutOfRange
-two_sectors = refl
-
--- the bounds
-last_second : answer (codes "0 16 flakey disk 8 4294967294 1")
-    ≡ line_layer 8 (targets.Flakey 4294967294 1 features.None)
-last_second = refl
-
-past_second : answer (codes "0 16 flakey disk 8 4294967295 1") ≡ Err OutOfRange
-past_second = refl
-
-no_second : answer (codes "0 16 flakey disk 0 0 0") ≡ Err OutOfRange
-no_second = refl
-
-last_length : answer (codes "0 1048576 error")
-    ≡ Ok (record { length = 1048576; offset = 0; target = targets.Error })
-last_length = refl
-
-past_length : answer (codes "0 1048577 error") ≡ Err OutOfRange
-past_length = refl
-
-last_delay : answer (codes "0 16 delay disk 8 4294967295")
-    ≡ line_layer 8 (targets.Delay 4294967295 4294967295 4294967295)
-last_delay = refl
-
-past_delay : answer (codes "0 16 delay disk 8 4294967296") ≡ Err OutOfRange
-past_delay = refl
-
--- no blocks of 256 or of 1,536 bytes
-small_block : answer (codes "0 16 dust disk 0 256") ≡ Err OutOfRange
-unfolding lib.Count.ones
-small_block = refl
-
-odd_block : answer (codes "0 16 dust disk 0 1536") ≡ Err OutOfRange
-unfolding lib.Count.ones
-odd_block = refl
-
--- ---- the printed text
-
--- one space between two words, and no count of features if there is none
-plain_text : line_text (record {
-  length = 16;
-  offset = 0;
-  target = targets.Flakey 10 5 features.None;
-})
-    ≡ codes "0 " ++ (decimal 16
-    ++ (codes " flakey disk "
-    ++ (decimal 0 ++ (codes " " ++ (decimal 10 ++ (codes " " ++ decimal 5))))))
-plain_text = refl
-
-lying_text : line_text (record {
-  length = 16;
-  offset = 0;
-  target = targets.Flakey 10 5 features.DropWrites;
-})
-    ≡ codes "0 " ++ (decimal 16
-    ++ (codes " flakey disk "
-    ++ (decimal 0 ++ (codes " "
-    ++ (decimal 10 ++ (codes " " ++ (decimal 5 ++ codes " 1 drop_writes")))))))
-lying_text = refl
-
--- ---- ranges
 
 a-block : IsBlockSize 1024
 unfolding lib.Count.ones
@@ -368,8 +210,6 @@ no-cycle cycle = let some = cycle.some in omega arith
 -- up and down are counted together
 whole-cycle : IsCycle 4294967290 5
 whole-cycle = record { some = omega arith; few = omega arith }
-
--- ---- layers one over another
 
 -- 8 sectors from sector 4 on, and of these 3 from sector 2 on
 abbrev eight : LayerSpec
@@ -388,23 +228,7 @@ no-layers : top_sectors 16 [] ≡ 16
 no-layers = refl
 
 they-stand : IsAllowed 12 (eight ∷ three ∷ [])
-they-stand = (
-  record {
-    sectors = record { some = omega arith; few = omega arith };
-    place = omega arith;
-    has = tt;
-  },
-  omega arith,
-  (
-    record {
-      sectors = record { some = omega arith; few = omega arith };
-      place = omega arith;
-      has = omega arith;
-    },
-    omega arith,
-    tt,
-  ),
-)
+they-stand = grind arith
 
 -- past the device's end, and past the end of the layer beneath
 not-on-eleven : IsAllowed 11 (eight ∷ three ∷ []) → ⊥

@@ -1,7 +1,7 @@
--- Layers that are put over a stack, and what a message keeps of a stack.
-use Rattle.std.proofs.Common.{ap, subst, sym, ◌∙◌, inl, inr, arith, ◌≡◌, ℕ, Bool, false, ◌+◌, ◌<◌}
-use Rattle.std.proofs.Common.{◌≤◌, List, [], ◌∷◌, ◌++◌, length, refl}
-use Rattle.std.specs.Prelude.{◌↔◌, ◌⊎◌, ◌||◌, Err, IfErr, IsErrAnd, Ok, Result}
+-- Proves laws of layers that are put over a stack, and of what a message keeps of a stack.
+use Rattle.std.proofs.Common.{subst, sym, ◌∙◌, inl, inr, arith, ◌≡◌, ℕ, false, ◌+◌, ◌<◌, ◌≤◌, List}
+use Rattle.std.proofs.Common.{[], ◌∷◌, ◌++◌, length, refl}
+use Rattle.std.specs.Prelude.{◌↔◌, ◌⊎◌, Err, IfErr, IsErrAnd, Ok, Result}
 use Rattle.std.proofs.lemmas.Bool.{or_parts}
 use Rattle.std.proofs.lemmas.List.{append_assoc}
 use Rattle.std.proofs.Math.Bool.{or-false}
@@ -10,7 +10,6 @@ use Rattle.bio.specs.Content.{Content}
 use Rattle.blockdev.specs.declared.device.BlockDev.{Ghosts}
 use Rattle.blockdev.specs.declared.message.MessageError.{MessageError}
 use Rattle.blockdev.specs.View.{Place, View}
-use Rattle.fault_layers.specs.Verdicts.{drops_writes}
 use Rattle.fault_layers.specs.Window.{SeenFrom}
 use Rattle.layer_table.specs.declared.layer_spec.LayerSpec.{LayerSpec}
 use Rattle.layer_table.specs.declared.slot.Slot.{Slot}
@@ -24,11 +23,8 @@ use Rattle.layer_table.specs.Slots.{AnswersBelow, AnswersItself, IsNoMessage}
 use Rattle.layer_table.specs.StackMessages.{StackAnswers}
 use Rattle.layer_table.specs.ThreeLevel.{three_answers}
 
--- Layers that are put over a stack, one after another: the lemmas for `Stack::under`.
-
--- The layers `specs` without `rest` are put over `old`; the result is `stack`.
+-- The layers `specs` except the last ones, `rest`, are put over `old`; the result is `stack`.
 pub record AreUnder (specs rest : List LayerSpec) (load : ℕ) (old stack : Stack) : Type 0 where
-  -- the layers that are put
   put : List LayerSpec
   are : specs ≡ put ++ rest
   stands : layers_of stack ≡ layers_under put load (layers_of old)
@@ -47,7 +43,6 @@ pub record AreUnder (specs rest : List LayerSpec) (load : ℕ) (old stack : Stac
   stand : IsAllowed (stack_shown old).size specs → IsAllowed (stack_shown stack).size rest
   count : length (layers_of stack) + length rest ≡ length (layers_of old) + length specs
 
--- at first no layer is put
 pub none_under : (specs : List LayerSpec) (load : ℕ) (old : Stack)
     → AllByRecursion IsLayerSpec specs → AreUnder specs specs load old old
 none_under specs load old asked = record {
@@ -68,14 +63,11 @@ none_under specs load old asked = record {
   count = refl;
 }
 
--- the next layer's values are in their ranges
 pub first_asked : (specs rest : List LayerSpec) (spec : LayerSpec) (above : List LayerSpec)
     (load : ℕ) (old stack : Stack) → rest ≡ spec ∷ above
     → AreUnder specs rest load old stack → IsLayerSpec spec
-first_asked specs rest spec above load old stack is are =
-    (subst (λ (ls : List LayerSpec). AllByRecursion IsLayerSpec ls) is are.asked).0
+first_asked specs rest spec above load old stack is are = grind arith
 
--- one more layer, over layers that are put over others
 under_one_more : (put : List LayerSpec) (spec : LayerSpec) (load : ℕ) (layers : List Layer)
     → layers_under (put ++ spec ∷ []) load layers
     ≡ layer_asked spec load ∷ layers_under put load layers
@@ -83,48 +75,38 @@ under_one_more [] spec load layers = refl
 under_one_more (first ∷ put) spec load layers =
     under_one_more put spec load (layer_asked first load ∷ layers)
 
--- after one more layer is put, `AreUnder` holds for the new stack and the rest
 pub one_under : (specs rest : List LayerSpec) (spec : LayerSpec) (above : List LayerSpec) (load : ℕ)
     (old stack next : Stack) → rest ≡ spec ∷ above
     → AreUnder specs rest load old stack → layers_of next ≡ layer_asked spec load ∷ layers_of stack
     → disk_of next ≡ disk_of stack
     → IsPut spec (stack_shown stack) (stack_shown next) → AreUnder specs above load old next
 one_under specs rest spec above load old stack next is before layers disk put =
-    let are = subst (λ (ls : List LayerSpec). AreUnder specs ls load old stack) is before in
+    let are = rw is at before in
     record {
       put = are.put ++ spec ∷ [];
       are = are.are ∙ sym (append_assoc are.put (spec ∷ []) above);
       stands =
-          layers ∙ ap (λ (ls : List Layer). layer_asked spec load ∷ ls) are.stands
-          ∙ sym (under_one_more are.put spec load (layers_of old));
+          layers ∙ rw are.stands (sym (under_one_more are.put spec load (layers_of old)));
       asked = are.asked.1;
-      layers = ap (λ (ls : List Layer). layers_under above load ls) layers ∙ are.layers;
+      layers = rw layers are.layers;
       disk = disk ∙ are.disk;
-      size = ap (λ (n : ℕ). top_sectors n above) put.size ∙ are.size;
-      origin = ap (λ (p : Place). top_origin p.origin above) put.place ∙ are.origin;
-      disk_sectors = ap (λ (p : Place). p.disk) put.place ∙ are.disk_sectors;
+      size = rw put.size are.size;
+      origin = rw put.place are.origin;
+      disk_sectors = rw put.place are.disk_sectors;
       moment = put.moment ∙ are.moment;
       faults = put.faults ∙ are.faults;
       lies = put.lies ∙ are.lies;
       drops = λ none.
-          let before = are.drops none in
-          let parts = or_parts (drops_writes spec.target) (some_drops above) before.0 in (
-            parts.1,
-            put.can_lie ∙ ap (λ (own : Bool). (stack_shown stack).can_lie || own) parts.0
-                ∙ or-false (stack_shown stack).can_lie ∙ before.1,
-          );
+          grind (arith, or_parts, or-false);
       stand = λ stand. subst (λ (n : ℕ). IsAllowed n above) (sym put.size) (are.stand stand).2;
       count =
-          let counted = are.count in
-          let grown = ap (λ (ls : List Layer). length ls) layers in omega arith;
+          grind (arith, length);
     }
 
--- places with equal fields are equal
 same_place : (place : Place) (origin : ℕ) {disk : ℕ} → place.origin ≡ origin → place.disk ≡ disk
     → place ≡ record { origin = origin; disk = disk }
 same_place place origin {disk} here there = rw (sym here, sym there) refl
 
--- at last all layers are put
 pub all_under : (specs rest : List LayerSpec) (load : ℕ) (old stack : Stack) → length rest ≡ 0
     → AreUnder specs rest load old stack
     → (layers_of stack ≡ layers_under specs load (layers_of old)) × (disk_of stack ≡ disk_of old)
@@ -143,50 +125,27 @@ all_under specs [] load old stack none are = (
 )
 all_under specs (spec ∷ rest) load old stack none are = absurd (omega arith)
 
--- if the layers are allowed and the slots suffice, no layer is refused
+-- If the layers are allowed and the slots suffice, no layer is refused.
 pub none_refused : (specs rest : List LayerSpec) (spec : LayerSpec) (above : List LayerSpec)
     (load : ℕ) (old stack : Stack) → rest ≡ spec ∷ above
     → AreUnder specs rest load old stack → IsAllowed (stack_shown old).size specs
     → length (layers_of old) + length specs ≤ 4
     → ((stack_shown stack).size < spec.offset + spec.length) ⊎ (length (layers_of stack) ≡ 4) → ⊥
-none_refused specs rest spec above load old stack is before stand few (inl past) =
-    let are = subst (λ (ls : List LayerSpec). AreUnder specs ls load old stack) is before in
-    let within = (are.stand stand).1 in omega arith
-none_refused specs rest spec above load old stack is before stand few (inr full) =
-    let are = subst (λ (ls : List LayerSpec). AreUnder specs ls load old stack) is before in
-    let counted = are.count in omega arith
+none_refused specs rest spec above load old stack is before stand few (inl past) = grind arith
+none_refused specs rest spec above load old stack is before stand few (inr full) = grind arith
 
--- if a layer is refused, the returned stack has only the layers before it
 pub partly_under : (specs rest : List LayerSpec) (spec : LayerSpec) (above : List LayerSpec)
     (load : ℕ) (old stack back : Stack) → rest ≡ spec ∷ above
     → AreUnder specs rest load old stack → back ≡ stack
     → ((stack_shown stack).size < spec.offset + spec.length) ⊎ (length (layers_of stack) ≡ 4)
     → IsPartlyUnder specs load old back
-partly_under specs rest spec above load old stack back is before same refused =
-    let are = subst (λ (ls : List LayerSpec). AreUnder specs ls load old stack) is before in
-    subst (IsPartlyUnder specs load old) (sym same) (
-    record {
-      put = are.put;
-      next = spec;
-      above = above;
-      are = are.are;
-      layers = are.stands;
-      disk = are.disk;
-      refused = refused;
-    }
-    )
+partly_under specs rest spec above load old stack back is before same refused = grind arith
 
--- If each error that `r` may have satisfies `P`, the error of `r` does.
 pub of_error : {T E : Type 0} {Q P : E → Type 0} (r : Result T E) → IsErrAnd r Q
     → ((e : E) → Q e → P e) → IfErr r P
 of_error (Ok value) is each = absurd is
 of_error (Err error) is each = each error is
 
--- What a message keeps of a stack, by `StackAnswers`. What a new layer shows, by `IsPut`.
-
--- ---- messages
-
--- There is no layer 0, and no layer 5.
 no-layer-0 : (old new : Stack) (text : List ℕ) (result : Result (Unit {0}) MessageError)
     → StackAnswers old 0 text result new → IsNoMessage result old new
 no-layer-0 old new text result is = is.outside (inl refl)
@@ -206,7 +165,7 @@ layer-3 : (old new : Stack) (text : List ℕ) (result : Result (Unit {0}) Messag
     → AnswersBelow three_answers old.top 1 text result new.top
 layer-3 old new text result is = (is.within (omega arith) (omega arith)).others (omega arith)
 
--- A message to the device below keeps the slot's own layer.
+-- The layers of a slot if the device below has none: the slot's own layer, if it has one.
 abbrev alone : {D : Type 0} {g : Ghosts D} → Slot D g → List Layer
 alone slot = layers_with (λ device. []) slot
 
@@ -219,17 +178,12 @@ layer-stays below (slots.Bare it) layer text result (slots.Bare after) is = refl
 layer-stays below (slots.Bare it) layer text result (slots.Decided after) is = absurd is
 layer-stays below (slots.Bare it) layer text result (slots.Dusted after) is = absurd is
 layer-stays below (slots.Decided it) layer text result (slots.Bare after) is = absurd is
-layer-stays below (slots.Decided it) layer text result (slots.Decided after) is =
-    rw (is.0.1, is.0.2, is.1, is.2, is.3) refl
+layer-stays below (slots.Decided it) layer text result (slots.Decided after) is = grind arith
 layer-stays below (slots.Decided it) layer text result (slots.Dusted after) is = absurd is
 layer-stays below (slots.Dusted it) layer text result (slots.Bare after) is = absurd is
 layer-stays below (slots.Dusted it) layer text result (slots.Decided after) is = absurd is
-layer-stays below (slots.Dusted it) layer text result (slots.Dusted after) is =
-    rw (is.0.1, is.0.2, is.1, is.2, is.3, is.4) refl
+layer-stays below (slots.Dusted it) layer text result (slots.Dusted after) is = grind arith
 
--- ---- layers
-
--- A new layer shows the device below from its offset on, now, after a crash, and since any reading.
 put-shows : (spec : LayerSpec) (v w : View) → IsPut spec v w → (sector : ℕ)
     → w.content sector ≡ v.content (spec.offset + sector)
 put-shows spec v w put = put.content

@@ -35,8 +35,7 @@ value_low words place = at (number_of (word_in words place)) refl
     at : (number : Option ℕ) → number_of (word_in words place) ≡ number
         → value_in words place < 2 ^ 64
     at None is = rw is (omega arith)
-    at (Some n) is =
-        rw is (number_low (word_in words place) n (number_read (word_in words place) n is))
+    at (Some n) is = grind (arith, number_low, number_read)
 
 -- If values pass the range tests, they are in their ranges.
 length_read : (length : ℕ) → is_length length ≡ true → IsLength length
@@ -62,10 +61,7 @@ last_test name words target low has =
     at : (t : Bool) → has_ranges name words (layer_of name words target) ≡ t
         → IfOk (if_holds t errors.OutOfRange >>= λ _. Ok (layer_of name words target)) IsLayerSpec
     at true is =
-        let tests = and_parts (nat_eq (value_in words 0) 0) _ is in
-        let fine = and_parts (is_in_range (layer_of name words target)) _ tests.1 in
-        let within = and_parts (is_length (value_in words 1)) _ fine.0 in
-        record { sectors = length_read _ within.0; place = low; has = has within.1 }
+        grind (arith, and_parts, length_read)
     at false is = tt
 
 -- If `next` gives only layers in their ranges, so does `first >>= next`.
@@ -111,8 +107,7 @@ answer_in_range words =
 pub asked_in_range : (words : List (List ℕ)) (spec : LayerSpec) → line_answer words ≡ Ok spec
     → IsLayerSpec spec
 asked_in_range words spec is =
-    subst (λ (answer : Result LayerSpec TableError). IfOk answer IsLayerSpec) is
-    (answer_in_range words)
+    rw is at (answer_in_range words)
 
 -- ---- what is printed
 
@@ -120,17 +115,13 @@ asked_in_range words spec is =
 pub joined_behind : (word : List ℕ) (words : List (List ℕ))
     → join_with_byte 32 (word ∷ words) ≡ word ++ behind_spaces words
 joined_behind word [] = sym (append-nil word)
-joined_behind word (next ∷ words) = ap (λ (xs : List ℕ). word ++ 32 ∷ xs) (joined_behind next words)
+joined_behind word (next ∷ words) = grind (arith, joined_behind next words)
 
 -- so a line can be printed piece by piece
 pub line_joined : (old sectors : List ℕ) (words : List (List ℕ)) →
     ((old ++ 48 ∷ []) ++ behind_spaces (sectors ∷ [])) ++ behind_spaces words
     ≡ old ++ 48 ∷ 32 ∷ join_with_byte 32 (sectors ∷ words)
-line_joined old sectors words =
-    append_assoc (old ++ 48 ∷ []) (behind_spaces (sectors ∷ [])) (behind_spaces words)
-    ∙ append_assoc old (48 ∷ []) (behind_spaces (sectors ∷ []) ++ behind_spaces words)
-    ∙ ap (λ (xs : List ℕ). old ++ 48 ∷ 32 ∷ xs)
-    (append_assoc sectors [] (behind_spaces words) ∙ sym (joined_behind sectors words))
+line_joined old sectors words = grind (arith, append_assoc, joined_behind)
 
 -- each of these is a word
 abbrev AreWords : List (List ℕ) → Type 0
@@ -213,20 +204,13 @@ delay_asked : (sectors offset read write flush : ℕ) (t u : Bool) → IsRead se
     → Asks sectors offset (targets.Delay read write flush) (codes "delay" ∷ set_words offset read
     ++ cond (t && u) [] (set_words offset write ++ cond u [] (set_words offset flush)))
 delay_asked sectors offset read write flush true true a b c d e f has one two =
-    let r = le-leb _ _ has.reads in
-    let first = one refl in
-    let last = two refl in rw (a, b, c, f, r) cc
+    grind (arith, le-leb)
 delay_asked sectors offset read write flush false true a b c d e f has one two =
-    let r = le-leb _ _ has.reads in
-    let w = le-leb _ _ has.writes in
-    let same = eq-eqb offset offset refl in
-    let last = two refl in rw (a, b, c, d, f, same, r, w) cc
+    grind (arith, le-leb, eq-eqb)
 delay_asked sectors offset read write flush true false a b c d e f has one two =
-    let passes = target_passes offset (targets.Delay read write flush) has in
-    let same = eq-eqb offset offset refl in rw (a, b, c, d, e, f, same, passes) refl
+    grind (arith, target_passes, eq-eqb)
 delay_asked sectors offset read write flush false false a b c d e f has one two =
-    let passes = target_passes offset (targets.Delay read write flush) has in
-    let same = eq-eqb offset offset refl in rw (a, b, c, d, e, f, same, passes) refl
+    grind (arith, target_passes, eq-eqb)
 
 target_asked : (sectors offset : ℕ) (target : Target) → IsRead sectors → IsRead offset
     → is_length sectors ≡ true → is_target target ≡ true → IsTargetInRange offset target
@@ -234,16 +218,11 @@ target_asked : (sectors offset : ℕ) (target : Target) → IsRead sectors → I
 target_asked sectors offset targets.Linear a b e f has = rw (a, b, e) refl
 target_asked sectors offset targets.Error a b e f has = rw (a, e) (let zero = has in cc)
 target_asked sectors offset (targets.Flakey up down feature) a b e f has =
-    flakey_asked sectors offset up down feature a b (digits_read up (omega arith))
-    (digits_read down (omega arith)) e f
-target_asked sectors offset (targets.Fuse calls) a b e f has =
-    rw (a, b, digits_read calls has, e) refl
-target_asked sectors offset (targets.Dust bytes) a b e f has =
-    rw (a, b, digits_read bytes (omega arith), e, f) refl
+    grind (arith, flakey_asked, digits_read)
+target_asked sectors offset (targets.Fuse calls) a b e f has = grind (arith, digits_read)
+target_asked sectors offset (targets.Dust bytes) a b e f has = grind (arith, digits_read)
 target_asked sectors offset (targets.Delay read write flush) a b e f has =
-    delay_asked sectors offset read write flush (nat_eq read write) (nat_eq write flush) a b
-    (digits_read read (omega arith)) (digits_read write (omega arith))
-    (digits_read flush (omega arith)) e has (eqb-true _ _) (eqb-true _ _)
+    grind (arith, delay_asked, digits_read, eqb-true)
 
 -- If a layer's values are in their ranges, its canonical text asks for that layer.
 pub printed_again : (spec : LayerSpec) → IsLayerSpec spec

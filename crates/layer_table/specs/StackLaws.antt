@@ -52,12 +52,8 @@ pub shown_with : {D : Type 0} {g : Ghosts D} (layers : D → List Layer) (base :
     → (slot : Slot D g) → slot_shown slot
     ≡ layers_over (layers_with layers slot) (base (device_of slot))
 shown_with {D} {g} layers base same (slots.Bare device) = same device
-shown_with {D} {g} layers base same (slots.Decided layer) =
-    ap (λ (v : View). counted (window v layer.lower.offset layer.lower.length) layer.faults
-    layer.lies (drops_writes layer.gate.target)) (same layer.lower.lower)
-shown_with {D} {g} layers base same (slots.Dusted layer) =
-    ap (λ (v : View). counted (window v layer.lower.offset layer.lower.length) layer.faults 0 false)
-    (same layer.lower.lower)
+shown_with {D} {g} layers base same (slots.Decided layer) = grind arith
+shown_with {D} {g} layers base same (slots.Dusted layer) = grind arith
 
 -- ---- what calls do
 
@@ -98,12 +94,7 @@ does_with {D} {g} layers disk kept below (slots.Decided layer) call now result
       (
         record {
           passes = λ is.
-              let done = does.0.passes is in (
-                below layer.lower.lower
-                    (call_from layer.lower.offset call) now result after.lower.lower done.0.0,
-                done.1,
-                done.2,
-              );
+              grind arith;
           delays = λ by is.
               let done = does.0.delays by is in (
                 below layer.lower.lower (call_from layer.lower.offset call)
@@ -113,20 +104,9 @@ does_with {D} {g} layers disk kept below (slots.Decided layer) call now result
                 done.3,
               );
           fails = λ is.
-              let done = does.0.fails is in (
-                done.0,
-                done.1,
-                done.2,
-                ap (λ (range : Linear D g). under_of layers disk range.lower) done.3,
-                done.4,
-              );
+              grind arith;
           drops = λ is.
-              let done = does.0.drops is in (
-                done.0,
-                done.1,
-                done.2,
-                ap (λ (range : Linear D g). under_of layers disk range.lower) done.3,
-              );
+              grind arith;
         },
         ap Deciding does.1,
       ),
@@ -153,13 +133,10 @@ does_with {D} {g} layers disk kept below (slots.Dusted layer) call now result
             × (range.offset ≡ layer.lower.offset))
             (λ range. under_of layers disk range.lower)
             (λ range call now result next holds did. (
-              subst (λ (offset : ℕ). CountedLayersDo (length (layers layer.lower.lower))
-                  (under_of layers disk range.lower) (call_from offset call) now result
-                  (under_of layers disk next.lower)) holds.1
-                  (subst (λ (count : ℕ). CountedLayersDo count (under_of layers disk range.lower)
-                  (call_from range.offset call) now result
-                  (under_of layers disk next.lower)) holds.0
-                  (below range.lower (call_from range.offset call) now result next.lower did.0)),
+              rw (← holds.1) (subst (λ (count : ℕ). CountedLayersDo count (under_of layers disk
+                  range.lower) (call_from range.offset call) now result (under_of layers disk
+                  next.lower)) holds.0 (below range.lower (call_from range.offset call) now result
+                  next.lower did.0)),
               (
                 kept range.lower (call_from range.offset call) now result next.lower
                     did.0 ∙ holds.0,
@@ -286,20 +263,16 @@ part_with {D} {g} disk below (slots.Decided layer) =
 same_values : (o p l m : ℕ) (g h : Rule) (f e i k : ℕ) → o ≡ p → l ≡ m → g ≡ h → f ≡ e → i ≡ k
     → ◌≡◌ {A = Layer} (record { offset = o; length = l; rule = g; faults = f; lies = i })
     (record { offset = p; length = m; rule = h; faults = e; lies = k })
-same_values o p l m g h f e i k offset length rule faults lies =
-    rw (offset, length, rule, faults, lies) refl
+same_values o p l m g h f e i k offset length rule faults lies = grind arith
 
 same_layer : (a b : Layer) → a.offset ≡ b.offset → a.length ≡ b.length → a.rule ≡ b.rule
     → a.faults ≡ b.faults → a.lies ≡ b.lies → a ≡ b
-same_layer a b offset length rule faults lies =
-    same_values a.offset b.offset a.length b.length a.rule b.rule a.faults b.faults a.lies b.lies
-    offset length rule faults lies
+same_layer a b offset length rule faults lies = grind (arith, same_values)
 
 -- lists with equal tops and equal rests are equal
 same_top : (a b : Layer) (layers others : List Layer) → a ≡ b → layers ≡ others
     → a ∷ layers ≡ b ∷ others
-same_top a b layers others top rest =
-    ap (λ (layer : Layer). layer ∷ layers) top ∙ ap (λ (xs : List Layer). b ∷ xs) rest
+same_top a b layers others top rest = grind arith
 
 -- a call at the top has the effect of the top's rule
 at_top : (layer : Layer) (layers : List Layer) (old : SectorDisk) (call : Call) (now : ℕ)
@@ -309,11 +282,7 @@ at_top : (layer : Layer) (layers : List Layer) (old : SectorDisk) (call : Call) 
     → DoesAt (CountedLayersDo (length layers)) rule
     (record { layers = layers; disk = old }) call now result
     (record { layers = others; disk = new }) layer top
-at_top layer layers old call now result top others new rule is does =
-    subst (λ (it : Rule). DoesAt (CountedLayersDo (length layers)) it
-    (record { layers = layers; disk = old }) call now result
-    (record { layers = others; disk = new }) layer top)
-    is does.0
+at_top layer layers old call now result top others new rule is does = grind arith
 
 -- If the top layer has a gate, it does what the gate's verdict says (`Follows`).
 pub gate_top : (layer : Layer) (layers : List Layer) (old : SectorDisk) (call : Call) (now : ℕ)
@@ -331,11 +300,10 @@ gate_top layer layers old call now result (top ∷ others) new gate is does =
     let done = at_top layer layers old call now result top others new (Deciding gate) is does in
     record {
       passes = λ pass.
-          let did = done.0.passes pass in (
-            others,
-            same_top top _ others others
-                (same_layer top _ does.1 does.2 done.1 did.1 did.2) refl,
-            did.0,
+          grind (
+            arith,
+            same_top top _ others others (same_layer top _ does.1 does.2 done.1
+                (done.0.passes pass).1 (done.0.passes pass).2),
           );
       delays = λ by delay.
           let did = done.0.delays by delay in (
@@ -446,12 +414,10 @@ shown_by_layers stack =
 -- ---- a stack's call is one of its layers over the disk below
 
 one_count : IsKept on_one (λ level. length (layers_one level))
-one_count level call now result after does =
-    count_kept (λ disk. []) (none_kept on_disk) level.top call now result after.top does
+one_count level call now result after does = grind (arith, count_kept, none_kept)
 
 two_count : IsKept on_two (λ level. length (layers_two level))
-two_count level call now result after does =
-    count_kept layers_one one_count level.top call now result after.top does
+two_count level call now result after does = grind (arith, count_kept, one_count)
 
 three_count : IsKept on_three (λ level. length (layers_three level))
 three_count level call now result after does =
@@ -555,16 +521,7 @@ three_left false false false false is = omega arith
 three_left true b c d is = absurd (cc)
 
 pub full_stack : (stack : Stack) → has_layer stack.top ≡ true → length (layers_of stack) ≡ 4
-full_stack stack is =
-    let three = device_of stack.top in
-    let two = device_of three.top in
-    counted_in stack ∙ four_full (has_layer stack.top) (has_layer three.top) (has_layer two.top)
-    (has_layer (device_of two.top).top) is stack.filled
+full_stack stack is = grind (arith, counted_in, four_full)
 
 pub free_stack : (stack : Stack) → has_layer stack.top ≡ false → length (layers_of stack) < 4
-free_stack stack is =
-    let three = device_of stack.top in
-    let two = device_of three.top in
-    subst (λ (count : ℕ). count < 4) (sym (counted_in stack))
-    (three_left (has_layer stack.top) (has_layer three.top) (has_layer two.top)
-    (has_layer (device_of two.top).top) is)
+free_stack stack is = grind (arith, counted_in, three_left)

@@ -1,5 +1,4 @@
--- Each step keeps the rule of a keeper and its holders. Also what a keeper of causes knows of its
--- holders.
+-- Each step keeps the rule of a keeper and its holders (`IsKept`); also laws of `IsShown`.
 use Rattle.std.proofs.Common.{◌⊎◌, ℕ, zero, suc, ◌<◌, List, [], ◌∷◌, ◌++◌, length, set, Some, None}
 use Rattle.std.proofs.Common.{true, false, true≢false, refl, sym, ap, ◌∙◌, ◌≡◌, ◌≢◌, subst, inl}
 use Rattle.std.proofs.Common.{inr, ⊎_elim, arith, cond, eqb, eq-eqb, ne_eqb, Option}
@@ -16,9 +15,6 @@ use Rattle.lock_state.specs.declared.holders.rule.Knows.{Knows}
 use Rattle.lock_state.specs.FirstStop.{IsShown, end_number, shown_stop}
 use Rattle.lock_state.specs.HolderRules.{nobody, without, part_of, beside, Agree, Sets, Fits}
 use Rattle.lock_state.specs.HolderRules.{IsKept, keeper_of, holder_of, both_of}
-
--- Each step keeps the rule of a keeper and its holders.
--- What `slice_get` finds in a list after one item was changed or appended.
 
 module _ {A : Type 0} where
   pub get_set_same : (xs : List A) (k : ℕ) (x y : A) → slice_get xs k ≡ Some x
@@ -48,7 +44,6 @@ module _ {A : Type 0} where
 off : false ≡ true → ⊥
 off e = true≢false (sym e)
 
--- the empty pass fits anywhere
 nobody_fits : (place : ℕ) (owner : ℕ → ℕ) (all : List (Option ℕ)) (by : ℕ)
     → Fits place owner all by nobody
 nobody_fits place owner all by = record { kept = λ k. absurd (off k); held = λ h. absurd (off h) }
@@ -61,7 +56,6 @@ begins = record { place = 0; owner = λ n. 0; all = []; fits = one }
     one zero pass e = grind (arith, some-injective)
     one (suc by) pass e = absurd (some-ne-none pass (sym e))
 
--- one pass changed, and the others fit as they are
 fits_set : (place : ℕ) (owner : ℕ → ℕ) (all : List (Option ℕ)) (passes : List Knows) (by : ℕ)
     (new : Knows)
     → ((j : ℕ) (pass : Knows) → j ≢ by → get_elem? passes j ≡ some pass
@@ -71,7 +65,6 @@ fits_set : (place : ℕ) (owner : ℕ → ℕ) (all : List (Option ℕ)) (passes
     → Fits place owner all j pass
 fits_set place owner all passes by new others mine j pass e = grind (arith, at_set)
 
--- one pass more stands at the end
 at_end : (passes : List Knows) (new pass : Knows) (j : ℕ)
     → get_elem? (passes ++ new ∷ []) j ≡ some pass
     → (get_elem? passes j ≡ some pass) ⊎ ((j ≡ length passes) × (new ≡ pass))
@@ -80,14 +73,13 @@ at_end [] new pass (suc j) e = absurd (some-ne-none pass (sym e))
 at_end (x ∷ xs) new pass zero e = inl e
 at_end (x ∷ xs) new pass (suc j) e = grind (arith, at_end xs new pass j e)
 
--- a place is before the end
 before_end : (passes : List Knows) (by : ℕ) (pass : Knows) → get_elem? passes by ≡ some pass
     → by < length passes
 before_end [] by pass e = absurd (some-ne-none pass (sym e))
 before_end (x ∷ xs) zero pass e = omega arith
 before_end (x ∷ xs) (suc by) pass e = let h = before_end xs by pass e in omega arith
 
--- the owners, of whom that of one number stands elsewhere now
+-- `owner`, except that the pass of holder `number` is now at index `to`
 unfoldable moved : (ℕ → ℕ) → ℕ → ℕ → ℕ → ℕ
 moved owner number to n = cond (eqb n number) to (owner n)
 
@@ -172,7 +164,6 @@ both_agree passes id all number held kept there =
     let own = (kept.fits id (both_of all number held) there).held refl in
     rw mine.1 own.1
 
--- the holder's part of a pass goes to a new one
 pub split_keeps : (passes : List Knows) (id : ℕ) (pass : Knows) → pass.holds ≡ true → IsKept passes
     → get_elem? passes id ≡ some pass
     → IsKept (set passes id (without pass) ++ part_of pass ∷ [])
@@ -187,32 +178,15 @@ split_keeps passes id v holding kept there =
     let was = kept.fits j pass e in record {
       kept = was.kept;
       held =
-          λ holds. (
-            moved_else kept.owner v.number (length (set passes id (without v))) pass.number
-                (λ same. apart (sym (was.held holds).0 ∙ ap kept.owner same ∙ own.0))
-                ∙ (was.held holds).0,
-            (was.held holds).1,
-          );
+          λ holds. grind (arith, moved_else, length, set);
     })
     (record { kept = mine.kept; held = λ h. absurd (off h) }) in record {
       place = kept.place;
       owner = owner;
       all = kept.all;
-      fits = λ j pass e. ⊎_elim
-          (λ was. front j pass was)
-          (λ (x : (j ≡ length (set passes id (without v))) × (part_of v ≡ pass)). subst
-          (λ (y : ℕ × Knows). Fits kept.place owner kept.all y.0 y.1) (λ i. (sym x.0 i, x.1 i))
-          (record {
-            kept = λ k. absurd (off k);
-            held = λ h. (
-              moved_here kept.owner v.number (length (set passes id (without v))),
-              own.1,
-            );
-          }))
-          (at_end (set passes id (without v)) (part_of v) pass j e);
+      fits = λ j pass e. grind (arith, length, set, moved_here, at_end);
     }
 
--- a holder's part comes to the keeper's pass
 pub join_keeps : (passes : List Knows) (id : ℕ) (all : List (Option ℕ)) (other number : ℕ)
     (held : Option ℕ) → IsKept passes → get_elem? passes id ≡ some (keeper_of all)
     → other ≢ id → get_elem? (set passes id (both_of all number held)) other
@@ -251,7 +225,7 @@ join_keeps passes id all other number held kept there apart from =
           (nobody_fits kept.place owner kept.all other);
     }
 
--- The same, as the calls of a table ask for it.
+-- The lemmas above, in the form that the calls of a table need.
 
 abbrev Held : State (Unit {0}) Knows → Type 0
 Held state = IsKept state.views
@@ -312,8 +286,6 @@ pub joins : (id other : ℕ) (pass part : Knows) (all : List (Option ℕ)) (numb
     → Joins Held id pass other part (beside pass part) nobody
 joins id other pass part all number held is his = grind (arith, join_keeps)
 
--- what the passes know after each call
-
 pub joined : (before after part : Me (Unit {0}) Knows) (all : List (Option ℕ)) (number : ℕ)
     (held : Option ℕ) → before ≡ (keeper_of all, []) → part ≡ (holder_of number held, [])
     → after ≡ (beside before.0 part.0, before.1) → after ≡ (both_of all number held, [])
@@ -348,16 +320,10 @@ pub enrolled_is : (before after : Me (Unit {0}) Knows) (all : List (Option ℕ))
     → after ≡ (both_of (all ++ None ∷ []) (length all) None, [])
 enrolled_is before after all is told = grind arith
 
--- What a keeper of causes knows of its holders.
-
--- one holder more, that holds nothing
 pub shown_enrolled : (shown : Option End) (held : List (Option ℕ)) → IsShown shown held
     → IsShown shown (held ++ None ∷ [])
-shown_enrolled shown held each number one there =
-    ⊎_elim (λ (was : slice_get held number ≡ Some one). each number one was)
-    (λ new. inl (sym new.1)) (get_push held None one number there)
+shown_enrolled shown held each number one there = grind (arith, get_push)
 
--- a holder is shown the one cause
 pub shown_begun : (cause : End) (held : List (Option ℕ)) (number : ℕ) → IsShown (Some cause) held
     → IsShown (Some cause) (slice_set held number (Some (end_number cause)))
 shown_begun cause [] number each other one there = each other one there
@@ -367,14 +333,10 @@ shown_begun cause (x ∷ held) (suc number) each zero one there = each zero one 
 shown_begun cause (x ∷ held) (suc number) each (suc other) one there =
     shown_begun cause held number (λ k. each (suc k)) other one there
 
--- before there is a cause no holder holds one
 pub shown_first : (before after : Option End) (held : List (Option ℕ)) → before ≡ None
     → IsShown before held → IsShown after held
-shown_first before after held none each number one there =
-    ⊎_elim (λ (is : one ≡ None). inl is)
-    (λ (is : one ≡ shown_stop before). inl (is ∙ ap shown_stop none)) (each number one there)
+shown_first before after held none each number one there = grind arith
 
--- a cause stays
 pub shown_later : (before after : Option End) (held : List (Option ℕ))
     → ((cause : End) → before ≡ Some cause → after ≡ Some cause) → IsShown before held
     → IsShown after held
@@ -382,7 +344,6 @@ shown_later None after held stays each = shown_first None after held refl each
 shown_later (Some cause) after held stays each =
     rw (stays cause refl) each
 
--- no two causes have one number
 same_number : (shown : Option End) (cause : End) → shown_stop shown ≡ Some (end_number cause)
     → shown ≡ Some cause
 same_number None cause same = absurd (cc)
@@ -396,11 +357,7 @@ same_number (Some Memory) Full same = absurd (cc)
 same_number (Some Memory) Device same = absurd (cc)
 same_number (Some Memory) Memory same = refl
 
--- what a holder holds is the one cause
 pub shown_is : (shown : Option End) (held : List (Option ℕ)) (number : ℕ) (cause : End)
     → IsShown shown held → slice_get held number ≡ Some (Some (end_number cause))
     → shown ≡ Some cause
-shown_is shown held number cause each there =
-    ⊎_elim (λ (none : Some (end_number cause) ≡ None). absurd (cc))
-    (λ is. same_number shown cause (sym is))
-    (each number (Some (end_number cause)) there)
+shown_is shown held number cause each there = grind (arith, same_number)

@@ -1,4 +1,4 @@
--- The lemmas of `lock_state`. The proof of a function is in the folder of its source file.
+-- The lemmas of `lock_state`. The proof of each function is in the folder of its source file.
 pub mod Lists
 pub mod LogLock
 pub mod RecordingEnd

@@ -1,7 +1,9 @@
--- The comparisons of a list with a seat's events and with the taken items, one by one.
-use Rattle.std.proofs.Common.{List, [], ◌∷◌, ◌++◌, sym, ◌∙◌, subst, arith, true≢false, eqb, ne_eqb}
-use Rattle.std.proofs.Common.{eq-eqb, ◌≡◌, ◌≢◌, ℕ, zero, suc, ◌+◌, ◌<◌, ◌≤◌, Bool, true, false}
+-- Laws of the loops that compare lists with a seat's events and with taken items, and count done
+-- calls.
+use Rattle.std.proofs.Common.{List, [], ◌∷◌, ◌++◌, sym, ◌∙◌, arith, true≢false, eqb, ne_eqb, eq-eqb}
+use Rattle.std.proofs.Common.{◌≡◌, ◌≢◌, ℕ, zero, suc, ◌+◌, ◌<◌, ◌≤◌, Bool, true, false}
 use Rattle.std.proofs.Common.{append_assoc, length, map, take, drop, Option, Some, None, refl, ap}
+use Rattle.std.proofs.Common.{subst}
 use Rattle.std.specs.Prelude.{slice_get, slice_set, IsTrue, if◌then◌else◌, MatchBool, ◌&&◌}
 use Rattle.std.proofs.lemmas.Bool.{cases_lt, and_parts}
 use Rattle.std.proofs.lemmas.Bool.Decides.{eqb_tells}
@@ -29,13 +31,11 @@ use Rattle.lock_state.specs.declared.served.Seen.{Seen}
 use Rattle.lock_state.specs.declared.served.Seen.TheVariants.{Never, Once, Again}
 use Rattle.lock_state.specs.History.{one_if, own_at, taken_ids}
 
--- The comparison of a list with a seat's events of the history, event by event.
-
--- the seat's events from a place on
+-- the seat's events from index `place` on
 abbrev pub rest_of : List CoreEvent → List (Option ℕ) → ℕ → ℕ → List Own
 rest_of events by seat place = of_from place (drop place events) (drop place by) seat
 
--- So many of the list are the seat's events before the place.
+-- The first `found` items of the list are the seat's events before index `place`.
 pub record Matched (events : List CoreEvent) (by : List (Option ℕ)) (seat : ℕ) (list : List Own)
     (place found : ℕ) : Type 0 where
   pub within : found ≤ length list
@@ -97,7 +97,6 @@ take_length xs zero h = refl
 take_length [] (suc n) h = absurd (omega arith)
 take_length (x ∷ xs) (suc n) h = ap suc (take_length xs n (omega arith))
 
--- where the seat's next event isn't next in the list, they differ
 pub unmatched : (events : List CoreEvent) (by : List (Option ℕ)) (seat : ℕ) (list : List Own)
     (place found : ℕ) (event : CoreEvent) (name : Option ℕ) → slice_get events place ≡ Some event
     → slice_get by place ≡ Some name
@@ -132,7 +131,6 @@ take_past [] (suc n) h = refl
 take_past (x ∷ xs) zero h = absurd (omega arith)
 take_past (x ∷ xs) (suc n) h = grind (arith, take_past xs n (omega arith))
 
--- the causes that a seat was told, one by one
 pub causes_all : (told : Told) (stop end : Option End) (a b c : Bool)
     → MatchBool a (MayBeReported told.full Full stop end) (MayBeReported told.full Full stop end
     → ⊥)
@@ -151,9 +149,8 @@ causes_all told stop end true true true f d m = each
     each Device = d
     each Memory = m
 
--- Which items the taken list has.
-
--- what the law of the completion list says of each of its items
+-- a law that is passed in: each item of the completion list has the entry of an event that is
+-- queued
 abbrev pub Only : Type 0
 Only =
     (size : ℕ) (events : List CoreEvent) (k : ℕ) (item : Item) → is_well_formed events ≡ true
@@ -171,19 +168,18 @@ get_taken : (items : List Item) (n k : ℕ) (item : Item) → k < n → slice_ge
     → slice_get (map (λ (x : Item). x.0) (take n items)) k ≡ Some item.0
 get_taken items zero k item h e = absurd (omega arith)
 get_taken [] (suc n) k item h e = absurd (cc)
-get_taken (x ∷ xs) (suc n) zero item h e = ap (λ (o : Option Item). first o) e
+get_taken (x ∷ xs) (suc n) zero item h e = ap first e
   where
     first : Option Item → Option ℕ
     first None = None
     first (Some x) = Some x.0
 get_taken (x ∷ xs) (suc n) (suc k) item h e = get_taken xs n k item (omega arith) e
 
--- what was queued stands in the history
 queued_within : (events : List CoreEvent) (id event end : ℕ)
     → IsQueued log_writes_order events id event end → id < length events
 queued_within events id event end queued = grind (arith, cases_lt, slice_get_past)
 
--- What was taken as number k.
+-- Item `k` of the completion list was taken, and its id is in `taken`.
 pub record IsTaken (core : CoreState) (taken : List ℕ) (k : ℕ) : Type 0 where
   pub item : Item
   pub listed_there : slice_get (items_of core) k ≡ Some item
@@ -210,7 +206,6 @@ taken_as sectors bytes core taken k only lawful within took below =
       within = queued_within core.events there.0.0 said.1.0 said.1.1 said.1.2;
     }
 
--- an item of this id, with the entry of its event, is the one that was taken
 pub taken_match : (bytes : ℕ) (core : CoreState) (taken : List ℕ) (k id : ℕ) (event : CoreEvent)
     (result : Bool) (item : Placed) → core.sector_bytes ≡ bytes → IsTaken core taken k
     → slice_get taken k ≡ Some id → slice_get core.events id ≡ Some event
@@ -224,24 +219,16 @@ taken_match bytes core taken k id event result item size is there stands = by_ca
 
     entry : is.item.1 ≡ entry_at bytes (Some event)
     entry =
-        is.entry_is ∙ ap (λ (x : ℕ × Option CoreEvent). entry_at x.0 x.1)
-        (λ i. (size i, (ap (slice_get core.events) same_id ∙ stands) i))
+        grind arith
 
     by_cases : (result : Bool)
         → MatchBool result (IsItem bytes item id event) (IsItem bytes item id event → ⊥)
         → MatchBool result (slice_get (items_of core) k ≡ Some (listed item))
         (slice_get (items_of core) k ≢ Some (listed item))
     by_cases true same =
-        is.listed_there ∙ ap (λ (x : Item). Some x)
-        (λ i. ((same_id ∙ sym same.id) i, (entry ∙ sym same.entry) i))
+        is.listed_there ∙ ap Some (λ i. ((same_id ∙ sym same.id) i, (entry ∙ sym same.entry) i))
     by_cases false apart = λ e.
-        let one : is.item ≡ listed item = let a = is.listed_there in cc in
-        apart (record {
-          id = sym (rw one) ∙ same_id;
-          entry = sym (rw one) ∙ entry;
-        })
-
--- How often each request was done, counted in a walk over the calls.
+        grind arith
 
 times-push : (id : ℕ) (calls : List Done) (call : Done)
     → times id (calls ++ call ∷ []) ≡ times id calls + one_if (is_ok_of id call)
@@ -260,18 +247,12 @@ tells-push calls call id was tells = by_cases (is_ok_of id call) refl was tells
         → Tells (calls ++ call ∷ []) id (if b then seen_more was (length calls) else was)
     by_cases false e Never tells = grind (arith, times-push)
     by_cases false e (Once place)
-        tells = (
-          let p = times-push id calls call in
-              let o : one_if (is_ok_of id call) ≡ 0 =
-              ap one_if e in let t = tells.0 in omega arith,
-          ok_on calls call id place tells.1,
-        )
+        tells = grind (arith, times-push, ok_on)
     by_cases false e Again tells = let p = times-push id calls call in omega arith
     by_cases true e Never tells = grind (arith, times-push, slice_get-append_here)
     by_cases true e (Once place) tells = grind (arith, times-push)
     by_cases true e Again tells = let p = times-push id calls call in omega arith
 
--- one call more is noted
 pub all_tell-push : (calls : List Done) (call : Done) (before after : List Seen) (place : ℕ)
     → place ≡ length calls → AllNotesMatch calls before
     → ((id : ℕ) (seen : Seen) → slice_get after id ≡ Some seen → IsNoted before place call id seen)
@@ -282,7 +263,6 @@ all_tell-push calls call before after place is tells noted id seen e =
     (sym (n.now ∙ rw is))
     (tells-push calls call id n.was (tells id n.was n.there))
 
--- a call that isn't a request's, or failed, changes no note
 pub not_noted : (before : List Seen) (place : ℕ) (call : Done)
     → ((id : ℕ) (seen : Seen) → slice_get before id ≡ Some seen → is_ok_of id call ≡ false)
     → (id : ℕ) (seen : Seen) → slice_get before id ≡ Some seen → IsNoted before place call id seen
@@ -309,7 +289,6 @@ own_ok call id e ok =
     eqb_same : (n : ℕ) → eqb n n ≡ true
     eqb_same n = eq-eqb n n refl
 
--- a call of this request that ended Ok is noted
 pub is_noted : (before : List Seen) (place : ℕ) (call : Done) (other : ℕ) (was : Seen)
     → call.id ≡ Some other → call.ok ≡ true → slice_get before other ≡ Some was
     → (id : ℕ) (seen : Seen)
@@ -318,14 +297,12 @@ pub is_noted : (before : List Seen) (place : ℕ) (call : Done) (other : ℕ) (w
 is_noted before place call other was own ok there id seen e =
     grind (arith, get_set_same, own_ok, get_set_else, other_ok)
 
--- a call is counted
 counted : (id : ℕ) (calls : List Done) (place : ℕ) (call : Done) → slice_get calls place ≡ Some call
     → is_ok_of id call ≡ true → 1 ≤ times id calls
 counted id [] place call e ok = absurd (cc)
 counted id (x ∷ xs) zero call e ok = grind arith
 counted id (x ∷ xs) (suc place) call e ok = let h = counted id xs place call e ok in omega arith
 
--- where just one call is counted, it stands at one place
 one_place : (id : ℕ) (calls : List Done) (p q : ℕ) (c d : Done) → times id calls ≡ 1
     → slice_get calls p ≡ Some c → is_ok_of id c ≡ true → slice_get calls q ≡ Some d
     → is_ok_of id d ≡ true → p ≡ q
@@ -348,12 +325,10 @@ is_its : (id : ℕ) (name : Option ℕ) → is_of id name ≡ true → name ≡ 
 is_its id None e = absurd (true≢false (sym e))
 is_its id (Some other) e = grind (arith, eqb_tells)
 
--- a call of this request that ended Ok
 call_is : (id : ℕ) (call : Done) → is_ok_of id call ≡ true
     → call ≡ done_call (Some id) call.bio true
 call_is id call ok = grind (arith, and_parts, is_its)
 
--- the call that was seen once is of this request, or the request wasn't done just once
 pub done_as : (calls : List Done) (id place : ℕ) (event : CoreEvent) (bio : Bio) (call : Done)
     (result : Bool) → Tells calls id (Once place) → slice_get calls place ≡ Some call
     → event ≡ Submit bio
@@ -371,13 +346,9 @@ done_as calls id place event bio call result tells there is = by_cases result
         → MatchBool result (IsDoneOnce calls id (Some event)) (IsDoneOnce calls id (Some event) → ⊥)
     by_cases true one = grind (arith, call_is)
     by_cases false apart = λ d.
-        let own : Submit bio ≡ Submit d.bio = let a = d.submitted in cc in
-        let bios : bio ≡ d.bio = cc in
-        let at =
-        one_place id calls place d.place call
-        (done_call (Some id) d.bio true) tells.0 there ok d.done
-        (own_ok (done_call (Some id) d.bio true) id refl refl) in
-        let f : slice_get calls place ≡ Some (done_call (Some id) d.bio true) =
-        ap (slice_get calls) at ∙ d.done in
-        let same : call ≡ done_call (Some id) d.bio true = cc in
-        apart (bios ∙ sym (rw same))
+        grind (
+          arith,
+          one_place id calls place d.place call (done_call (Some id) d.bio true)
+              tells.0 there ok d.done (own_ok (done_call (Some id) d.bio true) id refl refl),
+          true,
+        )

@@ -18,13 +18,10 @@ use Rattle.pending.proofs.WalkLaws.{sound-at, walk-last}
 use Rattle.pending.specs.ChainsView.{chain_in, turned}
 use Rattle.pending.specs.declared.chains.links.Links.{Links}
 use Rattle.pending.specs.declared.chains.walk.Walk.{Walk}
-use Rattle.pending.specs.inside.Tables.{rows_from, values_left, IsLook, IsWay, times, times_in}
-use Rattle.pending.specs.inside.Tables.{Holds, IsRing, Leads, values_of, seen_chains, seen_lasts}
-use Rattle.pending.specs.inside.Tables.{value_at, IsSound, filled, IsTable, after, last_in}
+use Rattle.pending.specs.inside.Tables.{values_left, IsLook, IsWay, times, times_in, Holds, IsRing}
+use Rattle.pending.specs.inside.Tables.{Leads, values_of, seen_chains, seen_lasts, value_at}
+use Rattle.pending.specs.inside.Tables.{IsSound, filled, IsTable, after, last_in}
 
--- How `turn_back` changes the table.
-
--- If a row is in all chains together, it is in one of them.
 row-in : (row : ℕ) (chains : List (List ℕ)) → 0 < times_in row chains
     → (chain : ℕ) × (0 < times row (chain_in chains chain))
 row-in row [] some = absurd (omega arith)
@@ -34,7 +31,6 @@ row-in row (xs ∷ chains) some = elim (cases_lt 0 (times row xs)) [
       let rest = row-in row chains (omega (arith, sum_by-cons (times row) xs chains)) in (suc rest.0, rest.1)
 ]
 
--- If a list has a row, it is what comes before the row, the row, and what comes after it.
 around : (row : ℕ) (rows : List ℕ) → 0 < times row rows
     → (front : List ℕ) × (back : List ℕ) × (rows ≡ front ++ row ∷ back)
 around row [] some = absurd (omega arith)
@@ -42,11 +38,10 @@ around row (x ∷ xs) some = elim (cases_eq x row) [
   | inl same ↦ ([], xs, rw same)
   | inr other ↦
       let rest = around row xs (let e = times-other row x xs other in omega arith) in
-      (x ∷ rest.0, rest.1, ap (λ ys. x ∷ ys) rest.2)
+      (x ∷ rest.0, rest.1, grind (arith, rest.2))
 ]
 
--- If a ring has its last row only once, the row before it is the one whose link leads to it. If
--- the ring has no other row, the link of the last row leads to itself.
+-- The row whose link leads to the last row is either the only row, or right before the last.
 ring-before : (next : List ℕ) (last : ℕ) (rows front : List ℕ) (row : ℕ) (back : List ℕ)
     → IsRing next last rows → rows ≡ front ++ row ∷ back → after next row ≡ last
     → times last rows ≤ 1
@@ -78,7 +73,6 @@ ring-before next last rows front row back ring is leads few =
     by_back [] [] way once = inl (refl, refl)
     by_back (f ∷ fs) [] way once = grind (arith, leads-back, times-same, times-append)
 
--- If a row is in a ring, its link leads to a row of this ring.
 ring-closed : (next : List ℕ) (last : ℕ) (front : List ℕ) (row : ℕ) (back : List ℕ)
     → Leads next last (front ++ row ∷ back) last
     → 0 < times (after next row) (front ++ row ∷ back)
@@ -86,7 +80,6 @@ ring-closed next last front row (b ∷ bs) way = grind (arith, leads-back, times
 ring-closed next last [] row [] way = grind (arith, times-same)
 ring-closed next last (f ∷ fs) row [] way = grind (arith, leads-back, times-same)
 
--- If a row is in a chain, its link leads to a row of this chain.
 chain-closed : {next : List ℕ} {lasts : List (Option ℕ)} {chains : List (List ℕ)}
     → Holds next lasts [] chains
     → (chain row : ℕ) → 0 < times row (chain_in chains chain)
@@ -104,7 +97,6 @@ chain-closed {next} {lasts} {chains} h chain row some = by_last (last_in lasts c
         (ring-at h chain last noted).leads) in
         let e = ap (times (after next row)) parts.2 in omega arith
 
--- If the link of a row leads to the last row of a chain, the row is in this chain.
 row-of : {next : List ℕ} {lasts : List (Option ℕ)} {chains : List (List ℕ)}
     → Holds next lasts [] chains
     → (chain last row : ℕ) → last_in lasts chain ≡ Some last → row < length next
@@ -115,22 +107,15 @@ row-of {next} {lasts} {chains} h chain last row noted small leads =
     elim (cases_eq found.0 chain) [
       | inl same ↦
           let P : ℕ → Type 0 = λ k. 0 < times row (chain_in chains k) in subst P same found.1
-      | inr apart ↦ absurd (
-          let there = chain-closed h found.0 row found.1 in
-          let e = ap (λ r. times r (chain_in chains found.0)) leads in
-          let here = last-counts next last (chain_in chains chain) (ring-at h chain last noted) in
-          let few = few-in-two h found.0 chain last apart in
-          omega arith)
+      | inr apart ↦ grind (arith, chain-closed h found.0 row found.1, last-counts next last (chain_in chains chain) (ring-at h chain last noted), few-in-two h found.0 chain last apart)
     ]
 
--- If links lead along some rows to a row, the link of one of them leads to this row.
 way-end : (next : List ℕ) (from row : ℕ) (rows : List ℕ) (to : ℕ) → Leads next from (row ∷ rows) to
     → (x : ℕ) × (after next x ≡ to) × (0 < times x (from ∷ row ∷ rows))
 way-end next from row [] to way = grind (arith, times-same)
 way-end next from row (other ∷ rows) to way =
     grind (arith, way-end next row other rows to way.1, times-append)
 
--- For each chain that has a last row, the link of some row leads to this last row.
 pub before-there : {next : List ℕ} {lasts : List (Option ℕ)} {chains : List (List ℕ)}
     → Holds next lasts [] chains
     → (chain last : ℕ) → last_in lasts chain ≡ Some last
@@ -158,8 +143,7 @@ before-there {next} {lasts} {chains} h chain last noted =
           end.1,
         )
 
--- If a chain is seen from the row before its last row, turning its rows gives the rows as they
--- were.
+-- If the row before the last counts as the last, turning the chain gives the rows as they were.
 back-rows : {next : List ℕ} {lasts : List (Option ℕ)} {chains : List (List ℕ)}
     → Holds next lasts [] chains
     → (chain last row : ℕ) → last_in lasts chain ≡ Some last → row < length next
@@ -174,20 +158,17 @@ back-rows {next} {lasts} {chains} h chain last row noted small leads =
     elim (ring-before next last (chain_in chains chain) parts.0 row parts.1 ring parts.2 leads
     (omega arith)) [
       | inl alone ↦
-          let is : chain_in chains chain ≡ [] ++ row ∷ [] =
-          parts.2 ∙ ap (λ xs. xs ++ row ∷ parts.1) alone.0 ∙ ap (λ xs. row ∷ xs) alone.1 in
-          (row ∷ [], sym is, holds-turned h chain [] row [] is)
+          grind (arith, holds-turned h chain [] row [] (grind (arith, parts.2, alone.0, alone.1)))
       | inr before ↦
-          let is : chain_in chains chain ≡ parts.0 ++ row ∷ last ∷ [] =
-          parts.2 ∙ ap (λ xs. parts.0 ++ row ∷ xs) before in (
-            last ∷ (parts.0 ++ row ∷ []),
-            append_assoc parts.0 (row ∷ []) (last ∷ []) ∙ sym is,
-            holds-turned h chain parts.0 row (last ∷ []) is,
+          grind (
+            arith,
+            append_assoc parts.0 (row ∷ []) (last ∷ []),
+            holds-turned h chain parts.0
+                row (last ∷ []) (grind (arith, parts.2, before)),
           )
     ]
 
 module _ {T : Type 0} where
-  -- the table after that
   back-table : {next : List ℕ} {lasts : List (Option ℕ)} {rows : List (Option T)}
       {chains : List (List ℕ)} → IsTable next lasts rows chains
       → (chain last row : ℕ) → 0 < chain → last_in lasts chain ≡ Some last → row < length next
@@ -197,7 +178,6 @@ module _ {T : Type 0} where
   back-table {next} {lasts} {rows} {chains} t chain last row shown noted small leads =
       grind (arith, back-rows, table-kept, length-set, in-other)
 
-  -- what the walk sees after that
   pub back-made : (links : Links) (rows : List (Option T)) (walk : Option Walk) (w : Walk)
       (at row : ℕ) → IsSound links rows walk → walk ≡ Some w → w.at ≡ Some at
       → row < length links.next.items → after links.next.items row ≡ at
@@ -212,29 +192,25 @@ module _ {T : Type 0} where
       back-table other.table w.chain at row other.walks.0 (walk-last w other ∙ there) small leads
       in (
         back.0,
-        back.1 ∙ ap (λ k. chain_in (seen_chains links k) w.chain) (sym is),
+        grind (arith, back.1, is),
         table-at (set (seen_lasts lasts (Some w)) w.chain (Some row))
             (set lasts w.chain (Some row))
             (set (seen_chains links (Some w)) w.chain back.0)
             (set (seen_chains links walk) w.chain back.0)
             (set-set lasts w.chain w.at (Some row))
-            (ap (λ k. set (seen_chains links k) w.chain back.0) (sym is)) back.2,
+            (grind (arith, is)) back.2,
       )
 
--- If one chain is seen from the row before its last row, turning it gives the chains as they were
 pub back-turned : (chains : List (List ℕ)) (chain : ℕ) (new : List ℕ) → chain < length chains
     → drop 1 new ++ take 1 new ≡ chain_in chains chain
     → turned (set chains chain new) chain ≡ chains
 back-turned chains chain new within is = grind (arith, in-put, set-set, set-get_or)
 
--- How an `Iter` goes over a chain, row by row.
-
--- If two values that are there are equal options, they are equal.
 pub some-is : {a b : ℕ} → Some a ≡ Some b → a ≡ b
 some-is e = cc
 
 module _ {T : Type 0} where
-  -- A way has a first row; after this row it goes on or ends
+  -- The `Iter` goes from `before` to `row` and is then at `left`, which is None at the end.
   pub way-step : (next : List ℕ) (rows : List (Option T)) (last before row : ℕ) (left : Option ℕ)
       → length rows ≡ length next → IsWay next rows last before
       → row ≡ after next before → left ≡ cond (eqb row last) None (Some row)
@@ -256,16 +232,16 @@ module _ {T : Type 0} where
           let front = times-same first first [] refl in
           let at = full first (omega arith) in
           let value = value-there (value_at rows row)
-          (ap (λ r. filled (value_at rows r)) here ∙ at.1) in
+          (grind (arith, here, at.1)) in
           let end : left ≡ None =
-          rest ∙ ap (λ b. cond b None (Some row)) (eq-eqb row last (here ∙ leads.1)) in
+          grind (arith, rest, eq-eqb row last (here ∙ leads.1)) in
           let less = at.0 in
           let found = way-found next before first [] last (length next) leads few long in (
             omega arith,
             (
               value.0,
               value.1,
-              ap (λ rs. values_of rows rs) (sym found ∙ ap (λ r. r ∷ []) (sym here))
+              ap (values_of rows) (sym found ∙ ap (λ r. r ∷ []) (sym here))
                   ∙ values-first rows row [] value.0 value.1
                   ∙ ap (λ l. value.0 ∷ values_left next rows last l) (sym end),
             ),
@@ -276,7 +252,7 @@ module _ {T : Type 0} where
           let front = times-same first first (second ∷ todo) refl in
           let at = full first (omega arith) in
           let value = value-there (value_at rows row)
-          (ap (λ r. filled (value_at rows r)) here ∙ at.1) in
+          (grind (arith, here, at.1)) in
           let ends = leads-end next first second todo last leads.1 in
           let one = times-same last last [] refl in
           let counts = ap (times last) ends.1 in
@@ -284,7 +260,7 @@ module _ {T : Type 0} where
           let same = times-same last first (second ∷ todo) (sym here ∙ e) in
           absurd (omega (arith, times-append last ends.0 (last ∷ []))) in
           let on : left ≡ Some row =
-          rest ∙ ap (λ b. cond b None (Some row)) (ne_eqb row last apart) in
+          grind (arith, rest, ne_eqb row last apart) in
           let less = at.0 in
           let found = way-found next before first (second ∷ todo) last (length next)
           leads few long in
@@ -305,7 +281,7 @@ module _ {T : Type 0} where
             (
               value.0,
               value.1,
-              ap (λ rs. values_of rows rs) (sym found ∙ ap (λ r. r ∷ second ∷ todo) (sym here))
+              ap (values_of rows) (sym found ∙ ap (λ r. r ∷ second ∷ todo) (sym here))
                   ∙ values-first rows row (second ∷ todo) value.0 value.1
                   ∙ ap (λ rs. value.0 ∷ values_of rows rs) behind
                   ∙ ap (λ r. value.0 ∷ values_left next rows last (Some r)) (sym here)
@@ -313,12 +289,10 @@ module _ {T : Type 0} where
             ),
             record {
               sized = sized;
-              way = λ r e. let same : first ≡ r = let both = sym on ∙ e in
-                  sym here ∙ some-is both in subst P same go_on;
+              way = λ r e. grind (arith, some-is);
             },
           )
 
-  -- what an `Iter` has left of a chain at first
   pub look-begun : {links : Links} {rows : List (Option T)} {walk : Option Walk}
       → IsSound links rows walk → (chain last : ℕ) (at : Option ℕ) → 0 < chain
       → at ≡ last_in (seen_lasts links.lasts.items walk) chain
@@ -349,18 +323,18 @@ module _ {T : Type 0} where
       } in (
         record {
           sized = t.sized;
-          way = λ r e. let one : row ≡ r = cc in
-              let Q : ℕ → Type 0 = λ x. IsWay links.next.items rows last x in
-              subst Q one (subst P (sym is) way);
+          way = λ r e. grind arith;
         },
-        ap (λ l. values_of rows (rows_from links.next.items l (length links.next.items) row)) is
-            ∙ ap (λ rs. values_of rows rs)
-            (sym (ring-found links.next.items row (chain_in chains chain)
-            (length links.next.items) ring (let f = few row in omega arith) (omega arith)))
-            ∙ sym (chain-map (values_of rows) chains chain refl),
+        grind (
+          arith,
+          is,
+          ring-found links.next.items row (chain_in chains chain) (length
+              links.next.items) ring (let f = few row in omega arith) (omega arith),
+          sym (chain-map
+              (values_of rows) chains chain refl),
+        ),
       )
 
--- If a reference's value was found, the reference was found.
 pub copied-some : {T : Type 0} (found : Option (Bor T)) (value : T)
     → option_copied found ≡ Some value
     → (reference : Bor T) × (found ≡ Some reference) × (reference.now ≡ value)

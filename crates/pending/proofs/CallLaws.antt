@@ -2,7 +2,8 @@
 use Rattle.std.proofs.Common.{◌≡◌, ℕ, zero, suc, ◌+◌, ◌-◌, ◌<◌, ◌≤◌, max, List, [], ◌∷◌, ◌++◌}
 use Rattle.std.proofs.Common.{length, map, get_or, set, drop, replicate, Option, Some, None, refl}
 use Rattle.std.proofs.Common.{ap, sym, ◌∙◌, subst, arith, length-append, min, vec_capacity}
-use Rattle.std.proofs.lemmas.List.{length-map, length-replicate, get_or_at, get_or-set_other, set_at}
+use Rattle.std.proofs.lemmas.List.{length-map, length-replicate, get_or_at, get_or-set_other}
+use Rattle.std.proofs.lemmas.List.{set_at}
 use Rattle.std.proofs.lemmas.List.Sums.{sum_by-cons}
 use Rattle.std.specs.List.{sum_by}
 use Rattle.std.specs.Prelude.{slice_get, OnSome, Bool, true, false, not, is_some, ◌==◌}
@@ -21,44 +22,35 @@ use Rattle.pending.proofs.HoldsLaws.{holds-same, is-row, ring-at}
 use Rattle.pending.proofs.TableLaws.{chain-full, chain-length, closed-filled, closed-free}
 use Rattle.pending.proofs.TableLaws.{free-none, nothing-cut, open-taken, table-rest}
 
--- If P holds, it holds whether or not a value was found.
 pub on-some : {A : Type 0} (found : Option A) (P : Type 0) → P → OnSome found P
 on-some None P p = tt
 on-some (Some x) P p = p
 
--- A walk doesn't change what is seen of the free rows.
 seen-free : (lasts : List (Option ℕ)) (walk : Option Walk) → IsWalk lasts walk
     → last_in (seen_lasts lasts walk) 0 ≡ last_in lasts 0
 seen-free lasts None walks = refl
 seen-free lasts (Some walk) walks = grind (arith, get_or-set_other)
 
--- If the test `is_some` fails, there is no value.
 not-some : (found : Option ℕ) → is_some found ≡ false → found ≡ None
 not-some None none = refl
 not-some (Some x) none = cc
 
--- Putting a value into the chain that was begun last gives the chains with one more chain, which
--- has this value.
 pub begun-filled : {X : Type 0} (chains : List (List X)) (chain : ℕ) (x : X) → chain ≡ length chains
     → lengthened (chains ++ [] ∷ []) chain x ≡ chains ++ (x ∷ []) ∷ []
 begun-filled chains chain x is = grind (arith, get_or_at, set_at)
 
--- Each element of a list of defaults is the default.
 pub default-in : {X : Type 0} (n i : ℕ) (d : X) → get_or (replicate n d) i d ≡ d
 default-in zero i d = refl
 default-in (suc n) zero d = refl
 default-in (suc n) (suc i) d = default-in n i d
 
--- If f is 0 for the element, its sum over copies of this element is 0.
 pub sum-none : {X : Type 0} (f : X → ℕ) (n : ℕ) (x : X) → f x ≡ 0 → sum_by f (replicate n x) ≡ 0
 sum-none f zero x none = refl
 sum-none f (suc n) x none = omega (arith, sum_by-cons f x (replicate n x), sum-none f n x none)
 
--- Without rows, the links hold n chains without rows.
 pub holds-none : (n : ℕ) → Holds [] (replicate n None) [] (replicate n [])
 holds-none n = grind (arith, length-replicate, chain-at, default-in, sum-none)
 
--- The link of a chain's last row leads to the chain's first row.
 pub first-row : {next : List ℕ} {lasts : List (Option ℕ)} {loose : List ℕ} {chains : List (List ℕ)}
     → Holds next lasts loose chains
     → (chain last row : ℕ) → last_in lasts chain ≡ Some last → row ≡ after next last
@@ -66,12 +58,10 @@ pub first-row : {next : List ℕ} {lasts : List (Option ℕ)} {loose : List ℕ}
 first-row {next} {lasts} {loose} {chains} h chain last row noted is =
     grind (arith, first-of, ring-at)
 
--- If a row is put before the first free row, there is one more free row.
 pub longer-free : (chains : List (List ℕ)) (row : ℕ) → 0 < length chains
     → length (chain_in (preceded chains 0 row) 0) ≡ 1 + length (chain_in chains 0)
 longer-free chains row within = grind (arith, in-put)
 
--- If the first free row is taken out, there is one free row less.
 pub shorter-free : (chains : List (List ℕ))
     → length (chain_in (shortened chains 0) 0) ≡ length (chain_in chains 0) - 1
 shorter-free chains = by_chain (chain_in chains 0) refl
@@ -80,20 +70,13 @@ shorter-free chains = by_chain (chain_in chains 0) refl
         → length (chain_in (shortened chains 0) 0) ≡ length (chain_in chains 0) - 1
     by_chain [] is = grind (arith, nothing-cut)
     by_chain (row ∷ free) is =
-        let within = there chains 0 (let e = ap length is in omega arith) in
-        let cut =
-        ap length (in-put chains 0 (drop 1 (chain_in chains 0)) within
-        ∙ ap (λ rs. drop 1 rs) is) in
-        let e = ap length is in
-        omega arith
+        grind (arith, there, length, in-put, drop)
 
--- If a chain other than that of the free rows is written, the free rows don't change.
 pub free-kept : (chains : List (List ℕ)) (chain : ℕ) (rows : List ℕ) → 0 < chain
     → chain_in (set chains chain rows) 0 ≡ chain_in chains 0
 free-kept chains chain rows shown = in-other chains chain 0 rows (λ e. absurd (omega arith))
 
 module _ {T : Type 0} where
-  -- the first value of a chain is the value in the chain's first row
   pub first-value : {next : List ℕ} {lasts : List (Option ℕ)} {rows : List (Option T)}
       {chains : List (List ℕ)} → IsTable next lasts rows chains
       → (chain row : ℕ) (rest : List ℕ) → 0 < chain → chain_in chains chain ≡ row ∷ rest
@@ -105,11 +88,10 @@ module _ {T : Type 0} where
       let found = value-there (value_at rows row) (chain-full t chain row shown (omega arith)) in (
         found.0,
         found.1,
-        rw (chain-map (values_of rows) chains chain refl ∙ ap (λ rs. values_of rows rs) is ∙
+        rw (chain-map (values_of rows) chains chain refl ∙ ap (values_of rows) is ∙
             values-first rows row rest found.0 found.1),
       )
 
-  -- a row of a chain is a row of the table
   pub row-within : {next : List ℕ} {lasts : List (Option ℕ)} {rows : List (Option T)}
       {chains : List (List ℕ)} → IsTable next lasts rows chains
       → (chain row : ℕ) (rest : List ℕ) → chain_in chains chain ≡ row ∷ rest → row < length rows
@@ -120,19 +102,16 @@ module _ {T : Type 0} where
       let sized = t.sized in
       omega arith
 
-  -- if contracts see a chain, the links have a last row for it, or none
   pub chain-noted : {next : List ℕ} {lasts : List (Option ℕ)} {rows : List (Option T)}
       {chains : List (List ℕ)} → IsTable next lasts rows chains
       → (chain : ℕ) → chain < length (map (values_of rows) chains) → chain < length lasts
   chain-noted {next} {lasts} {rows} {chains} t chain less = grind (arith, length-map)
 
-  -- the loose row of a table may be put to the free rows, or to a chain
   pub loose-open : {next : List ℕ} {lasts : List (Option ℕ)} {rows : List (Option T)} {row : ℕ}
       {chains : List (List ℕ)} → IsOpen next lasts rows row chains
       → (chain : ℕ) → chain < length lasts → IsLoose next lasts chain row
   loose-open {next} {lasts} {rows} {row} {chains} o chain less = grind arith
 
-  -- the loose row is a row of the table
   pub open-within : {next : List ℕ} {lasts : List (Option ℕ)} {rows : List (Option T)} {row : ℕ}
       {chains : List (List ℕ)} → IsOpen next lasts rows row chains
       → row < length rows
@@ -142,7 +121,7 @@ module _ {T : Type 0} where
       let sized = o.sized in
       omega arith
 
-  -- each row has a value or is free
+  -- Each row has a value or is free.
   pub table-count : {next : List ℕ} {lasts : List (Option ℕ)} {rows : List (Option T)}
       {chains : List (List ℕ)} → IsTable next lasts rows chains
       → count_in (map (values_of rows) chains) + length (chain_in chains 0) ≡ length rows
@@ -178,7 +157,7 @@ module _ {T : Type 0} where
             rest_count more (λ chain. chain-length u (suc chain) (omega arith)),
           ))
 
-  -- after a value was put in, there are as many rows as before, or as there are values
+  -- Before a value was put in, there were `before` rows, and `free` of them were free.
   pub table-rows : {next : List ℕ} {lasts : List (Option ℕ)} {rows : List (Option T)}
       {chains : List (List ℕ)} → IsTable next lasts rows chains
       → (before free : ℕ) → length rows ≡ max before (before - free + 1) → free ≤ before
@@ -186,14 +165,12 @@ module _ {T : Type 0} where
       → length rows ≡ max before (count_in (map (values_of rows) chains))
   table-rows {next} {lasts} {rows} {chains} t before free grew few less = grind (arith, table-count)
 
-  -- the room for new rows is that of the links and of the values
   pub room-of : {links : Links} {rows : List (Option T)} {walk : Option Walk} → (capacity : ℕ)
       → IsSound links rows walk
       → new_rows_room (shown_of links rows capacity walk)
       ≡ min (vec_capacity links.next - length links.next.items) (capacity - length rows)
   room-of capacity s = let count = table-count s.table in omega arith
 
-  -- if no row is free, all room is for new rows
   pub all-new : {links : Links} {rows : List (Option T)} {walk : Option Walk} → (capacity : ℕ)
       → IsSound links rows walk → is_some (last_in links.lasts.items 0) ≡ false
       → new_rows_room (shown_of links rows capacity walk)
@@ -201,13 +178,12 @@ module _ {T : Type 0} where
   all-new {links} {rows} {walk} capacity s none =
       grind (arith, seen-free, not-some, none-at, table-count)
 
-  -- there are at most as many free rows as rows
   pub free-few : {next : List ℕ} {lasts : List (Option ℕ)} {rows : List (Option T)}
       {chains : List (List ℕ)} → IsTable next lasts rows chains
       → length (chain_in chains 0) ≤ length rows
   free-few t = let count = table-count t in omega arith
 
-  -- the table after the first row of a chain and its value were taken out; the row is loose
+  -- `mid` are the links after the chain's first row was taken out.
   pub taken-open : {links : Links} {rows : List (Option T)} {walk : Option Walk}
       → IsSound links rows walk → walked_in walk ≡ None
       → (chain last row : ℕ) → 0 < chain → last_in links.lasts.items chain ≡ Some last
@@ -220,7 +196,7 @@ module _ {T : Type 0} where
   taken-open {links} {rows} {walk} s rest chain last row shown noted is mid changes step =
       grind (arith, table-rest, first-row, open-taken)
 
-  -- the table after the row was put to the free rows
+  -- `new` are the links after the loose row was put before the free rows.
   pub taken-table : {mid : Links} {rows : List (Option T)} {row : ℕ} {chains : List (List ℕ)}
       → IsOpen mid.next.items mid.lasts.items rows row chains
       → (new : Links) → Changes mid new 2
@@ -232,7 +208,6 @@ module _ {T : Type 0} where
   taken-table {mid} {rows} {row} {chains} o new changes noted step =
       grind (arith, closed-free, holds-same)
 
-  -- the table after the row got a value and was appended to a chain
   pub filled-table : {mid : Links} {rows : List (Option T)} {row : ℕ} {chains : List (List ℕ)}
       → IsOpen mid.next.items mid.lasts.items rows row chains
       → (new : Links) (most chain : ℕ) (value : T) → 0 < chain → Changes mid new most
@@ -243,7 +218,6 @@ module _ {T : Type 0} where
   filled-table {mid} {rows} {row} {chains} o new most chain value shown changes step =
       grind (arith, closed-filled)
 
-  -- if links lead to the same rows, and the values are equal, the table is as sound as before
   pub sound-same : (links new : Links) (rows other : List (Option T)) (walk : Option Walk)
       → new.next.items ≡ links.next.items
       → new.lasts.items ≡ links.lasts.items → other ≡ rows → IsSound links rows walk
@@ -264,7 +238,6 @@ module _ {T : Type 0} where
         walks = subst W (sym d) s.walks;
       }
 
-  -- the table with one more chain, which has no rows
   pub begun-table : {next : List ℕ} {lasts : List (Option ℕ)} {rows : List (Option T)}
       {chains : List (List ℕ)} → IsTable next lasts rows chains
       → IsTable next (lasts ++ None ∷ []) rows (chains ++ [] ∷ [])
@@ -276,7 +249,6 @@ module _ {T : Type 0} where
         let e = ap (times row) (default-grown chains 0 []) in omega arith;
   }
 
-  -- the table with `more` + 1 chains and no rows
   pub new-table : (more : ℕ) (rows : List (Option T)) → rows ≡ []
       → IsTable [] (replicate (suc more) None) rows (replicate (suc more) [])
   new-table more rows empty = record {
@@ -286,13 +258,12 @@ module _ {T : Type 0} where
     full = λ row less. absurd (let e = ap length empty in omega arith);
   }
 
-  -- these chains show no values
   pub map-none : (rows : List (Option T)) (more : ℕ)
       → map (values_of rows) (replicate more []) ≡ replicate more []
   map-none rows zero = refl
   map-none rows (suc more) = grind (arith, map-none rows more)
 
-  -- a chain has no values if and only if it has no last row
+  -- A chain is empty if and only if it has no last row.
   pub empty-is : {next : List ℕ} {lasts : List (Option ℕ)} {rows : List (Option T)}
       {chains : List (List ℕ)} → IsTable next lasts rows chains
       → (chain : ℕ) (last : Option ℕ) (empty : Bool) → 0 < chain → last ≡ last_in lasts chain

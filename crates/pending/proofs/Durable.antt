@@ -1,8 +1,8 @@
--- A request that is durable at a moment is queued by then. And if a request ended before another
--- was submitted, it is queued first, if the two overlap or the other has a flush.
-use Rattle.std.proofs.Common.{◌≡◌, ℕ, ◌<◌, ◌≤◌, Bool, true, false, ◌&&◌, ◌||◌, Option, Some}
-use Rattle.std.proofs.Common.{None, List, [], ◌∷◌, ◌++◌, length, take, drop, refl, ap, sym, ◌∙◌}
-use Rattle.std.proofs.Common.{subst, inl, inr, arith, append-nil, append_assoc, length-append}
+-- A request that is durable at a moment is queued by then. A request that ended before another was
+-- submitted is queued first, if the two overlap or the other has a flush.
+use Rattle.std.proofs.Common.{◌≡◌, ℕ, ◌<◌, ◌≤◌, Bool, true, false, ◌&&◌, ◌||◌, Option, Some, None}
+use Rattle.std.proofs.Common.{List, [], ◌∷◌, ◌++◌, length, take, drop, refl, ap, sym, ◌∙◌, subst}
+use Rattle.std.proofs.Common.{inl, inr, arith, append-nil, append_assoc, length-append}
 use Rattle.std.proofs.Math.Nat.{eq-or-lt_of_le}
 use Rattle.std.proofs.lemmas.Bool.{and_parts, cases_lt, eq-eqb, lt-ltb, ltb-true}
 use Rattle.std.proofs.lemmas.List.{take-append-drop}
@@ -17,7 +17,7 @@ use Rattle.bio.specs.Events.{end_of, first_place, is_flush_submit, is_stop, is_w
 use Rattle.log_format.specs.declared.entry.Entry.{Entry}
 use Rattle.pending.specs.QueueEvent.{first_need, is_at, is_needed_by, queue_event, queue_of}
 use Rattle.pending.specs.QueueEvent.{log_writes_order, unless_stopped}
-use Rattle.pending.specs.CompletionList.{IsListedAt, Item, completion_list, dm_log_writes, entry_at}
+use Rattle.pending.specs.CompletionList.{IsListedAt, completion_list, dm_log_writes, entry_at}
 use Rattle.pending.specs.CompletionList.{own_end}
 use Rattle.pending.proofs.Order.{ends-there, flush_submit-some, listed-queued, listed-sorted}
 use Rattle.pending.proofs.Order.{open-queue_event, own-queue_event, plain-queue_event}
@@ -27,18 +27,17 @@ use Rattle.pending.proofs.LinkChains.{recorded-earlier}
 use Rattle.pending.proofs.OneStep.{is_at-some}
 use Rattle.pending.proofs.Prefix.{queue_event_same, recorded_stable}
 
--- A moment up to which logging goes on.
+-- Logging goes on up to `moment`: no Stop is among the first `moment` events.
 pub record IsMoment (events : List CoreEvent) (moment : ℕ) : Type 0 where
   pub well_formed : is_well_formed events ≡ true
   pub within : moment ≤ length events
   pub going : (stop : ℕ) → first_place is_stop events ≡ Some stop → moment ≤ stop
 
--- the queue event of anything, in a longer list
 same-longer : (events more : List CoreEvent) (id p : ℕ) → p < length events
     → is_at p (queue_event log_writes_order (events ++ more) id)
     ≡ is_at p (queue_event log_writes_order events id)
 same-longer events [] id p within =
-    ap (λ es. is_at p (queue_event log_writes_order es id)) (append-nil events)
+    grind (arith, append-nil events)
 same-longer events (event ∷ more) id p within =
     let size = length-append events (event ∷ []) in
     ap (λ es. is_at p (queue_event log_writes_order es id))
@@ -46,7 +45,6 @@ same-longer events (event ∷ more) id p within =
     ∙ same-longer (events ++ event ∷ []) more id p (omega arith)
     ∙ queue_event_same log_writes_order recorded_stable events event id p within
 
--- what a beginning of the events queues, they queue
 pub queued-longer : (events : List CoreEvent) (m id p : ℕ)
     → queue_event log_writes_order (take m events) id ≡ Some p
     → queue_event log_writes_order events id ≡ Some p
@@ -55,7 +53,6 @@ queued-longer events m id p queued =
     rw (← take-append-drop m events) (same-longer (take m events) (drop m events) id p
     (queued-within (take m events) id p queued) ∙ ap (is_at p) queued ∙ eq-eqb p p refl))
 
--- what they queue before a moment, the beginning up to it queues
 pub queued-shorter : (events : List CoreEvent) (m id p : ℕ) → m ≤ length events → p < m
     → queue_event log_writes_order events id ≡ Some p
     → queue_event log_writes_order (take m events) id ≡ Some p
@@ -67,12 +64,10 @@ queued-shorter events m id p within less queued =
     ∙ ap (is_at p) queued
     ∙ eq-eqb p p refl)
 
--- what comes before the moment comes before the Stop
 going-on : (events : List CoreEvent) (moment p : ℕ) → IsMoment events moment → p < moment
     → unless_stopped (first_place is_stop events) (Some p) ≡ Some p
 going-on events moment p safe less = grind (arith, option_cases, lt-ltb)
 
--- what comes no later than what comes before the Stop comes before it
 in-time : (stop : Option ℕ) (first event : ℕ) → unless_stopped stop (Some event) ≡ Some event
     → first ≤ event
     → unless_stopped stop (Some first) ≡ Some first
@@ -84,15 +79,13 @@ in-time (Some stop) first event e less = by_test (nat_lt event stop) refl e
     by_test true f e = grind (arith, lt-ltb, ltb-true)
     by_test false f e = cc
 
--- The end of a request before the moment, and the request.
 pub record EndsBefore (events : List CoreEvent) (moment id end : ℕ) : Type 0 where
   pub bio : Bio
   pub submitted : slice_get events id ≡ Some (Submit bio)
   pub ends : end_of events id ≡ Some end
   pub before : end < moment
 
--- A durable request over a sector, of the events before the moment: it ended, and it is FUA, or
--- ended before the submission of a flush that ended.
+-- As `is_kept` for the first `moment` events, without the success of the ends.
 pub record IsDurableBefore (events : List CoreEvent) (moment sector id : ℕ) : Type 0 where
   pub end : ℕ
   pub there : EndsBefore events moment id end
@@ -101,7 +94,6 @@ pub record IsDurableBefore (events : List CoreEvent) (moment sector id : ℕ) : 
       ⊎ ((flush : ℕ) × (flush_end : ℕ) × EndsBefore events moment flush flush_end
       × (is_flush_submit (slice_get events flush) ≡ true) × (end < flush))
 
--- a need that holds at an event is first found no later
 pub need-found : (events : List CoreEvent) (id end event : ℕ) → event < length events → end < event
     → log_writes_order events end (slice_get events id) event (slice_get events event) ≡ true
     → (first : ℕ) × (first_need log_writes_order events id (Some end) ≡ Some first)
@@ -125,13 +117,12 @@ need-found events id end event within less needed =
           )
     ]
 
--- A request is queued by an event, or by an earlier one.
 pub record IsQueuedBy (events : List CoreEvent) (id event : ℕ) : Type 0 where
   pub first_event : ℕ
   pub queued : queue_event log_writes_order events id ≡ Some first_event
   pub order : first_event ≤ event
 
--- what an event needs is queued by then, where logging goes on up to that event
+-- If logging goes on up to an event that needs a request, the request is queued by then.
 pub queued-by : (events : List CoreEvent) (id end event : ℕ) (bio : Bio)
     → slice_get events id ≡ Some (Submit bio) → end_of events id ≡ Some end
     → end < event → event < length events
@@ -144,25 +135,13 @@ queued-by events id end event bio is ends after within needed logging =
       | inl own ↦ record {
         first_event = end;
         queued =
-            own-queue_event events id bio is own ∙ ap (unless_stopped stop) ends
-            ∙ in-time stop end event logging (omega arith);
+            grind (arith, own-queue_event, in-time);
         order = omega arith;
       }
       | inr plain ↦
-          let found =
-          need-found events id end event within after
-          (ap (λ there. log_writes_order events end there event (slice_get events event)) is
-          ∙ needed) in
-          record {
-            first_event = found.0;
-            queued =
-                plain-queue_event events id end bio is plain ends ∙ ap (unless_stopped stop) found.1
-                ∙ in-time stop found.0 event logging found.2;
-            order = found.2;
-          }
+          grind (arith, need-found, plain-queue_event, in-time)
     ]
 
--- the end of a flush needs what ended before its submission
 flush-needs : (events : List CoreEvent) (flush flush_end end : ℕ) (bio last : Bio)
     → slice_get events flush ≡ Some (Submit last) → has_flush last ≡ true
     → end_of events flush ≡ Some flush_end → end < flush
@@ -179,7 +158,6 @@ flush-needs events flush flush_end end bio last is has ends less =
       needed = needed-flush events end bio flush_end flush last has less;
     })
 
--- a durable request is queued before the moment
 pub durable-queued : (events : List CoreEvent) (moment sector id : ℕ) → IsMoment events moment
     → IsDurableBefore events moment sector id
     → (event : ℕ) × (queue_event log_writes_order events id ≡ Some event) × (event < moment)
@@ -187,13 +165,7 @@ durable-queued events moment sector id safe durable =
     let there = durable.there in
     let bio = there.bio in
     elim (bool_cases (has_flush bio || has_fua bio)) [
-      | inl own ↦ (
-        durable.end,
-        own-queue_event events id bio there.submitted own
-            ∙ ap (unless_stopped (first_place is_stop events)) there.ends
-            ∙ going-on events moment durable.end safe there.before,
-        there.before,
-      )
+      | inl own ↦ grind (arith, own-queue_event, going-on)
       | inr plain ↦ elim durable.durable [
         | inl fua ↦ absurd (let either = second_holds (has_flush bio) (has_fua bio) fua in cc)
         | inr flushed ↦
@@ -216,7 +188,7 @@ durable-queued events moment sector id safe durable =
     second_holds true b h = refl
     second_holds false b h = h
 
--- One request ended before another was submitted, and the other has a flush or the two overlap.
+-- `later` finds `earlier`, which ended before it: they overlap, or `later` has a flush.
 pub record IsFound (events : List CoreEvent) (earlier later : ℕ) : Type 0 where
   pub first : Bio
   pub second : Bio
@@ -227,7 +199,6 @@ pub record IsFound (events : List CoreEvent) (earlier later : ℕ) : Type 0 wher
   pub before : end < later
   pub why : (overlaps first second ≡ true) ⊎ (has_flush second ≡ true)
 
--- the own end of a request needs what it finds
 own-needs : (events : List CoreEvent) (earlier later event : ℕ)
     → (found : IsFound events earlier later)
     → (has_flush found.second || has_fua found.second) ≡ true
@@ -235,7 +206,6 @@ own-needs : (events : List CoreEvent) (earlier later event : ℕ)
 own-needs events earlier later event found own =
     grind (arith, needed-flush, bool_cases, needed-linked, linked-here)
 
--- what a request finds is needed by the event that queues it
 found-needed : (events : List CoreEvent) (earlier later end event : ℕ)
     → (found : IsFound events earlier later) → end_of events later ≡ Some end
     → queue_of log_writes_order events later (slice_get events later) ≡ Some event
@@ -303,7 +273,6 @@ found-needed events earlier later end event found ends queued =
     meets plain (inl overlap) = overlap
     meets plain (inr flush) = grind arith
 
--- What a queued request finds is queued by the same event or before it.
 pub found-queued : (events : List CoreEvent) (earlier later event : ℕ)
     → (found : IsFound events earlier later)
     → queue_event log_writes_order events later ≡ Some event
@@ -322,7 +291,6 @@ found-queued events earlier later event found queued = elim (option_cases (end_o
       (ap (unless_stopped stop) (sym at) ∙ queued)
 ]
 
--- of a request and one that it finds the latter stands first
 pub found-first : (size : ℕ) (events : List CoreEvent) (earlier later i j : ℕ) (x y : Entry)
     → is_well_formed events ≡ true → IsFound events earlier later
     → slice_get (completion_list (dm_log_writes size) events) i ≡ Some (earlier, x)
@@ -337,14 +305,7 @@ found-first size events earlier later i j x y well_formed found first second =
       | inl less ↦ less
       | inr no_less ↦ elim (eq-or-lt_of_le no_less) [
         | inl same ↦
-            let items = completion_list profile events in
-            let of_later : Item = (later, y) in
-            let of_earlier : Item = (earlier, x) in
-            let both_there : Some of_later ≡ Some of_earlier =
-            sym second ∙ ap (slice_get items) same ∙ first in
-            let pair : of_later ≡ of_earlier = cc in
-            let one : later ≡ earlier = ap (λ (item : Item). item.0) pair in
-            absurd (let a = own.1 in let b = found.before in omega arith)
+            grind arith
         | inr swapped ↦
             let sorted =
             listed-sorted profile events j i (later, y)
@@ -367,7 +328,6 @@ found-first size events earlier later i j x y well_formed found first second =
       ]
     ]
 
--- What a request that stands in the list finds stands there before it.
 pub found-stands : (size : ℕ) (events : List CoreEvent) (earlier later j : ℕ)
     → is_well_formed events ≡ true → IsFound events earlier later
     → IsListedAt (completion_list (dm_log_writes size) events) later j

@@ -13,9 +13,6 @@ use Rattle.pending.proofs.Words.{chain-linked, need-recorded}
 use Rattle.pending.specs.CompletionList.{BelongsTo, last_moment, queued_by, as_success}
 use Rattle.pending.specs.CompletionList.{dm_log_writes, completion_list}
 use Rattle.pending.specs.CoreState.{CoreState, IsSound, LinksBound, new_state, queued_between}
-use Rattle.pending.specs.declared.row.PendingEntry.{PendingEntry}
-use Rattle.pending.specs.inside.Release.{is_beyond, is_taken, kept_from, lies_in, queues_itself}
-use Rattle.pending.specs.inside.Release.{ranges_meet, taken_from}
 use Rattle.pending.specs.QueueEvent.{AtFua, Chain, Direct, EndsPlain, IsFirstNeed, IsNeed, Through}
 use Rattle.pending.specs.QueueEvent.{ends_plain, is_linked, log_writes_order, queue_event}
 
@@ -294,77 +291,11 @@ last-of-all = refl
 last-before-stop : last_moment (Submit Flush ∷ Stop Full ∷ Complete 0 true ∷ []) ≡ 1
 last-before-stop = refl
 
--- what the core keeps of the three writes
-abbrev pending : ℕ → Bio → ℕ → ℕ → ℕ → PendingEntry
-pending id bio first count end =
-    record { id = id; entry = entry_of 512 bio; first = first; count = count; end = end }
-
-abbrev q : PendingEntry
-q = pending 0 (wide 9 512) 9 1 1
-
-abbrev a : PendingEntry
-a = pending 2 (wide 5 1024) 5 2 3
-
-abbrev b : PendingEntry
-b = pending 4 (wide 6 1024) 6 2 5
-
--- of those that wait, with the newest first, the FUA write takes two, and leaves the one elsewhere
-takes-two : taken_from (is_taken 6 last) [] (b ∷ a ∷ q ∷ []) ≡ a ∷ b ∷ []
-takes-two = refl
-
-leaves-one : kept_from (is_taken 6 last) [] (b ∷ a ∷ q ∷ []) ≡ q ∷ []
-leaves-one = refl
-
--- with the oldest first it would take the second alone
-takes-one : taken_from (is_taken 6 last) [] (q ∷ a ∷ b ∷ []) ≡ b ∷ []
-takes-one = refl
-
--- a flush that was submitted at place 4 takes what ended before it
-flush-takes : taken_from (is_taken 4 Flush) [] (b ∷ a ∷ q ∷ []) ≡ q ∷ a ∷ []
-flush-takes = refl
-
--- which requests are queued at their own end, and which ends are those of plain ones
-own-end : queues_itself (Some (Submit last)) ≡ true
-own-end = refl
-
-no-own-end : queues_itself (Some (Submit (wide 5 512))) ≡ false
-no-own-end = refl
-
 plain-end : ends_plain linked (λ bio. true) 5 (Some (Complete 4 true)) ≡ true
 plain-end = refl
 
 no-plain-end : ends_plain linked (λ bio. true) 7 (Some (Complete 6 true)) ≡ false
 no-plain-end = refl
-
--- ranges that share a sector, ranges that touch, and one of no sectors
-ranges-share : ranges_meet 5 2 6 2 ≡ true
-ranges-share = refl
-
-ranges-touch : ranges_meet 5 2 7 1 ≡ false
-ranges-touch = refl
-
-range-empty : ranges_meet 5 2 5 0 ≡ false
-range-empty = refl
-
--- between which numbers a request lies, and what lies beyond these
-inside : lies_in 5 7 a ≡ true
-inside = refl
-
-outside : lies_in 5 7 b ≡ false
-outside = refl
-
--- where the upper one is the largest number, it is no bound
-unbounded : lies_in 5 18446744073709551615 (pending 0 (wide 9 512) 18446744073709551615 2 1) ≡ true
-unbounded = refl
-
-beyond : is_beyond 5 7 7 1 ≡ true
-beyond = refl
-
-between : is_beyond 5 7 6 1 ≡ false
-between = refl
-
-unbounded-above : is_beyond 5 18446744073709551615 18446744073709551615 1 ≡ false
-unbounded-above = refl
 
 -- Examples that hold, and examples that don't, for: sound cores, the links that a call may change,
 -- the moments to which numbers of entries belong, and events that differ only in their results.

@@ -15,7 +15,6 @@ use Rattle.pending.proofs.RingLaws.{leads-kept, leads-end, same-but-one, same-bu
 use Rattle.pending.proofs.RingLaws.{SameBut, times-same, times-other, times-append, leads-append}
 use Rattle.pending.proofs.RingLaws.{one-of, two-of, sum-put, in-put, in-other}
 
--- Appending the default to a list doesn't change what is read of the list.
 pub default-grown : {X : Type 0} (xs : List X) (i : ℕ) (d : X)
     → get_or (xs ++ d ∷ []) i d ≡ get_or xs i d
 default-grown [] zero d = refl
@@ -23,46 +22,39 @@ default-grown [] (suc i) d = refl
 default-grown (x ∷ xs) zero d = refl
 default-grown (x ∷ xs) (suc i) d = default-grown xs i d
 
--- A link that is added leads to row 0, as a link past the end does.
+-- The new link leads to row 0, as does each link past the end.
 pub after-grown : (next : List ℕ) (row : ℕ) → after (next ++ 0 ∷ []) row ≡ after next row
 after-grown next row = default-grown next row 0
 
--- Equal rows with an equal last row are a chain too.
 pub chain-at : (next : List ℕ) (last other : Option ℕ) (rows same : List ℕ) → last ≡ other
     → rows ≡ same → IsChain next last rows
     → IsChain next other same
 chain-at next last other rows same e d chain = grind arith
 
--- If a chain has a last row, the chain exists.
 pub last-there : (lasts : List (Option ℕ)) (chain last : ℕ) → last_in lasts chain ≡ Some last
     → chain < length lasts
 last-there lasts chain last is = grind (arith, cases_lt, get_or_past)
 
--- If a chain has a last row, it is a ring.
 pub ring-at : {next : List ℕ} {lasts : List (Option ℕ)} {loose : List ℕ} {chains : List (List ℕ)}
     → Holds next lasts loose chains
     → (chain last : ℕ) → last_in lasts chain ≡ Some last → IsRing next last (chain_in chains chain)
 ring-at {next} {lasts} {loose} {chains} h chain last is = grind (arith, chain-at)
 
--- If a chain has no last row, it has no rows.
 pub none-at : {next : List ℕ} {lasts : List (Option ℕ)} {loose : List ℕ} {chains : List (List ℕ)}
     → Holds next lasts loose chains
     → (chain : ℕ) → last_in lasts chain ≡ None → chain_in chains chain ≡ []
 none-at {next} {lasts} {loose} {chains} h chain is = grind (arith, chain-at)
 
--- A row is at most once in all chains and among the loose rows.
 pub holds-few : {next : List ℕ} {lasts : List (Option ℕ)} {loose : List ℕ} {chains : List (List ℕ)}
     → Holds next lasts loose chains
     → (row : ℕ) → times row loose + times_in row chains ≤ 1
 holds-few {next} h row = grind (arith, cases_lt)
 
--- A row is at most once in a chain and among the loose rows.
 pub few-in : {next : List ℕ} {lasts : List (Option ℕ)} {loose : List ℕ} {chains : List (List ℕ)}
     → Holds next lasts loose chains
     → (chain row : ℕ) → times row loose + times row (chain_in chains chain) ≤ 1
 few-in {next} {lasts} {loose} {chains} h chain row = grind (arith, holds-few, one-of)
 
--- A row is at most once in two chains.
 pub few-in-two : {next : List ℕ} {lasts : List (Option ℕ)} {loose : List ℕ} {chains : List (List ℕ)}
     → Holds next lasts loose chains
     → (chain other row : ℕ) → chain ≢ other
@@ -70,14 +62,12 @@ pub few-in-two : {next : List ℕ} {lasts : List (Option ℕ)} {loose : List ℕ
 few-in-two {next} {lasts} {loose} {chains} h chain other row apart =
     grind (arith, holds-few, two-of)
 
--- A row of a chain, or a loose row, is a row of the links.
 pub is-row : {next : List ℕ} {lasts : List (Option ℕ)} {loose : List ℕ} {chains : List (List ℕ)}
     → Holds next lasts loose chains
     → (chain row : ℕ) → 0 < times row loose + times row (chain_in chains chain) → row < length next
 is-row {next} {lasts} {loose} {chains} h chain row some = grind (arith, cases_lt, one-of)
 
--- One chain is replaced by another chain. The rows that it loses become loose, and the rows that it
--- gains were loose.
+-- If a chain is replaced, the rows that it loses become loose, and it gains only loose rows.
 pub holds-put : {next : List ℕ} {lasts : List (Option ℕ)} {loose : List ℕ} {chains : List (List ℕ)}
     → Holds next lasts loose chains
     → (new left : List ℕ) (chain : ℕ) (last : Option ℕ) (rows : List ℕ) → chain < length lasts
@@ -102,7 +92,7 @@ holds-put {next} {lasts} {loose}
       sum-put,
     )
 
--- The links hold the chain also if another of its rows counts as the last.
+-- If another row of a chain counts as its last, the chain is turned, and no link is written.
 pub holds-turned : {next : List ℕ} {lasts : List (Option ℕ)} {loose : List ℕ}
     {chains : List (List ℕ)} → Holds next lasts loose chains
     → (chain : ℕ) (front : List ℕ) (row : ℕ) (back : List ℕ)
@@ -145,7 +135,6 @@ holds-turned {next} {lasts} {loose} {chains} h chain front row back is =
         let e = ap length (sym (none-at h chain there) ∙ is) in
         omega (arith, length-append front (row ∷ back)))
 
--- If a chain is forgotten, its rows are loose.
 pub holds-loosened : {next : List ℕ} {lasts : List (Option ℕ)} {loose : List ℕ}
     {chains : List (List ℕ)} → Holds next lasts loose chains
     → (chain : ℕ) → chain < length lasts
@@ -156,19 +145,16 @@ holds-loosened {next} {lasts} {loose} {chains} h chain less =
     (λ row. omega (arith, times-append row (chain_in chains chain) loose))
     (omega (arith, length-append (chain_in chains chain) loose))
 
--- The first row of a chain is that to which the last row's link leads, and the links lead from it
--- over the others.
+-- The chain `rows` begins with the row to which the last row's link leads; `rest` are the others.
 pub record IsFirst (next : List ℕ) (last : ℕ) (rows rest : List ℕ) : Type 0 where
   pub is : rows ≡ after next last ∷ rest
   pub leads : Leads next (after next last) rest last
   pub behind : drop 1 rows ≡ rest
 
--- A ring has a first row.
 pub first-of : {next : List ℕ} {last : ℕ} {rows : List ℕ} → IsRing next last rows
     → (rest : List ℕ) × IsFirst next last rows rest
 first-of {next} {last} {rows} ring = grind (arith, ring-parts)
 
--- The first row of a chain is a row of the links.
 pub first-is-row : {next : List ℕ} {lasts : List (Option ℕ)} {loose : List ℕ}
     {chains : List (List ℕ)} → Holds next lasts loose chains
     → (chain last : ℕ) → last_in lasts chain ≡ Some last → after next last < length next
@@ -178,7 +164,6 @@ first-is-row {next} {lasts} {loose} {chains} h chain last there =
     is-row h chain (after next last)
     (omega (arith, times-same (after next last) (after next last) first.0 refl))
 
--- The last row of a chain is a row of the links.
 pub last-is-row : {next : List ℕ} {lasts : List (Option ℕ)} {loose : List ℕ}
     {chains : List (List ℕ)} → Holds next lasts loose chains
     → (chain last : ℕ) → last_in lasts chain ≡ Some last → last < length next
@@ -187,7 +172,6 @@ last-is-row {next} {lasts} {loose} {chains} h chain last there =
     (let some = last-counts next last (chain_in chains chain) (ring-at h chain last there) in
     omega arith)
 
--- If a chain has a last row, this is a row of the links.
 pub noted-is-row : {next : List ℕ} {lasts : List (Option ℕ)} {loose : List ℕ}
     {chains : List (List ℕ)} → Holds next lasts loose chains
     → (chain : ℕ) (last : Option ℕ) → last_in lasts chain ≡ last
@@ -195,13 +179,11 @@ pub noted-is-row : {next : List ℕ} {lasts : List (Option ℕ)} {loose : List �
 noted-is-row h chain None there = tt
 noted-is-row h chain (Some last) there = last-is-row h chain last there
 
--- A loose row is a row of the links.
 pub loose-is-row : {next : List ℕ} {lasts : List (Option ℕ)} {chains : List (List ℕ)}
     (row : ℕ) (loose : List ℕ) → Holds next lasts (row ∷ loose) chains → row < length next
 loose-is-row row loose h =
     is-row h 0 row (let one = times-same row row loose refl in omega arith)
 
--- The last row of a loose ring is a row of the links.
 pub ring-is-row : {next : List ℕ} {lasts : List (Option ℕ)} {chains : List (List ℕ)} (last : ℕ)
     (rows loose : List ℕ) → Holds next lasts (rows ++ loose) chains → IsRing next last rows
     → last < length next
@@ -209,8 +191,7 @@ ring-is-row {next} last rows loose h ring =
     is-row h 0 last
     (let some = last-counts next last rows ring in omega (arith, times-append last rows loose))
 
--- The first row is taken out of a chain that has other rows: the link of the last row then leads to
--- the second row.
+-- One write takes the first row out of a longer chain: the last row's link then skips it.
 pub holds-cut : {next : List ℕ} {lasts : List (Option ℕ)} {loose : List ℕ} {chains : List (List ℕ)}
     → Holds next lasts loose chains
     → (chain last : ℕ) → last_in lasts chain ≡ Some last → after next last ≢ last
@@ -240,10 +221,7 @@ holds-cut {next} {lasts} {loose} {chains} h chain last there apart =
         let none = sources-end next second rest last first.leads.1 lone in
         let kept = leads-kept next new second rest last last last first.leads.1 same none none in
         let ring : IsRing new last (second ∷ rest) = record {
-          leads = (
-            get_or-set_same next last (after next (after next last)) 0 small ∙ first.leads.0,
-            kept,
-          );
+          leads = grind (arith, get_or-set_same next last (after next (after next last)) 0 small);
           some = omega arith;
         } in
         holds-put h new (after next last ∷ loose) chain (Some last) (drop 1 (chain_in chains chain))
@@ -261,7 +239,7 @@ holds-cut {next} {lasts} {loose} {chains} h chain last there apart =
         let b = ap (times row) first.behind in omega arith)
         (let d = ap length first.is in let b = ap length first.behind in omega arith)
 
--- The only row is taken out of a chain.
+-- If the last row's link leads to itself, it is the only row, and no link is written.
 pub holds-emptied : {next : List ℕ} {lasts : List (Option ℕ)} {loose : List ℕ}
     {chains : List (List ℕ)} → Holds next lasts loose chains
     → (chain last : ℕ) → last_in lasts chain ≡ Some last → after next last ≡ last
@@ -290,7 +268,7 @@ holds-emptied {next} {lasts} {loose} {chains} h chain last there same =
         let d = ap (times last) end.1 in
         omega (arith, times-append last end.0 (last ∷ [])))
 
--- A loose row is put before the first row of a chain that has rows.
+-- Two writes put a loose row before the first row of a chain that has rows.
 pub holds-preceded : {next : List ℕ} {lasts : List (Option ℕ)} {loose : List ℕ}
     {chains : List (List ℕ)} {row : ℕ}
     → Holds next lasts (row ∷ loose) chains → (chain last : ℕ) → last_in lasts chain ≡ Some last
@@ -313,10 +291,7 @@ holds-preceded {next} {lasts} {loose} {chains} {row} h chain last there =
         let some = last-counts next last (chain_in chains chain) ring in
         let small : last < length next = last-is-row h chain last there in
         let little : row < length next = is-row h chain row (omega arith) in
-        let away : row ≢ last = λ e. absurd (
-        let few = few-in h chain row in
-        let d = ap (λ r. times r (chain_in chains chain)) e in
-        omega arith) in
+        let away : row ≢ last = λ e. grind (arith, few-in h chain row) in
         let same = same-but-two next row (after next last) last row in
         let none : times row (chain_in chains chain) ≡ 0 = let few = few-in h chain row in
         omega arith in
@@ -326,14 +301,12 @@ holds-preceded {next} {lasts} {loose} {chains} {row} h chain last there =
         let kept = leads-kept next new (after next last) rest last row last first.leads same
         (sources-none next (after next last) rest last row first.leads (omega arith))
         (sources-end next (after next last) rest last first.leads (omega arith)) in
-        let leads : Leads new last (row ∷ after next last ∷ rest) last = (
-          get_or-set_same (set next row (after next last)) last row 0
-              (omega (arith, length-set next row (after next last))),
-          (
-            get_or-set_other (set next row (after next last)) last row row 0 away
-                ∙ get_or-set_same next row (after next last) 0 little,
-            kept,
-          ),
+        let leads : Leads new last (row ∷ after next last ∷ rest) last = grind (
+          arith,
+          get_or-set_same,
+          set,
+          length-set,
+          get_or-set_other,
         ) in
         let P : List ℕ → Type 0 = λ rows. Leads new last (row ∷ rows) last in
         holds-put h new loose chain (Some last) (row ∷ chain_in chains chain)
@@ -349,7 +322,7 @@ holds-preceded {next} {lasts} {loose} {chains} {row} h chain last there =
         (λ r. omega arith)
         (omega arith)
 
--- A loose row becomes the only row of a chain.
+-- The loose row becomes a ring of one row: its link leads to itself.
 pub holds-begun : {next : List ℕ} {lasts : List (Option ℕ)} {loose : List ℕ}
     {chains : List (List ℕ)} {row : ℕ}
     → Holds next lasts (row ∷ loose) chains → (chain : ℕ) → chain < length lasts
@@ -374,7 +347,7 @@ holds-begun {next} {lasts} {loose} {chains} {row} h chain less there =
     (λ r. omega arith)
     (omega arith)
 
--- A loose ring is put before the first row of a chain that has rows, by exchanging two links.
+-- Exchanging two links puts a loose ring before the first row of a chain that has rows.
 pub holds-embraced : {next : List ℕ} {lasts : List (Option ℕ)} {loose : List ℕ}
     {chains : List (List ℕ)} (two : ℕ) (rows : List ℕ)
     → Holds next lasts (rows ++ loose) chains → IsRing next two rows → (chain one : ℕ)
@@ -420,16 +393,13 @@ holds-embraced {next} {lasts} {loose} {chains} two rows h moved chain one there 
         (sources-none next (after next two) more two one other.leads (omega arith))
         (sources-end next (after next two) more two other.leads (omega arith)) in
         let P : List ℕ → Type 0 = λ rs. Leads new one rs two in
-        let front : Leads new one rows two = subst P (sym other.is) (
-          get_or-set_other (set next one (after next two)) two one (after next one) 0 away
-              ∙ get_or-set_same next one (after next two) 0 small,
-          went,
-        ) in
+        let front : Leads new one rows two = grind (arith, get_or-set_other, set, get_or-set_same) in
         let Q : List ℕ → Type 0 = λ rs. Leads new two rs one in
-        let back : Leads new two (chain_in chains chain) one = subst Q (sym first.is) (
-          get_or-set_same (set next one (after next two)) two (after next one) 0
-              (omega (arith, length-set next one (after next two))),
-          kept,
+        let back : Leads new two (chain_in chains chain) one = grind (
+          arith,
+          get_or-set_same,
+          set,
+          length-set,
         ) in
         holds-put h new loose chain (Some one) (rows ++ chain_in chains chain)
         (last-there lasts chain one there)
@@ -449,7 +419,7 @@ holds-embraced {next} {lasts} {loose} {chains} two rows h moved chain one there 
         (λ r. omega (arith, times-append r rows loose, times-append r rows (chain_in chains chain)))
         (omega (arith, length-append rows loose, length-append rows (chain_in chains chain)))
 
--- Loose rows that are a ring become the rows of a chain that had none.
+-- If the chain is empty, it takes over a loose ring without a write to the links.
 pub holds-named : {next : List ℕ} {lasts : List (Option ℕ)} {loose : List ℕ}
     {chains : List (List ℕ)} (two : ℕ) (rows : List ℕ)
     → Holds next lasts (rows ++ loose) chains → IsRing next two rows → (chain : ℕ)
@@ -467,18 +437,16 @@ holds-named {next} {lasts} {loose} {chains} two rows h moved chain less there =
     (λ r. omega (arith, times-append r rows loose, times-append r rows (chain_in chains chain)))
     (omega (arith, length-append rows loose, length-append rows (chain_in chains chain)))
 
--- The links hold equal chains with equal last rows.
 pub holds-at : {next : List ℕ} {loose : List ℕ} (lasts other : List (Option ℕ))
     (chains same : List (List ℕ)) → lasts ≡ other → chains ≡ same
     → Holds next lasts loose chains → Holds next other loose same
 holds-at {next} {loose} lasts other chains same e d h = grind arith
 
--- Writing the last row of a chain that it has already changes nothing.
 pub last-again : (lasts : List (Option ℕ)) (chain : ℕ) (last : Option ℕ)
     → last_in lasts chain ≡ last → set lasts chain last ≡ lasts
 last-again lasts chain last is = grind (arith, set-get_or)
 
--- One chain is put before another chain that has rows.
+-- A chain is put before another in two steps: its rows become loose, and `step` puts them there.
 pub holds-fronted : {next : List ℕ} {lasts : List (Option ℕ)} {loose : List ℕ}
     {chains : List (List ℕ)} → Holds next lasts loose chains
     → (from onto : ℕ) → from ≢ onto → from < length lasts → (new : List ℕ) (noted : List (Option ℕ))
@@ -489,8 +457,7 @@ pub holds-fronted : {next : List ℕ} {lasts : List (Option ℕ)} {loose : List 
 holds-fronted {next} {lasts} {loose} {chains} h from onto apart less new noted step =
     grind (arith, in-other, holds-at, holds-loosened)
 
--- If one chain is put before another, and its last row then counts as the last, it comes after the
--- other.
+-- A chain that was put before another comes after it if its last row then counts as the last.
 pub holds-joined : {next : List ℕ} {lasts : List (Option ℕ)} {loose : List ℕ}
     {chains : List (List ℕ)} → Holds next lasts loose chains
     → (from onto last : ℕ) → last_in lasts from ≡ Some last → onto < length lasts
@@ -521,8 +488,7 @@ holds-joined {next} {lasts} {loose} {chains} h from onto last there less new not
         ∙ ap (λ rs. set (set chains from []) onto (chain_in chains onto ++ rs)) (sym rows))
         (holds-turned then onto end.0 last (chain_in chains onto) here)
 
--- If a row is put before a chain and then counts as the chain's last row, it comes after the other
--- rows.
+-- As `holds-joined`, for one row.
 pub holds-lengthened : (new : List ℕ) (noted : List (Option ℕ)) (loose : List ℕ)
     (chains : List (List ℕ)) (chain row : ℕ) → chain < length chains
     → Holds new noted loose (preceded chains chain row)
@@ -535,18 +501,15 @@ holds-lengthened new noted loose chains chain row less h =
     (holds-turned h chain [] row (chain_in chains chain)
     (in-put chains chain (row ∷ chain_in chains chain) less))
 
--- Equal links hold the same chains.
 pub holds-same : {lasts : List (Option ℕ)} {loose : List ℕ} {chains : List (List ℕ)}
     (next new : List ℕ) (noted : List (Option ℕ)) → new ≡ next → noted ≡ lasts
     → Holds next lasts loose chains → Holds new noted loose chains
 holds-same {lasts} {loose} {chains} next new noted e d h = grind arith
 
--- A ring is a ring in equal links too.
 pub ring-same : (next new : List ℕ) (last : ℕ) (rows : List ℕ) → new ≡ next → IsRing next last rows
     → IsRing new last rows
 ring-same next new last rows e ring = grind arith
 
--- One more row, which is in no chain, is loose.
 pub holds-grown : {next : List ℕ} {lasts : List (Option ℕ)} {chains : List (List ℕ)}
     → Holds next lasts [] chains
     → Holds (next ++ 0 ∷ []) lasts (length next ∷ []) chains
@@ -580,7 +543,6 @@ holds-grown {next} {lasts} {chains} h =
       all = let e = h.all in omega (arith, length-append next (0 ∷ []));
     }
 
--- One more chain has no rows.
 pub holds-more : {next : List ℕ} {lasts : List (Option ℕ)} {loose : List ℕ} {chains : List (List ℕ)}
     → Holds next lasts loose chains
     → Holds next (lasts ++ None ∷ []) loose (chains ++ [] ∷ [])

@@ -1,7 +1,7 @@
 -- The headline's plain definitions: for each one an example that holds and one that doesn't.
-use Rattle.std.proofs.Common.{◌≡◌, ℕ, zero, suc, ◌+◌, ◌<◌, Bool, true, false, Some, List, []}
-use Rattle.std.proofs.Common.{◌∷◌, ◌++◌, get_or, length, replicate, take, refl, ap}
-use Rattle.std.proofs.Common.{subst, ◌∙◌, inl, inr, arith}
+use Rattle.std.proofs.Common.{◌≡◌, ℕ, zero, suc, ◌+◌, ◌<◌, Bool, true, false, Some, List, [], ◌∷◌}
+use Rattle.std.proofs.Common.{◌++◌, get_or, length, replicate, take, refl, ap, subst, ◌∙◌, inl, inr}
+use Rattle.std.proofs.Common.{arith}
 use Rattle.std.specs.Prelude.{◌⊎◌}
 use Rattle.byteorder.specs.Endian.{little_bytes}
 use Rattle.bio.specs.declared.event.CoreEvent.{CoreEvent}

@@ -1,7 +1,7 @@
--- The plain definitions of what a device could hold agree with those of the contracts.
-use Rattle.std.proofs.Common.{subst, take, Option, Some, None, List, [], ◌∷◌, length, refl, ap, sym}
-use Rattle.std.proofs.Common.{◌∙◌, inl, inr, arith, ◌≡◌, ℕ, zero, suc, ◌+◌, ◌-◌, ◌<◌, ◌≤◌, Bool}
-use Rattle.std.proofs.Common.{true, false, ◌&&◌, ◌||◌}
+-- The plain `CouldHold`, `Durable`, `Kept` and `Replays` agree with the contracts' definitions.
+use Rattle.std.proofs.Common.{take, Option, Some, None, List, [], ◌∷◌, length, refl, ap, sym, ◌∙◌}
+use Rattle.std.proofs.Common.{inl, inr, arith, ◌≡◌, ℕ, zero, suc, ◌+◌, ◌-◌, ◌<◌, ◌≤◌, Bool, true}
+use Rattle.std.proofs.Common.{false, ◌&&◌, ◌||◌}
 use Rattle.std.specs.Prelude.{◌⊎◌, slice_get, option_map}
 use Rattle.std.proofs.lemmas.Bool.{and_parts, cases_lt}
 use Rattle.std.proofs.lemmas.List.{take-map}
@@ -17,7 +17,7 @@ use Rattle.bio.specs.PlaceLaws.{or_second, slice_get-within, well_formed-end}
 use Rattle.bio.specs.Events.{all_aligned, end_of, is_before, is_flush_submit, is_well_formed}
 use Rattle.bio.specs.Events.{submits}
 use Rattle.bio.specs.Possible.{Possible, ended_ok, has_kept, is_durable, is_flushed, is_kept}
-use Rattle.bio.specs.Possible.{is_replaced, is_success, is_success_at, values_at, values_of}
+use Rattle.bio.specs.Possible.{is_replaced, is_success_at, values_at, values_of}
 use Rattle.bio.specs.RequestLaws.{covered_value, is_before-end, value_covers}
 use Rattle.bio.specs.Requests.{has_fua}
 use Rattle.log_format.specs.declared.entry.Entry.{Entry}
@@ -30,11 +30,9 @@ use Rattle.pending.specs.CompletionList.{entries_of, entry_at, ids_of}
 use Rattle.pending.specs.Plain.{CouldHold, Covers, Durable, Ends, Flushed, Kept, Puts, Replays}
 use Rattle.pending.specs.Plain.{Submits}
 
--- two tests that hold
 pub and_holds : (a b : Bool) → a ≡ true → b ≡ true → (a && b) ≡ true
 and_holds a b ha hb = grind arith
 
--- what a range has for a sector
 over-has : (first count : ℕ) (value : ℕ → List ℕ) (sector : ℕ) (v : List ℕ)
     → over first count value sector ≡ Some v
     → (first ≤ sector) × (sector < first + count) × (v ≡ value (sector - first))
@@ -43,10 +41,8 @@ over-has first count value sector v e = grind (arith, over_cases, over-in)
 has-over : (first count : ℕ) (value : ℕ → List ℕ) (sector : ℕ) → first ≤ sector
     → sector < first + count → over first count value sector ≡ Some (value (sector - first))
 has-over first count value sector low high =
-    ap (over first count value) (omega arith)
-    ∙ over-in first count value (sector - first) (omega arith)
+    grind (arith, over-in first count value (sector - first) (omega arith))
 
--- a request puts the value that it has for a sector
 pub puts-values : (bio : Bio) (sector : ℕ) (value : List ℕ) → values_of bio sector ≡ Some value
     → Puts bio sector value
 puts-values (Write first bytes flush fua meta) sector value e = grind (arith, over-has)
@@ -61,7 +57,6 @@ values-puts Flush sector value puts = absurd puts
 values-puts (Discard first count) sector value puts = grind (arith, has-over)
 values-puts (Read first count) sector value puts = absurd puts
 
--- the same of what an event submits
 pub event-puts : (there : Option CoreEvent) (sector : ℕ) (value : List ℕ)
     → values_at there sector ≡ Some value
     → (bio : Bio) × (there ≡ Some (Submit bio)) × Puts bio sector value
@@ -77,7 +72,6 @@ pub puts-event : (events : List CoreEvent) (id : ℕ) (bio : Bio) (sector : ℕ)
     → values_at (slice_get events id) sector ≡ Some value
 puts-event events id bio sector value is puts = grind (arith, values-puts)
 
--- what an event submits that passes a test
 submits-some : (test : Bio → Bool) (there : Option CoreEvent) → submits test there ≡ true
     → (bio : Bio) × (there ≡ Some (Submit bio)) × (test bio ≡ true)
 submits-some test (Some (Submit bio)) h = (bio, refl, h)
@@ -87,25 +81,19 @@ submits-some test (Some (Stop cause)) h = cc
 submits-some test (Some Close) h = cc
 submits-some test None h = cc
 
--- an end with success
 ok-ends : (events : List CoreEvent) (id : ℕ) → ended_ok events id ≡ true
     → (end : ℕ) × (end_of events id ≡ Some end) × Ends events id end true
 ok-ends events id ok = elim (option_cases (end_of events id)) [
   | inl none ↦
       absurd (let contra : false ≡ true = sym (ap (is_success_at events) none) ∙ ok in cc)
   | inr some ↦
-      let there = ends-there events id some.0 some.1 in
-      let is = there.2.1 in
-      let success : there.2.0 ≡ true =
-      sym (ap is_success is) ∙ (sym (ap (is_success_at events) some.1) ∙ ok) in
-      (some.0, some.1, is ∙ rw success)
+      grind (arith, ends-there events id some.0 some.1, true)
 ]
 
 ends-ok : (events : List CoreEvent) (id end : ℕ) → is_well_formed events ≡ true
     → Ends events id end true → ended_ok events id ≡ true
 ends-ok events id end well_formed ends = grind (arith, well_formed-end)
 
--- a flush
 flushed-after : (events : List CoreEvent) (id end : ℕ) → end_of events id ≡ Some end
     → is_flushed events id ≡ true → Flushed events end
 flushed-after events id end ends flushed =
@@ -146,7 +134,6 @@ after-flushed events id end well_formed ends flushed =
     (ends-ok events flushed.id flushed.end well_formed flushed.ended)
     ((is_before-end events id flushed.id).1 (end, ends, flushed.after))))
 
--- what is durable
 pub durable-plain : (events : List CoreEvent) (id : ℕ) → is_well_formed events ≡ true
     → is_durable events id ≡ true → Durable events id
 durable-plain events id well_formed durable =
@@ -179,7 +166,6 @@ plain-durable events id well_formed durable =
           (after-flushed events id durable.end well_formed ended.ends flushed)
     ])
 
--- what is kept
 pub kept-plain : (events : List CoreEvent) (sector id : ℕ) → is_well_formed events ≡ true
     → is_kept events sector id ≡ true → Kept events sector id
 kept-plain events sector id well_formed kept =
@@ -190,11 +176,9 @@ pub plain-kept : (events : List CoreEvent) (sector id : ℕ) → is_well_formed 
 plain-kept events sector id well_formed kept =
     grind (arith, and_holds, plain-durable, value_covers, puts-event)
 
--- it stands among the events
 kept-within : (events : List CoreEvent) (sector id : ℕ) → Kept events sector id → id < length events
 kept-within events sector id kept = slice_get-within events id (Submit kept.1) kept.2
 
--- what is possible could be held
 pub possible-plain : (events : List CoreEvent) (first now : Content)
     → is_well_formed events ≡ true → Possible events first now → CouldHold events first now
 possible-plain events first now well_formed possible = λ sector. elim (possible sector) [
@@ -223,7 +207,6 @@ possible-plain events first now well_formed possible = λ sector. elim (possible
       )
 ]
 
--- and what could be held is possible
 pub plain-possible : (events : List CoreEvent) (first now : Content)
     → is_well_formed events ≡ true → CouldHold events first now → Possible events first now
 plain-possible events first now well_formed could = λ sector. elim (could sector) [
@@ -253,9 +236,7 @@ plain-possible events first now well_formed could = λ sector. elim (could secto
   )
 ]
 
--- The plain definition of what a replay leaves agrees with that of the contracts.
-
--- what a sector has after these ids, where it had this at first
+-- What `Replays` says about one sector, whose value was `first` before the replay.
 abbrev SectorAfter : List CoreEvent → List ℕ → ℕ → List ℕ → List ℕ → Type 0
 SectorAfter events ids sector first after =
     ((after ≡ first)
@@ -266,7 +247,7 @@ SectorAfter events ids sector first after =
     × ((m later : ℕ) (other : Bio) → n < m → slice_get ids m ≡ Some later
     → Submits events later other → Covers other sector → ⊥))
 
--- it has one value
+-- `SectorAfter` allows only one value, so it determines what a replay leaves.
 one-value : (events : List CoreEvent) (ids : List ℕ) (sector : ℕ) (first v w : List ℕ)
     → SectorAfter events ids sector first v → SectorAfter events ids sector first w → v ≡ w
 one-value events ids sector first v w (inl a) (inl b) = a.0 ∙ sym b.0
@@ -278,17 +259,16 @@ one-value events ids sector first v w (inr a) (inr b) = elim (cases_lt a.0 b.0) 
   | inl less ↦ absurd (a.6 b.0 b.1 b.2 less b.3 b.4 (w, b.5))
   | inr above ↦ elim (eq-or-lt_of_le above) [
     | inl same ↦
-        let one : a.1 ≡ b.1 =
-        let x : Some a.1 ≡ Some b.1 = sym a.3 ∙ (ap (slice_get ids) (sym same) ∙ b.3) in cc in
-        let both : Some v ≡ Some w =
-        sym (puts-event events a.1 a.2 sector v a.4 a.5)
-        ∙ (ap (λ id. values_at (slice_get events id) sector) one
-        ∙ puts-event events b.1 b.2 sector w b.4 b.5) in cc
+        grind (
+          arith,
+          puts-event events a.1 a.2 sector v a.4 a.5,
+          puts-event events b.1 b.2 sector
+              w b.4 b.5,
+        )
     | inr more ↦ absurd (b.6 a.0 a.1 a.2 more a.3 a.4 (v, a.5))
   ]
 ]
 
--- the entry of an id in the list
 entry-there : (size : ℕ) (events : List CoreEvent) (ids : List ℕ) (n id : ℕ)
     → slice_get ids n ≡ Some id
     → slice_get (entries_at size events ids) n ≡ Some (entry_at size (slice_get events id))
@@ -303,19 +283,13 @@ there-entry size events [] n entry is = cc
 there-entry size events (x ∷ ids) zero entry is = (x, refl, (cc))
 there-entry size events (x ∷ ids) (suc n) entry is = there-entry size events ids n entry is
 
--- an entry without a value doesn't cover the sector
 uncovered : (size : ℕ) (events : List CoreEvent) (id : ℕ) (bio : Bio) (sector : ℕ)
     → is_sector_size size ≡ true → all_aligned size events ≡ true
     → entry_values size (entry_at size (slice_get events id)) sector ≡ None
     → Submits events id bio → Covers bio sector → ⊥
 uncovered size events id bio sector right aligned none is covers =
-    let same =
-    entry-values size (slice_get events id) sector right (aligned-at size events id aligned) in
-    let some = puts-event events id bio sector covers.0 is covers.1 in
-    let contra : None ≡ Some covers.0 = sym none ∙ (same ∙ some) in
-    cc
+    grind (arith, entry-values, aligned-at, puts-event)
 
--- what the fold leaves is what the words say
 sector-after : (size : ℕ) (events : List CoreEvent) (ids : List ℕ) (first : Content) (sector : ℕ)
     → is_sector_size size ≡ true → all_aligned size events ≡ true
     → SectorAfter events ids sector (first sector)
@@ -355,9 +329,7 @@ pub replay-plain : (size : ℕ) (events : List CoreEvent) (ids : List ℕ) (firs
     → is_sector_size size ≡ true → all_aligned size events ≡ true
     → ((sector : ℕ) → after sector ≡ replay size (entries_at size events ids) first sector)
     → Replays events ids first after
-replay-plain size events ids first after right aligned same = λ sector.
-    subst (λ v. SectorAfter events ids sector (first sector) v) (sym (same sector))
-    (sector-after size events ids first sector right aligned)
+replay-plain size events ids first after right aligned same = grind (arith, sector-after)
 
 pub plain-replay : (size : ℕ) (events : List CoreEvent) (ids : List ℕ) (first after : Content)
     → is_sector_size size ≡ true → all_aligned size events ≡ true
@@ -368,7 +340,6 @@ plain-replay size events ids first after right aligned replays sector =
     (replay size (entries_at size events ids) first sector) (replays sector)
     (sector-after size events ids first sector right aligned)
 
--- items that have the entries of their ids
 entries-are : (size : ℕ) (events : List CoreEvent) (items : List Item)
     → ((k : ℕ) (item : Item) → slice_get items k ≡ Some item
     → item.1 ≡ entry_at size (slice_get events item.0))
@@ -377,7 +348,6 @@ entries-are size events [] each = refl
 entries-are size events (item ∷ items) each =
     rw (each 0 item refl, entries-are size events items (λ k i is. each (suc k) i is))
 
--- an item of a beginning is one of the list
 pub slice_get-beginning : {A : Type 0} (n k : ℕ) (xs : List A) (x : A) → slice_get (take n xs) k ≡ Some x
     → slice_get xs k ≡ Some x
 slice_get-beginning zero k xs x is = cc
@@ -385,7 +355,6 @@ slice_get-beginning (suc n) k [] x is = cc
 slice_get-beginning (suc n) zero (y ∷ xs) x is = is
 slice_get-beginning (suc n) (suc k) (y ∷ xs) x is = slice_get-beginning n k xs x is
 
--- the entries of a beginning of the completion list are those of its ids
 pub first-entries : (size : ℕ) (events : List CoreEvent) (count : ℕ) → is_well_formed events ≡ true
     → entries_of (take count (completion_list (dm_log_writes size) events))
     ≡ entries_at size events (take count (ids_of (completion_list (dm_log_writes size) events)))

@@ -1,7 +1,7 @@
 -- The plain definitions of what is queued agree with those of the contracts.
 use Rattle.std.proofs.Common.{◌≡◌, ℕ, zero, suc, ◌<◌, Bool, true, false, not, ◌&&◌, ◌||◌, Option}
-use Rattle.std.proofs.Common.{Some, None, List}
-use Rattle.std.proofs.Common.{[], ◌∷◌, length, refl, ap, sym, subst, ◌∙◌, inl, inr, arith}
+use Rattle.std.proofs.Common.{Some, None, List, [], ◌∷◌, length, refl, ap, sym, subst, ◌∙◌, inl}
+use Rattle.std.proofs.Common.{inr, arith}
 use Rattle.std.proofs.Math.Nat.{eq-or-lt_of_le}
 use Rattle.std.proofs.lemmas.Bool.{and_parts, cases_lt, le-ltb, lt-ltb, ltb-true}
 use Rattle.std.specs.Prelude.{◌⊎◌, slice_get, nat_lt}
@@ -19,15 +19,13 @@ use Rattle.pending.specs.QueueEvent.{first_need, log_writes_order, queue_of, unl
 use Rattle.pending.specs.CompletionList.{IsQueued, IsQueuedBefore, Item, completion_list}
 use Rattle.pending.specs.CompletionList.{dm_log_writes, entry_at, ids_of, own_end}
 use Rattle.pending.specs.Plain.{AClose, AMark, AtClose, AtEnd, AtFlush, AtFua, Chain, Covers}
-use Rattle.pending.specs.Plain.{Direct}
-use Rattle.pending.specs.Plain.{GoesOn, IsCompletionList, Later, Need, Overlap, Queued, Queues}
-use Rattle.pending.specs.Plain.{Submits, Through}
+use Rattle.pending.specs.Plain.{Direct, GoesOn, IsCompletionList, Later, Need, Overlap, Queued}
+use Rattle.pending.specs.Plain.{Queues, Submits, Through}
 use Rattle.pending.proofs.Order.{ends-there, listed-queued, listed-sorted, own-queue_event}
 use Rattle.pending.proofs.Order.{plain-queue_event, queued-listed, unstopped}
 use Rattle.pending.proofs.PlainHeld.{and_holds, puts-values, values-puts}
 use Rattle.pending.proofs.Words.{first-need-queues, need-recorded, recorded-need}
 
--- what covers a sector puts a value there
 covers-plain : (bio : Bio) (sector : ℕ) → covers bio sector ≡ true → Covers bio sector
 covers-plain bio sector covered =
     let value = covered_value (Some (Submit bio)) sector covered in
@@ -46,7 +44,6 @@ not_true : (b : Bool) → not b ≡ true → b ≡ false
 not_true true e = cc
 not_true false e = refl
 
--- chains
 chain-plain : (events : List CoreEvent) (last : Bio) (place end : ℕ) (bio : Bio)
     → old.Chain events last place end bio → Chain events last place end bio
 chain-plain events last place end bio (old.Direct _ _ overlap) =
@@ -72,7 +69,6 @@ plain-chain events last place end bio well_formed
     }) rises within (plain-overlap bio next meets)
     (plain-chain events last place later next well_formed rest)
 
--- needs
 need-plain : (events : List CoreEvent) (end : ℕ) (bio : Bio) (place : ℕ)
     → old.IsNeed events end bio place → Need events end bio place
 need-plain events end bio place (old.AtClose is) = AtClose is
@@ -91,7 +87,6 @@ plain-need events end bio place well_formed (AtFua id ok last is submitted has c
     old.AtFua id ok last is (well_formed-end events place id ok well_formed is).earlier submitted
     has (plain-chain events last place end bio well_formed chain)
 
--- an event that needs something is no Stop, and stands among the events
 need-within : (events : List CoreEvent) (end : ℕ) (bio : Bio) (place : ℕ)
     → Need events end bio place
     → (place < length events) × (is_stop (slice_get events place) ≡ false)
@@ -102,7 +97,6 @@ need-within events end bio place (AtFlush id ok last is submitted has rises) =
 need-within events end bio place (AtFua id ok last is submitted has chain) =
     grind (arith, slice_get-within)
 
--- where logging goes on
 by_stop : (stop queued : Option ℕ) (p : ℕ) → unless_stopped stop queued ≡ Some p
     → (stop ≡ None) ⊎ ((s : ℕ) × (stop ≡ Some s) × (p < s))
 by_stop None queued p e = inl refl
@@ -145,7 +139,6 @@ or_false : (a b : Bool) → (a || b) ≡ false → (a ≡ false) × (b ≡ false
 or_false true b e = cc
 or_false false b e = (refl, e)
 
--- what is queued in the plain words has the queue event
 pub plain-queued : (events : List CoreEvent) (id end place : ℕ) → is_well_formed events ≡ true
     → Queues events id end place → GoesOn events place
     → IsQueued log_writes_order events id place end
@@ -160,20 +153,16 @@ plain-queued events id end place well_formed (AMark text is) goes =
 plain-queued events id end place well_formed (AClose is) goes =
     record {
       queues =
-          ap (λ there. unless_stopped (first_place is_stop events)
-          (queue_of log_writes_order events id there)) is
-          ∙ plain-goes_on events id (ap is_stop is) goes;
+          grind (arith, plain-goes_on);
       ends = ap (own_end events id) is;
     }
 plain-queued events id end place well_formed (AtEnd _ bio ok is ends own) goes =
-    let ended = well_formed-end events end id ok well_formed ends in
-    record {
-      queues =
-          own-queue_event events id bio is own
-          ∙ ap (unless_stopped (first_place is_stop events)) ended.ends
-          ∙ plain-goes_on events end (ap is_stop ends) goes;
-      ends = ap (own_end events id) is ∙ ended.ends;
-    }
+    grind (
+      arith,
+      well_formed-end events end id ok well_formed ends,
+      own-queue_event,
+      plain-goes_on,
+    )
 plain-queued events id end place well_formed (Later _ _ bio ok is ends plain after need none) goes =
     let ended = well_formed-end events end id ok well_formed ends in
     let stands = need-within events end bio place need in
@@ -190,7 +179,6 @@ plain-queued events id end place well_formed (Later _ _ bio ok is ends plain aft
       ends = ap (own_end events id) is ∙ ended.ends;
     }
 
--- and what has the queue event is queued in the plain words
 submitted-plain : (events : List CoreEvent) (id end place : ℕ) (bio : Bio)
     → is_well_formed events ≡ true → Submits events id bio
     → IsQueued log_writes_order events id place end → Queues events id end place
@@ -219,11 +207,11 @@ submitted-plain events id end place bio well_formed is queued =
           first.here in
           Later end place bio there.2.0 is there.2.1 plain (ltb-true end place parts.0)
           (need-plain events end bio place (recorded-need events end bio place
-          (ap (λ e. log_writes_order events end e place (slice_get events place)) (sym is)
+          (grind (arith, is)
           ∙ parts.1)))
           (λ k low high need.
           let needed =
-          ap (λ e. log_writes_order events end e k (slice_get events k)) is
+          grind (arith, is)
           ∙ need-recorded events end bio k (plain-need events end bio k well_formed need) in
           let here =
           and_holds (nat_lt end k)
@@ -270,7 +258,6 @@ queued-plain events id end place well_formed queued = (
   goes_on-plain events (queue_of log_writes_order events id (slice_get events id)) place queued.queues,
 )
 
--- an id of the items is that of an item
 pub item-there : (items : List Item) (n id : ℕ) → slice_get (ids_of items) n ≡ Some id
     → (item : Item) × (slice_get items n ≡ Some item) × (item.0 ≡ id)
 item-there [] n id is = cc
@@ -283,7 +270,6 @@ there-item [] n item is = cc
 there-item (x ∷ items) zero item is = grind arith
 there-item (x ∷ items) (suc n) item is = there-item items n item is
 
--- the ids of the completion list are one in the plain words
 pub list-plain : (size : ℕ) (events : List CoreEvent) → is_well_formed events ≡ true
     → IsCompletionList events (ids_of (completion_list (dm_log_writes size) events))
 list-plain size events well_formed =

@@ -1,5 +1,4 @@
 -- Replaying a prefix of the log gives a content that the device could hold.
--- After replaying entries a sector has the value of the last entry that has one for it.
 use Rattle.std.proofs.Common.{inl, inr, arith, Some, None, List, [], ◌∷◌, length, take, drop}
 use Rattle.std.proofs.Common.{replicate, refl, ap, sym, ◌∙◌, ◌≡◌, ℕ, zero, suc, ◌+◌, ◌-◌, ◌/◌, ◌<◌}
 use Rattle.std.proofs.Common.{◌≤◌, true, false, ◌&&◌, ◌||◌, Option}
@@ -36,11 +35,10 @@ use Rattle.pending.specs.CompletionList.{BelongsTo, Item, completion_list, dm_lo
 use Rattle.pending.specs.CompletionList.{entries_of, entry_at, last_moment}
 use Rattle.pending.specs.QueueEvent.{queue_event, log_writes_order}
 
--- the values of an entry in a log with sectors of so many bytes
 abbrev pub entry_values : ℕ → Entry → Patch
 entry_values size e = kind_values size (kind_of e.flags) e
 
--- the last entry that has a value for the sector
+-- The last entry of `es` that has a value for the sector has the value `now`.
 pub record LastAt (size : ℕ) (es : List Entry) (sector : ℕ) (now : List ℕ) : Type 0 where
   pub place : ℕ
   pub entry : Entry
@@ -49,12 +47,10 @@ pub record LastAt (size : ℕ) (es : List Entry) (sector : ℕ) (now : List ℕ)
   pub after : (k : ℕ) (later : Entry) → place < k → slice_get es k ≡ Some later
       → entry_values size later sector ≡ None
 
--- no entry has a value for the sector
 abbrev pub NoneAt : ℕ → List Entry → ℕ → Type 0
 NoneAt size es sector =
     (k : ℕ) (entry : Entry) → slice_get es k ≡ Some entry → entry_values size entry sector ≡ None
 
--- what is left in a sector
 pub last-value : (size : ℕ) (es : List Entry) (sector : ℕ) (first : Content)
     → ((replay size es first sector ≡ first sector) × NoneAt size es sector)
     ⊎ LastAt size es sector (replay size es first sector)
@@ -102,12 +98,10 @@ last-value size (e ∷ es) sector first =
     rest_only zero later less there none = absurd (omega arith)
     rest_only (suc k) later less there none = none k later there
 
--- a range of no sectors has no values
 empty_range : (n first : ℕ) (value : ℕ → List ℕ) (sector : ℕ) → n ≡ 0
     → over first n value sector ≡ None
 empty_range n first value sector none = grind (arith, over_cases)
 
--- the entry of what an event submits has the values of the request
 pub entry-values : (size : ℕ) (there : Option CoreEvent) (sector : ℕ) → is_sector_size size ≡ true
     → submits_aligned size there ≡ true
     → entry_values size (entry_at size there) sector ≡ values_at there sector
@@ -118,7 +112,6 @@ entry-values size (Some (Stop cause)) sector right aligned = grind (arith, empty
 entry-values size (Some Close) sector right aligned = refl
 entry-values size None sector right aligned = grind (arith, empty_range)
 
--- each request that the events submit is aligned, and what stands at a place submits no other
 pub aligned-at : (size : ℕ) (events : List CoreEvent) (id : ℕ) → all_aligned size events ≡ true
     → submits_aligned size (slice_get events id) ≡ true
 aligned-at size events id aligned = elim (option_cases (slice_get events id)) [
@@ -128,7 +121,6 @@ aligned-at size events id aligned = elim (option_cases (slice_get events id)) [
       (length events) aligned id (slice_get-within events id some.0 some.1)
 ]
 
--- an entry of a beginning of items is one of the items
 pub entry-item : (items : List Item) (n k : ℕ) (entry : Entry)
     → slice_get (entries_of (take n items)) k ≡ Some entry
     → (item : Item) × (slice_get items k ≡ Some item) × (item.1 ≡ entry) × (k < n)
@@ -139,7 +131,6 @@ entry-item (item ∷ items) (suc n) (suc k) entry is =
     let r = entry-item items n k entry is in
     (r.0, r.1, r.2, (let less = r.3 in omega arith))
 
--- an item is an entry of a beginning
 pub item-entry : (items : List Item) (n k : ℕ) (item : Item) → slice_get items k ≡ Some item → k < n
     → slice_get (entries_of (take n items)) k ≡ Some item.1
 item-entry items zero k item is less = absurd (omega arith)
@@ -147,13 +138,11 @@ item-entry [] (suc n) k item is less = cc
 item-entry (x ∷ items) (suc n) zero item is less = grind arith
 item-entry (x ∷ items) (suc n) (suc k) item is less = item-entry items n k item is (omega arith)
 
--- a moment that is no later than the last one
 pub moment-from : (events : List CoreEvent) (moment : ℕ) → is_well_formed events ≡ true
     → moment ≤ last_moment events → IsMoment events moment
 moment-from events moment well_formed last =
     grind (arith, option_cases, first_below-found)
 
--- an event that puts a value in a sector
 covers-some : (there : Option CoreEvent) (sector : ℕ) → covers_at sector there ≡ true
     → (bio : Bio) × (there ≡ Some (Submit bio)) × (covers bio sector ≡ true)
 covers-some (Some (Submit bio)) sector h = (bio, refl, h)
@@ -163,13 +152,11 @@ covers-some (Some (Stop cause)) sector h = cc
 covers-some (Some Close) sector h = cc
 covers-some None sector h = cc
 
--- what ended with success ended
 success-end : (events : List CoreEvent) (found : Option ℕ) → is_success_at events found ≡ true
     → (end : ℕ) × (found ≡ Some end)
 success-end events None h = cc
 success-end events (Some end) h = (end, refl)
 
--- an end in a beginning of the events
 end-longer : (events : List CoreEvent) (moment id end : ℕ) → moment ≤ length events
     → end_of (take moment events) id ≡ Some end
     → (end_of events id ≡ Some end) × (id < end) × (end < moment)
@@ -182,7 +169,6 @@ end-longer events moment id end within ends =
       (let less = there.0 in omega arith),
     )
 
--- a durable request over a sector, of the first events
 durable-of : (events : List CoreEvent) (moment sector id : ℕ) → moment ≤ length events
     → id < length (take moment events)
     → is_kept (take moment events) sector id ≡ true → IsDurableBefore events moment sector id
@@ -236,33 +222,25 @@ durable-of events moment sector id within inside kept =
       ];
     }
 
--- the entry of what is queued before a moment stands among those queued by then
 pub stands-before : (size : ℕ) (events : List CoreEvent) (moment id event : ℕ) → moment ≤ length events
     → queue_event log_writes_order events id ≡ Some event → event < moment
     → (k : ℕ) × (slice_get (completion_list (dm_log_writes size) events) k
     ≡ Some (id, entry_at size (slice_get (take moment events) id)))
     × (k < length (completion_list (dm_log_writes size) (take moment events)))
 stands-before size events moment id event within queued less =
-    let front = take moment events in
-    let listed =
-    queued-listed (dm_log_writes size) front id event
-    (queued-shorter events moment id event within less queued) in
-    let inside =
-    slice_get-within (completion_list (dm_log_writes size) front) listed.0
-    (id, entry_at size (slice_get front id)) listed.1 in
-    let grows = recorded_list_grows size front (drop moment events) in (
-      listed.0,
-      ap (λ es. slice_get (completion_list (dm_log_writes size) es) listed.0)
-          (sym (take-append-drop moment events))
-          ∙ ap (λ items. slice_get items listed.0) grows.1
-          ∙ slice_get-append_front
-          (completion_list (dm_log_writes size) front) grows.0 listed.0 inside
-          ∙ listed.1,
-      inside,
+    grind (
+      arith,
+      take moment events,
+      queued-listed (dm_log_writes size) (take moment events) id
+          event (queued-shorter events moment id event within less queued),
+      slice_get-within,
+      recorded_list_grows size (take moment events) (drop moment events),
+      take-append-drop moment
+          events,
+      slice_get-append_front,
     )
 
--- What an item of the first so many is: queued by a moment's next event at the latest, and
--- submitted before the moment.
+-- The item's queue event is at most the next event after the first `moment` events.
 pub record IsItemBy (size : ℕ) (events : List CoreEvent) (moment : ℕ) (item : Item) : Type 0 where
   pub event : ℕ
   pub queued : queue_event log_writes_order events item.0 ≡ Some event
@@ -297,7 +275,6 @@ item-by size events moment k item well_formed is inside =
       by_then = omega arith;
     }
 
--- what is queued by a moment's next event was submitted before the moment
 item-before : (events : List CoreEvent) (moment id : ℕ) (bio : Bio) (event : ℕ)
     → is_well_formed events ≡ true → slice_get events id ≡ Some (Submit bio)
     → queue_event log_writes_order events id ≡ Some event → event ≤ moment → id < moment
@@ -311,7 +288,6 @@ item-before events moment id bio event well_formed is queued by_then =
           omega arith
     ]
 
--- a value that a request puts in a sector covers it
 value-covers : (bio : Bio) (sector : ℕ) (now : List ℕ) → values_of bio sector ≡ Some now
     → covers bio sector ≡ true
 value-covers (bios.Write first bytes flush fua meta) sector now e =
@@ -320,7 +296,6 @@ value-covers bios.Flush sector now e = cc
 value-covers (bios.Discard first count) sector now e = grind (arith, over_cases, covers-within)
 value-covers (bios.Read first count) sector now e = cc
 
--- a request that covers a sector has a value for it
 covers-value : (bio : Bio) (sector : ℕ) → covers bio sector ≡ true → values_of bio sector ≡ None → ⊥
 covers-value (bios.Write first bytes flush fua meta) sector h e =
     let parts = covers-parts (bios.Write first bytes flush fua meta) sector h in
@@ -339,7 +314,6 @@ covers-value (bios.Discard first count) sector h e =
     cc
 covers-value (bios.Read first count) sector h e = cc
 
--- an event that has a value for a sector submits a request
 value-some : (there : Option CoreEvent) (sector : ℕ) (now : List ℕ)
     → values_at there sector ≡ Some now → (bio : Bio) × (there ≡ Some (Submit bio))
 value-some (Some (Submit bio)) sector now e = (bio, refl)
@@ -349,13 +323,11 @@ value-some (Some (Stop cause)) sector now e = cc
 value-some (Some Close) sector now e = cc
 value-some None sector now e = cc
 
--- the events were recorded for a log with sectors of so
--- many bytes: each request that they submit is aligned
 pub record IsSized (size : ℕ) (events : List CoreEvent) : Type 0 where
   pub right : is_sector_size size ≡ true
   pub aligned : all_aligned size events ≡ true
 
--- a durable request over a sector has an entry with a value there, among those queued by the moment
+-- One of the first `count` entries is that of the durable request and has a value for the sector.
 durable-entry : (size : ℕ) (events : List CoreEvent) (moment count sector id : ℕ)
     → IsSized size events → IsMoment events moment
     → BelongsTo (dm_log_writes size) events moment count
@@ -387,7 +359,6 @@ durable-entry size events moment count sector id sized safe belongs durable =
           ∙ none),
     )
 
--- where no entry has a value for the sector, nothing durable covers it
 none-kept : (size : ℕ) (events : List CoreEvent) (moment count sector : ℕ) → IsSized size events
     → IsMoment events moment → BelongsTo (dm_log_writes size) events moment count
     → NoneAt size (entries_of (take count (completion_list (dm_log_writes size) events))) sector
@@ -405,7 +376,7 @@ none-kept size events moment count sector sized safe belongs none =
       | inr other ↦ other
     ]
 
--- the request whose value is last is replaced by none that is durable
+-- A durable request that replaced this one would come later in the log, but this one is last.
 last-unreplaced : (size : ℕ) (events : List CoreEvent) (moment count sector id place : ℕ)
     (now : List ℕ) (entry : Entry) → IsSized size events → IsMoment events moment
     → BelongsTo (dm_log_writes size) events moment count
@@ -446,7 +417,6 @@ last-unreplaced size events moment count sector id place now entry sized safe be
       | inr other ↦ other
     ]
 
--- Each sector of what is replayed is possible.
 pub possible-at : (size : ℕ) (events : List CoreEvent) (first : Content) (moment count sector : ℕ)
     → IsSized size events → is_well_formed events ≡ true
     → moment ≤ last_moment events → BelongsTo (dm_log_writes size) events moment count
@@ -472,7 +442,7 @@ possible-at size events first moment count sector sized well_formed until belong
           let some = value-some (slice_get events id) sector (replay size es first sector) value in
           let over =
           value-covers some.0 sector (replay size es first sector)
-          (ap (λ there. values_at there sector) (sym some.1) ∙ value) in
+          (grind (arith, some.1, value)) in
           let before =
           item-before events moment id some.0 by.event well_formed some.1 by.queued
           by.by_then in

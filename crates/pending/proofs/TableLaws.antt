@@ -1,7 +1,7 @@
--- How the calls change the table, and how a row is taken out of it or put into it.
+-- How calls change a table; a row that is taken out or put in is loose in between (`IsOpen`).
 use Rattle.std.proofs.Common.{length-set, ◌≤◌, List, [], length, map, set, drop, Option, Some, None}
-use Rattle.std.proofs.Common.{refl, ap, sym, ◌∙◌, subst, inl, inr, arith, cond, length-append, ◌++◌}
-use Rattle.std.proofs.Common.{◌∷◌, ◌≡◌, ◌≢◌, ℕ, zero, suc, ◌<◌}
+use Rattle.std.proofs.Common.{refl, ap, sym, ◌∙◌, inl, inr, arith, length-append, ◌++◌, ◌∷◌, ◌≡◌}
+use Rattle.std.proofs.Common.{◌≢◌, ℕ, zero, suc, ◌<◌}
 use Rattle.std.proofs.lemmas.Bool.{cases_eq, eq-eqb, ne_eqb}
 use Rattle.std.proofs.lemmas.List.{get_or_past, get_or-set_same, get_or-set_other, set-get_or}
 use Rattle.std.proofs.lemmas.List.{ext_get_or, length-map, map-set, get_or-map, set-append_left}
@@ -18,10 +18,6 @@ use Rattle.pending.specs.inside.Tables.{IsSound, Holds, IsTable, IsWalk, after, 
 use Rattle.pending.specs.inside.Tables.{seen_chains, seen_lasts, shown_of, Leads, IsRing, IsChain}
 use Rattle.pending.specs.inside.Tables.{chain_of, chains_of, rows_from}
 
--- How the calls change the table.
--- The chains that links hold are exactly those that one finds by following the links.
-
--- If a way ends on its last row and has this row only once, following the links finds the way.
 pub way-found : (next : List ℕ) (from row : ℕ) (rows : List ℕ) (last steps : ℕ)
     → Leads next from (row ∷ rows) last
     → times last (row ∷ rows) ≤ 1 → length (row ∷ rows) ≤ steps
@@ -38,25 +34,23 @@ way-found next from row (other ∷ rows) last (suc steps) leads few long =
     absurd (omega (arith, times-append last end.0 (last ∷ []))) in
     let on = ne_eqb (after next from) last apart in
     let rest = way-found next row other rows last steps leads.1 (omega arith) (omega arith) in
-    ap (λ rs. row ∷ rs) rest
+    grind (arith, rest)
     ∙ ap (λ r. r ∷ rows_from next last steps r) (sym here)
-    ∙ sym (ap (λ b. after next from ∷ cond b [] (rows_from next last steps (after next from))) on)
+    ∙ sym (grind (arith, on))
 
--- Following the links from the last row of a ring finds the ring.
 pub ring-found : (next : List ℕ) (last : ℕ) (rows : List ℕ) (steps : ℕ) → IsRing next last rows
     → times last rows ≤ 1 → length rows ≤ steps
     → rows ≡ rows_from next last steps last
 ring-found next last [] steps ring few long = absurd (let some = ring.some in omega arith)
 ring-found next last (row ∷ rows) steps ring few long = grind (arith, way-found)
 
--- Following the links finds a chain.
 pub chain-found : (next : List ℕ) (last : Option ℕ) (rows : List ℕ) → IsChain next last rows
     → ((row : ℕ) → times row rows ≤ 1)
     → length rows ≤ length next → rows ≡ chain_of next last
 chain-found next None rows chain few long = chain
 chain-found next (Some last) rows chain few long = grind (arith, ring-found)
 
--- Following the links finds each chain.
+-- The links determine the chains that they hold.
 pub chains-found : {next : List ℕ} {lasts : List (Option ℕ)} {loose : List ℕ}
     {chains : List (List ℕ)} → Holds next lasts loose chains
     → chains ≡ chains_of next lasts
@@ -70,75 +64,66 @@ chains-found {next} {lasts} {loose} {chains} h =
     (λ row. let few = few-in h i row in omega arith) long
     ∙ sym (get_or-map (chain_of next) lasts i None [] small))
 
--- Between walks, the last row that is seen of each chain is the stored one.
+-- If no chain is walked, each chain's last row is the stored one.
 pub seen-rest : (lasts : List (Option ℕ)) (walk : Option Walk) → walked_in walk ≡ None
     → seen_lasts lasts walk ≡ lasts
 seen-rest lasts None rest = refl
 seen-rest lasts (Some walk) rest = cc
 
--- Between walks, `IsWalk` holds.
 pub walk-rest : (lasts : List (Option ℕ)) (walk : Option Walk) → walked_in walk ≡ None
     → IsWalk lasts walk
 walk-rest lasts None rest = tt
 walk-rest lasts (Some walk) rest = absurd (cc)
 
--- If two chains other than that of the free rows were written, the free rows don't change.
+-- Chain 0 has the free rows.
 pub in-neither : (chains : List (List ℕ)) (from onto : ℕ) (left all : List ℕ) → 0 < from → 0 < onto
     → chain_in (set (set chains from left) onto all) 0 ≡ chain_in chains 0
 in-neither chains from onto left all some more = grind (arith, in-other)
 
--- One more chain is seen as it is stored.
 pub seen-grown : (lasts : List (Option ℕ)) (walk : Option Walk) → IsWalk lasts walk
     → seen_lasts (lasts ++ None ∷ []) walk ≡ seen_lasts lasts walk ++ None ∷ []
 seen-grown lasts None walks = refl
 seen-grown lasts (Some walk) walks = set-append_left lasts (None ∷ []) walk.chain walk.at walks.1
 
--- If chains are added, `IsWalk` still holds.
 pub walk-grown : (lasts : List (Option ℕ)) (walk : Option Walk) → IsWalk lasts walk
     → IsWalk (lasts ++ None ∷ []) walk
 walk-grown lasts None walks = tt
 walk-grown lasts (Some walk) walks = grind (arith, length-append)
 
 module _ {T : Type 0} where
-  -- a table is the same table if its chains and last rows are replaced by equal ones
   pub table-at : {next : List ℕ} {rows : List (Option T)} (lasts other : List (Option ℕ))
       (chains same : List (List ℕ)) → lasts ≡ other → chains ≡ same
       → IsTable next lasts rows chains → IsTable next other rows same
   table-at {next} {rows} lasts other chains same e d t = grind arith
 
-  -- between walks, the table is the stored one
   pub table-rest : {links : Links} {rows : List (Option T)} {walk : Option Walk}
       → IsSound links rows walk → walked_in walk ≡ None
       → IsTable links.next.items links.lasts.items rows (seen_chains links walk)
   table-rest {links} {rows} {walk} s rest = grind (arith, table-at, seen-rest)
 
-  -- the chains of a table are those that are seen
   pub seen-of : (links : Links) (rows : List (Option T)) (walk : Option Walk)
       (chains : List (List ℕ))
       → IsTable links.next.items (seen_lasts links.lasts.items walk) rows chains
       → seen_chains links walk ≡ chains
   seen-of links rows walk chains t = sym (chains-found t.holds)
 
-  -- if a table has some chains, it is sound
   pub sound-of : (links : Links) (rows : List (Option T)) (walk : Option Walk)
       (chains : List (List ℕ))
       → IsTable links.next.items (seen_lasts links.lasts.items walk) rows chains
       → IsWalk links.lasts.items walk → IsSound links rows walk
   sound-of links rows walk chains t walks = record {
     table =
-        table-at (seen_lasts links.lasts.items walk) (seen_lasts links.lasts.items walk) chains
-        (seen_chains links walk) refl (chains-found t.holds) t;
+        grind (arith, chains-found t.holds);
     walks = walks;
   }
 
-  -- if a table was written between walks, what is seen of it is what is stored
   pub table-seen : (links : Links) (rows : List (Option T)) (walk : Option Walk)
       (chains : List (List ℕ)) → walked_in walk ≡ None
       → IsTable links.next.items links.lasts.items rows chains
       → IsTable links.next.items (seen_lasts links.lasts.items walk) rows chains
   table-seen links rows walk chains rest t = grind (arith, table-at, seen-rest)
 
-  -- the table after a change that leaves the free rows and the values as they were
+  -- If no value is written and the free rows stay the same, a change of links keeps the table.
   pub table-kept : {next : List ℕ} {lasts : List (Option ℕ)} {rows : List (Option T)}
       {chains : List (List ℕ)} → IsTable next lasts rows chains
       → (new : List ℕ) (noted : List (Option ℕ)) (other : List (List ℕ)) → Holds new noted [] other
@@ -147,14 +132,12 @@ module _ {T : Type 0} where
       → IsTable new noted rows other
   table-kept {next} {lasts} {rows} {chains} t new noted other h long as_many same = grind arith
 
-  -- if the free rows don't change, the room doesn't either
   pub keeps-room : (links new : Links) (rows : List (Option T)) (capacity most : ℕ)
       (walk later : Option Walk) → Changes links new most
       → chain_in (seen_chains new later) 0 ≡ chain_in (seen_chains links walk) 0
       → KeepsRoom (shown_of links rows capacity walk) (shown_of new rows capacity later)
   keeps-room links new rows capacity most walk later changes same = grind arith
 
-  -- the table after links were written between walks, if the free rows and the values don't change
   pub table-moved : {links : Links} {rows : List (Option T)} {walk : Option Walk}
       → IsSound links rows walk → walked_in walk ≡ None
       → (new : Links) (most : ℕ) → Changes links new most → (other : List (List ℕ))
@@ -165,9 +148,6 @@ module _ {T : Type 0} where
   table-moved {links} {rows} {walk} s rest new most changes other step same =
       grind (arith, table-rest, table-seen, table-kept)
 
--- A row is taken out of the table or put into it; in between, this row is loose.
-
--- If chains have equal values one by one, they show the same.
 pub shown-by : {T : Type 0} (rows : List (Option T)) (chains : List (List ℕ)) (seen : List (List T))
     → length chains ≡ length seen
     → ((chain : ℕ) → values_of rows (chain_in chains chain) ≡ chain_in seen chain)
@@ -176,8 +156,6 @@ shown-by rows chains seen long same =
     ext_get_or [] (map (values_of rows) chains) seen (length-map chains (values_of rows) ∙ long)
     (λ chain less. chain-map (values_of rows) chains chain refl ∙ same chain)
 
--- If a chain is replaced by another list of rows that has the same values, what is shown doesn't
--- change.
 pub shown-put : {T : Type 0} (rows : List (Option T)) (chains : List (List ℕ)) (chain : ℕ)
     (other : List ℕ)
     → values_of rows other ≡ values_of rows (chain_in chains chain)
@@ -186,13 +164,11 @@ shown-put rows chains chain other same =
     map-set (values_of rows) chains chain other ∙ rw (same ∙ sym (chain-map (values_of rows)
     chains chain refl)) (set-get_or (map (values_of rows) chains) chain [])
 
--- Taking the first value out of an empty chain changes nothing.
 pub nothing-cut : {X : Type 0} (chains : List (List X)) (chain : ℕ) → chain_in chains chain ≡ []
     → shortened chains chain ≡ chains
 nothing-cut chains chain is = grind (arith, set-get_or)
 
 module _ {T : Type 0} where
-  -- a free row has no value
   pub free-none : {next : List ℕ} {lasts : List (Option ℕ)} {rows : List (Option T)}
       {chains : List (List ℕ)} → IsTable next lasts rows chains
       → values_of rows (chain_in chains 0) ≡ []
@@ -202,7 +178,6 @@ module _ {T : Type 0} where
       let full = t.full row (omega arith) in
       omega arith)
 
-  -- a row of a chain other than that of the free rows has a value
   pub chain-full : {next : List ℕ} {lasts : List (Option ℕ)} {rows : List (Option T)}
       {chains : List (List ℕ)} → IsTable next lasts rows chains
       → (chain row : ℕ) → 0 < chain → 0 < times row (chain_in chains chain)
@@ -214,7 +189,6 @@ module _ {T : Type 0} where
       let few = few-in-two t.holds chain 0 row (λ e. absurd (omega arith)) in
       omega arith
 
-  -- such a chain shows as many values as it has rows
   pub chain-length : {next : List ℕ} {lasts : List (Option ℕ)} {rows : List (Option T)}
       {chains : List (List ℕ)} → IsTable next lasts rows chains
       → (chain : ℕ) → 0 < chain
@@ -222,7 +196,7 @@ module _ {T : Type 0} where
   chain-length {next} {lasts} {rows} {chains} t chain shown =
       values-full rows (chain_in chains chain) (λ row some. chain-full t chain row shown some)
 
-  -- the first free row is taken out: it is loose, and what is shown doesn't change
+  -- The first free row becomes loose.
   pub open-free : {next : List ℕ} {lasts : List (Option ℕ)} {rows : List (Option T)}
       {chains : List (List ℕ)} → IsTable next lasts rows chains
       → (new : List ℕ) (noted : List (Option ℕ)) (row : ℕ) (rest : List ℕ)
@@ -233,37 +207,27 @@ module _ {T : Type 0} where
   open-free {next} {lasts} {rows} {chains} t new noted row rest is h long as_many =
       grind (arith, in-put)
 
-  -- a new row is added, which is loose
   pub open-grown : {next : List ℕ} {lasts : List (Option ℕ)} {rows : List (Option T)}
       {chains : List (List ℕ)} → IsTable next lasts rows chains
       → IsOpen (next ++ 0 ∷ []) lasts (rows ++ None ∷ []) (length rows) chains
   open-grown {next} {lasts} {rows} {chains} t =
-      let P : ℕ → Type 0 = λ row. Holds (next ++ 0 ∷ []) lasts (row ∷ []) chains in
-      record {
-        holds = subst P (sym t.sized) (holds-grown t.holds);
-        sized =
-            let e = t.sized in
-            omega (arith, length-append next (0 ∷ []), length-append rows (None ∷ []));
-        free = t.free;
-        full = λ r less.
-            let grown = ap filled (default-grown rows r None) in
-            elim (cases_eq (length rows) r) [
-              | inl is ↦
-                  let one = times-same r (length rows) [] is in
-                  let few = few-in t.holds 0 r in
-                  let past = (t.holds).within r (let e = t.sized in omega arith) in
-                  let beyond = ap filled (get_or_past rows r None (omega arith)) in
-                  let none : times r (chain_in chains 0) ≡ 0 =
-                  let part = one-of (times r) chains 0 [] refl in omega arith in
-                  omega arith
-              | inr apart ↦
-                  let none = times-other r (length rows) [] apart in
-                  let full = t.full r (omega (arith, length-append rows (None ∷ []))) in
-                  omega arith
-            ];
-      }
+      grind (
+        arith,
+        holds-grown t.holds,
+        length-append next (0 ∷ []),
+        length-append rows (None ∷
+            []),
+        default-grown,
+        cases_eq,
+        length,
+        times-same,
+        few-in,
+        get_or_past,
+        one-of,
+        times-other,
+        length-append,
+      )
 
-  -- what is shown doesn't change
   pub shown-grown : {next : List ℕ} {lasts : List (Option ℕ)} {rows : List (Option T)}
       {chains : List (List ℕ)} → IsTable next lasts rows chains
       → map (values_of (rows ++ None ∷ [])) chains ≡ map (values_of rows) chains
@@ -275,7 +239,7 @@ module _ {T : Type 0} where
       let sized = t.sized in omega arith)
       ∙ sym (chain-map (values_of rows) chains chain refl))
 
-  -- the first row of a chain and its value are taken out: the row is loose
+  -- The chain's first row loses its value and becomes loose.
   pub open-taken : {next : List ℕ} {lasts : List (Option ℕ)} {rows : List (Option T)}
       {chains : List (List ℕ)} → IsTable next lasts rows chains
       → (new : List ℕ) (noted : List (Option ℕ)) (chain row : ℕ) (rest : List ℕ) → 0 < chain
@@ -298,23 +262,20 @@ module _ {T : Type 0} where
             (λ e. absurd (omega arith))) in
             elim (cases_eq row r) [
               | inl same ↦
-                  let one = times-same r row [] same in
-                  let few = few-in-two t.holds chain 0 r (λ e. absurd (omega arith)) in
-                  let here = ap (λ x. times x (chain_in chains chain)) same in
-                  let none =
-                  ap filled (ap (λ x. value_at (set rows row None) x) (sym same)
-                  ∙ get_or-set_same rows row None None small) in
-                  omega arith
+                  grind (
+                    arith,
+                    times-same r row [] same,
+                    few-in-two t.holds chain 0 r (λ e.
+                        absurd (omega arith)),
+                    set rows row None,
+                    get_or-set_same rows row None None
+                        small,
+                  )
               | inr apart ↦
-                  let none = times-other r row [] apart in
-                  let full = t.full r (omega (arith, length-set rows row None)) in
-                  let other =
-                  ap filled (get_or-set_other rows row r None None (λ e. apart (sym e))) in
-                  omega arith
+                  grind (arith, times-other, length-set, get_or-set_other)
             ];
       }
 
-  -- what is shown after that: the chain without its first value
   pub shown-taken : {next : List ℕ} {lasts : List (Option ℕ)} {rows : List (Option T)}
       {chains : List (List ℕ)} → IsTable next lasts rows chains
       → (chain row : ℕ) (rest : List ℕ) → 0 < chain → chain_in chains chain ≡ row ∷ rest
@@ -335,24 +296,15 @@ module _ {T : Type 0} where
       ∙ length-map chains (values_of rows)))
       (λ other. elim (cases_eq other chain) [
         | inl same ↦
-            rw (
-              same,
-              in-put chains chain (drop 1 (chain_in chains chain)) within ∙ ap (λ rs.
-                  drop 1 rs) is,
-            ) (values-kept rows row None rest (omega arith) ∙ sym (ap (λ vs. drop
-            1 vs) (ap (λ rs. values_of rows rs) is ∙ values-first rows row rest found.0
-            found.1)) ∙ sym (in-put seen chain (drop 1 (chain_in seen chain)) there_too ∙ ap
-            (λ vs. drop 1 vs) (chain-map (values_of rows) chains chain refl)) ∙ rw (← same))
+            grind (arith, in-put, drop, values-kept, values-first, chain-map)
         | inr apart ↦
             let two = few-in-two t.holds chain other row (λ e. apart (sym e)) in
-            ap (λ rs. values_of (set rows row None) rs)
-            (in-other chains chain other (drop 1 (chain_in chains chain)) apart)
+            ap (values_of (set rows row None)) (in-other chains chain other (drop 1 (chain_in chains chain)) apart)
             ∙ values-kept rows row None (chain_in chains other) (omega arith)
             ∙ sym (chain-map (values_of rows) chains other refl)
             ∙ sym (in-other seen chain other (drop 1 (chain_in seen chain)) apart)
       ])
 
-  -- the loose row is put to the free rows
   pub closed-free : {next : List ℕ} {lasts : List (Option ℕ)} {rows : List (Option T)} {row : ℕ}
       {chains : List (List ℕ)} → IsOpen next lasts rows row chains
       → (new : List ℕ) (noted : List (Option ℕ)) → Holds new noted [] (preceded chains 0 row)
@@ -361,7 +313,6 @@ module _ {T : Type 0} where
   closed-free {next} {lasts} {rows} {row} {chains} o new noted h long as_many =
       grind (arith, in-put)
 
-  -- what is shown doesn't change
   pub shown-closed : {next : List ℕ} {lasts : List (Option ℕ)} {rows : List (Option T)} {row : ℕ}
       {chains : List (List ℕ)} → IsOpen next lasts rows row chains
       → map (values_of rows) (preceded chains 0 row) ≡ map (values_of rows) chains
@@ -374,7 +325,7 @@ module _ {T : Type 0} where
       shown-put rows chains 0 (row ∷ chain_in chains 0)
       (rw none)
 
-  -- the loose row gets a value and is appended to a chain
+  -- The loose row gets a value and is appended to a chain.
   pub closed-filled : {next : List ℕ} {lasts : List (Option ℕ)} {rows : List (Option T)} {row : ℕ}
       {chains : List (List ℕ)} → IsOpen next lasts rows row chains
       → (new : List ℕ) (noted : List (Option ℕ)) (chain : ℕ) (value : T) → 0 < chain
@@ -394,7 +345,6 @@ module _ {T : Type 0} where
         get_or-set_other,
       )
 
-  -- what is shown after that: the chain with the value at its end
   pub shown-filled : {next : List ℕ} {lasts : List (Option ℕ)} {rows : List (Option T)} {row : ℕ}
       {chains : List (List ℕ)} → IsOpen next lasts rows row chains
       → (chain : ℕ) (value : T) → chain < length chains
@@ -417,17 +367,7 @@ module _ {T : Type 0} where
       let kept = values-kept rows row (Some value) (chain_in chains other) (omega arith) in
       elim (cases_eq other chain) [
         | inl same ↦
-            rw (same, in-put chains chain longer within) (values-append new (chain_in chains
-            chain) (row ∷ []) ∙ rw (
-              ap (λ c. values_of new (chain_in chains c)) (sym same) ∙
-                  kept ∙ ap (λ c. values_of rows (chain_in chains c)) same,
-              values-first new row []
-                  value (get_or-set_same rows row (Some value) None small),
-            ) (sym (in-put seen chain
-            (chain_in seen chain ++ value ∷ []) there_too ∙ ap (λ vs. vs ++ value ∷ [])
-            (chain-map (values_of rows) chains chain refl)) ∙ rw (← same)))
+            grind (arith, in-put, values-append, values-first, get_or-set_same, chain-map)
         | inr apart ↦
-            rw (in-other chains chain other longer apart) (kept ∙ sym (chain-map (values_of rows)
-            chains other refl) ∙ sym (in-other seen chain other (chain_in seen chain ++ value
-            ∷ []) apart))
+            grind (arith, in-other, chain-map)
       ])

@@ -9,9 +9,9 @@ use Rattle.pending.specs.declared.chains.links.Links.{Links}
 use Rattle.pending.specs.declared.chains.walk.Walk.{Walk}
 use Rattle.pending.specs.Lends.{with_value}
 use Rattle.pending.specs.ChainsView.{chain_in, lifted, preceded, shortened, turned, with_first}
-use Rattle.pending.specs.inside.Tables.{Changes, IsLoose, Holds, seen_lasts, value_at, values_of}
-use Rattle.pending.specs.inside.Tables.{after, last_in, times, walked_in, shown_of, IsSound}
-use Rattle.pending.specs.inside.Tables.{IsTable, filled, seen_chains}
+use Rattle.pending.specs.inside.Tables.{Changes, IsLoose, Holds, seen_lasts, values_of, after}
+use Rattle.pending.specs.inside.Tables.{last_in, times, walked_in, shown_of, IsSound, IsTable}
+use Rattle.pending.specs.inside.Tables.{seen_chains}
 use Rattle.pending.proofs.RingLaws.{chain-map, values-append, values-first, values-kept, times-same}
 use Rattle.pending.proofs.RingLaws.{in-put, in-other, there}
 use Rattle.pending.proofs.HoldsLaws.{few-in, few-in-two, first-of, holds-at, holds-turned}
@@ -20,45 +20,38 @@ use Rattle.pending.proofs.TableLaws.{in-neither, nothing-cut, shown-by, sound-of
 use Rattle.pending.proofs.TableLaws.{table-kept, table-rest}
 use Rattle.pending.proofs.CallLaws.{chain-noted, first-row, first-value, row-within}
 
--- Turning an empty chain changes nothing.
 pub nothing-turned : {X : Type 0} (chains : List (List X)) (chain : ℕ) → chain_in chains chain ≡ []
     → turned chains chain ≡ chains
 nothing-turned chains chain is = grind (arith, set-get_or)
 
--- Lifting from an empty chain changes nothing.
 pub nothing-lifted : {X : Type 0} (chains : List (List X)) (chain onto : ℕ)
     → chain_in chains chain ≡ [] → lifted chains chain onto ≡ chains
 nothing-lifted chains chain onto is = grind (arith, nothing-cut, set-get_or)
 
--- The last row that is seen of a chain other than the walked one is the stored one.
 pub last-other : (lasts : List (Option ℕ)) (walk : Walk) (left : Option ℕ) (onto : ℕ)
     → onto ≢ walk.chain
     → last_in (set (seen_lasts lasts (Some walk)) walk.chain left) onto ≡ last_in lasts onto
 last-other lasts walk left onto apart = grind (arith, get_or-set_other)
 
--- Which chain is being walked.
 pub walked-is : (walk : Option Walk) (w : Walk) (chain : ℕ) → walk ≡ Some w
     → walked_in walk ≡ Some chain → w.chain ≡ chain
 walked-is walk w chain is walked = let both = sym (ap walked_in is) ∙ walked in cc
 
--- The changes of two steps together.
 pub both-changes : {links mid new : Links} → Changes links mid 1 → Changes mid new 2
     → Changes links new 3
 both-changes first second = grind arith
 
 module _ {T : Type 0} where
-  -- the same table with an equal walk is sound
   pub sound-at : {links : Links} {rows : List (Option T)} (walk other : Option Walk) → walk ≡ other
       → IsSound links rows walk → IsSound links rows other
   sound-at {links} {rows} walk other e s = grind arith
 
-  -- the row at which the walk is counts as the last row of its chain
+  -- While a chain is walked, the row at which the walk is counts as the chain's last row.
   pub walk-last : {links : Links} {rows : List (Option T)} (walk : Walk)
       → IsSound links rows (Some walk)
       → last_in (seen_lasts links.lasts.items (Some walk)) walk.chain ≡ walk.at
   walk-last {links} {rows} walk s = grind (arith, get_or-set_same)
 
-  -- a chain's values are its first value and the others
   pub chain-parts : {next : List ℕ} {lasts : List (Option ℕ)} {rows : List (Option T)}
       {chains : List (List ℕ)} → IsTable next lasts rows chains
       → (chain : ℕ) → 0 < chain
@@ -76,7 +69,7 @@ module _ {T : Type 0} where
       by_chain [] is = grind arith
       by_chain (row ∷ rest) is = grind (arith, first-value, values-first)
 
-  -- the table after a chain was turned by one row
+  -- Turning a chain by one row writes no link: the next row counts as the last.
   pub turned-table : {next : List ℕ} {lasts : List (Option ℕ)} {rows : List (Option T)}
       {chains : List (List ℕ)} → IsTable next lasts rows chains
       → (chain at : ℕ) → 0 < chain → last_in lasts chain ≡ Some at
@@ -97,7 +90,6 @@ module _ {T : Type 0} where
       (in-other chains chain 0 (drop 1 (chain_in chains chain) ++ take 1 (chain_in chains chain))
       (λ e. absurd (omega arith)))
 
-  -- what is shown after that
   pub shown-turned : {next : List ℕ} {lasts : List (Option ℕ)} {rows : List (Option T)}
       {chains : List (List ℕ)} → IsTable next lasts rows chains
       → (chain : ℕ) → 0 < chain
@@ -105,7 +97,6 @@ module _ {T : Type 0} where
   shown-turned {next} {lasts} {rows} {chains} t chain shown =
       grind (arith, chain-parts, chain-map, map-set, values-append)
 
-  -- what is shown after the first value of one chain was put before another chain
   pub shown-lifted : {next : List ℕ} {lasts : List (Option ℕ)} {rows : List (Option T)}
       {chains : List (List ℕ)} → IsTable next lasts rows chains
       → (chain onto : ℕ) → 0 < chain
@@ -114,7 +105,7 @@ module _ {T : Type 0} where
   shown-lifted {next} {lasts} {rows} {chains} t chain onto shown =
       grind (arith, chain-parts, chain-map, map-set, values-append)
 
-  -- the table after the first row of the walked chain was put before the first row of another chain
+  -- `mid` are the links after the row was cut out, and `new` those after it was put in.
   pub lifted-table : (links mid new : Links) (rows : List (Option T)) (walk : Walk)
       (at row onto : ℕ) (left : Option ℕ) → IsSound links rows (Some walk)
       → walk.at ≡ Some at → row ≡ after links.next.items at → 0 < onto → onto ≢ walk.chain
@@ -135,15 +126,15 @@ module _ {T : Type 0} where
       let value = last_in new.lasts.items onto in
       let seen : set (set (seen_lasts lasts (Some walk)) walk.chain left) onto value
       ≡ set new.lasts.items walk.chain left =
-      ap (λ ls. set ls onto value) (set-set lasts walk.chain walk.at left)
+      grind (arith, set-set lasts walk.chain walk.at left)
       ∙ set_comm lasts walk.chain onto left value (λ e. apart (sym e))
-      ∙ ap (λ ls. set ls walk.chain left) (ap (λ ls. set ls onto value) (sym same) ∙ sym noted) in
+      ∙ ap (λ ls. set ls walk.chain left) (grind (arith, same, sym noted)) in
       let put_there : preceded (shortened chains walk.chain) onto row
       ≡ lifted chains walk.chain onto =
       ap (λ ys. set (shortened chains walk.chain) onto (row ∷ ys))
       (in-other chains walk.chain onto (drop 1 xs) apart)
       ∙ ap (λ zs. set (shortened chains walk.chain) onto (zs ++ chain_in chains onto))
-      (sym (ap (λ ys. take 1 ys) rest.1)) in
+      (sym (ap (take 1) rest.1)) in
       table-kept s.table new.next.items (set new.lasts.items walk.chain left)
       (lifted chains walk.chain onto)
       (holds-at (set (set (seen_lasts lasts (Some walk)) walk.chain left) onto value)
@@ -156,7 +147,6 @@ module _ {T : Type 0} where
       (in-neither chains walk.chain onto (drop 1 xs)
       (take 1 xs ++ chain_in chains onto) s.walks.0 more)
 
-  -- the table after the first value of a chain was replaced
   pub replaced-table : {next : List ℕ} {lasts : List (Option ℕ)} {rows : List (Option T)}
       {chains : List (List ℕ)} → IsTable next lasts rows chains
       → (chain row : ℕ) (rest : List ℕ) (value : T) → 0 < chain → chain_in chains chain ≡ row ∷ rest
@@ -173,19 +163,18 @@ module _ {T : Type 0} where
             let full = t.full r (omega (arith, length-set rows row (Some value))) in
             elim (cases_eq r row) [
               | inl same ↦
-                  let few = few-in-two t.holds chain 0 r (λ e. absurd (omega arith)) in
-                  let here = ap (λ x. times x (chain_in chains chain)) same in
-                  let found =
-                  ap filled (ap (λ x. value_at (set rows row (Some value)) x) same
-                  ∙ get_or-set_same rows row (Some value) None small) in
-                  omega arith
+                  grind (
+                    arith,
+                    few-in-two t.holds chain 0 r (λ e. absurd (omega arith)),
+                    set rows
+                        row (Some value),
+                    get_or-set_same rows row (Some value) None small,
+                  )
               | inr apart ↦
-                  let other = ap filled (get_or-set_other rows row r (Some value) None apart) in
-                  omega arith
+                  grind (arith, get_or-set_other)
             ];
       }
 
-  -- what is shown after that
   pub shown-replaced : {next : List ℕ} {lasts : List (Option ℕ)} {rows : List (Option T)}
       {chains : List (List ℕ)} → IsTable next lasts rows chains
       → (chain row : ℕ) (rest : List ℕ) (value : T) → 0 < chain → chain_in chains chain ≡ row ∷ rest
@@ -206,11 +195,7 @@ module _ {T : Type 0} where
       ∙ length-map chains (values_of rows)))
       (λ other. elim (cases_eq other chain) [
         | inl same ↦
-            rw (same, is) (values-first new row rest value (get_or-set_same rows row (Some value)
-            None small) ∙ rw (values-kept rows row (Some value) rest (omega arith) ∙ sym (ap
-            (λ vs. drop 1 vs) (chain-map (values_of rows) chains chain refl ∙ ap (λ rs.
-            values_of rows rs) is ∙ values-first rows row rest old.0 old.1))) (sym (in-put
-            seen chain (value ∷ drop 1 (chain_in seen chain)) there_too) ∙ rw (← same)))
+            grind (arith, values-first, get_or-set_same, values-kept, drop, chain-map, in-put)
         | inr apart ↦
             let two = few-in-two t.holds chain other row (λ e. apart (sym e)) in
             values-kept rows row (Some value) (chain_in chains other) (omega arith)
@@ -218,7 +203,6 @@ module _ {T : Type 0} where
             ∙ sym (in-other seen chain other (value ∷ drop 1 (chain_in seen chain)) apart)
       ])
 
-  -- the row at which the walk is counts as the last row of the walked chain
   pub walked-last : {links : Links} {rows : List (Option T)} (walk : Option Walk) (w : Walk)
       (chain : ℕ) → IsSound links rows walk → walk ≡ Some w
       → walked_in walk ≡ Some chain
@@ -226,7 +210,6 @@ module _ {T : Type 0} where
   walked-last {links} {rows} walk w chain s is walked =
       grind (arith, sound-at, walked-is, walk-last)
 
-  -- what the walk sees after the walked chain was turned by one row
   pub turn-made : (links : Links) (rows : List (Option T)) (walk : Option Walk) (w : Walk)
       (at first : ℕ) → IsSound links rows walk → walk ≡ Some w
       → w.at ≡ Some at → first ≡ after links.next.items at
@@ -241,10 +224,9 @@ module _ {T : Type 0} where
       (turned (seen_chains links (Some w)) w.chain) (turned (seen_chains links walk) w.chain)
       (set-set lasts w.chain w.at (Some (after links.next.items at))
       ∙ ap (λ r. set lasts w.chain (Some r)) (sym leads))
-      (ap (λ k. turned (seen_chains links k) w.chain) (sym is))
+      (grind (arith, is))
       (turned-table other.table w.chain at other.walks.0 (walk-last w other ∙ there))
 
-  -- the links after the first row of the walked chain was cut out of it
   pub lift-cut : (links mid : Links) (rows : List (Option T)) (walk : Option Walk) (w : Walk)
       (at row : ℕ) (left : Option ℕ) → IsSound links rows walk
       → walk ≡ Some w → w.at ≡ Some at → row ≡ after links.next.items at
@@ -262,7 +244,6 @@ module _ {T : Type 0} where
       subst P (sym leads) (cut (seen_lasts links.lasts.items (Some w)) []
       (seen_chains links (Some w)) w.chain (other.table).holds (walk-last w other ∙ there))
 
-  -- the row may be put to another chain
   pub lift-loose : (links mid : Links) (rows : List (Option T)) (w : Walk) (row onto : ℕ)
       (left : Option ℕ)
       → Holds mid.next.items (set (seen_lasts links.lasts.items (Some w)) w.chain left) (row ∷ [])
@@ -273,8 +254,6 @@ module _ {T : Type 0} where
   lift-loose links mid rows w row onto left h changes same apart less =
       grind (arith, last-other, length-set)
 
-  -- what the walk sees after the first row of the walked chain was put before the first row of
-  -- another chain
   pub lift-made : (links mid new : Links) (rows : List (Option T)) (walk : Option Walk) (w : Walk)
       (at row onto : ℕ) (left : Option ℕ) → IsSound links rows walk
       → walk ≡ Some w → w.at ≡ Some at → row ≡ after links.next.items at → 0 < onto → onto ≢ w.chain
@@ -307,7 +286,7 @@ module _ {T : Type 0} where
       (lift-loose links mid rows w row onto left h cut same apart less).within
       (lift-loose links mid rows w row onto left h cut same apart less).same))
 
-  -- what is seen after the walk ended: the last row of its chain is stored
+  -- When a walk ends, its row is stored as the last row of its chain.
   pub rest-made : (links new : Links) (rows : List (Option T)) (walk : Option Walk) (w : Walk)
       → IsSound links rows walk → walk ≡ Some w
       → new.next.items ≡ links.next.items → new.lasts.items ≡ set links.lasts.items w.chain w.at
@@ -320,7 +299,6 @@ module _ {T : Type 0} where
       sound-of new rows None (seen_chains links (Some w))
       (subst P (sym same) (subst Q (sym noted) other.table)) tt
 
-  -- what the walk sees when it begins
   pub walk-made : (links : Links) (rows : List (Option T)) (walk : Option Walk) (chain : ℕ)
       (at : Option ℕ) → IsSound links rows walk → walked_in walk ≡ None
       → 0 < chain → chain < length links.lasts.items → at ≡ last_in links.lasts.items chain
@@ -328,7 +306,6 @@ module _ {T : Type 0} where
   walk-made links rows walk chain at s rest shown less is =
       grind (arith, last-again, sound-of, table-at, table-rest)
 
-  -- a chain that is seen is stored
   pub lift-within : {links : Links} {rows : List (Option T)} {walk : Option Walk}
       → IsSound links rows walk → (chain : ℕ)
       → chain < length (map (values_of rows) (seen_chains links walk))
@@ -342,7 +319,6 @@ module _ {T : Type 0} where
       by_walk None there = there
       by_walk (Some w) there = omega (arith, length-set links.lasts.items w.chain w.at)
 
-  -- what is seen after the first value of a chain was replaced
   pub seen-replaced : (links : Links) (rows : List (Option T)) (capacity : ℕ) (walk : Option Walk)
       → IsSound links rows walk
       → (chain row : ℕ) (rest : List ℕ) (value : T) → 0 < chain
@@ -362,4 +338,4 @@ module _ {T : Type 0} where
       } in
       ap (λ cs. with cs (length (set rows row (Some value))))
       (shown-replaced s.table chain row rest value shown is)
-      ∙ ap (λ n. with (with_first old.chains chain value) n) (length-set rows row (Some value))
+      ∙ ap (with (with_first old.chains chain value)) (length-set rows row (Some value))

@@ -1,4 +1,4 @@
--- The queue rule, with the relations of `Chains`: chains and needs.
+-- The queue rule in the words of the relations `Chain`, `IsNeed` and `IsFirstNeed`.
 use Rattle.std.proofs.Common.{◌≡◌, ℕ, zero, suc, ◌<◌, true, false, ◌&&◌, ◌||◌, Some, None, List}
 use Rattle.std.proofs.Common.{length, ap, sym, ◌∙◌, inl, inr}
 use Rattle.std.proofs.lemmas.Bool.{and_parts, lt-ltb, ltb-true}
@@ -21,7 +21,6 @@ use Rattle.pending.proofs.LinkChains.{linked-cases, linked-here, linked-step, ne
 use Rattle.pending.proofs.LinkChains.{needed-linked, needing-recorded, or_cases, recorded-cases}
 use Rattle.pending.proofs.Prefix.{unless_stopped-none}
 
--- what a chain leads from is linked
 pub chain-linked : (events : List CoreEvent) (last : Bio) (place end : ℕ) (bio : Bio)
     → Chain events last place end bio → is_linked events last place place end bio ≡ true
 chain-linked events last place end bio (Direct _ _ overlap) =
@@ -38,7 +37,6 @@ chain-linked events last place end bio (Through _ _ later id next ended rises wi
       rest = chain-linked events last place later next rest;
     })
 
--- and from what is linked a chain leads
 linked-chain : (events : List CoreEvent) (last : Bio) (place n end : ℕ) (bio : Bio)
     → is_linked events last place n end bio ≡ true → Chain events last place end bio
 linked-chain events last place zero end bio h = Direct end bio h
@@ -50,7 +48,6 @@ linked-chain events last place (suc n) end bio h =
           (linked-chain events last place n step.later step.next step.rest)
     ]
 
--- an event that needs a request, by the rule
 pub need-recorded : (events : List CoreEvent) (end : ℕ) (bio : Bio) (place : ℕ)
     → IsNeed events end bio place
     → log_writes_order events end (Some (Submit bio)) place (slice_get events place) ≡ true
@@ -79,7 +76,6 @@ need-recorded events end bio place (AtFua id ok last is earlier submitted has ch
           (chain-linked events last place end bio chain);
     })
 
--- and the other way round
 pub recorded-need : (events : List CoreEvent) (end : ℕ) (bio : Bio) (place : ℕ)
     → log_writes_order events end (Some (Submit bio)) place (slice_get events place) ≡ true
     → IsNeed events end bio place
@@ -102,7 +98,6 @@ recorded-need events end bio place h =
           ]
     ]
 
--- the test of an event that doesn't need the request
 no-need : (events : List CoreEvent) (id end k : ℕ) (bio : Bio)
     → slice_get events id ≡ Some (Submit bio) → (end < k → IsNeed events end bio k → ⊥)
     → (nat_lt end k && log_writes_order events end (slice_get events id) k (slice_get events k))
@@ -121,7 +116,6 @@ no-need events id end k bio is none =
       | inr other ↦ other
     ]
 
--- a plain request is queued by the first event that needs it
 pub first-need-queues : (events : List CoreEvent) (id end event : ℕ) (bio : Bio)
     → slice_get events id ≡ Some (Submit bio) → has_flush bio ≡ false
     → has_fua bio ≡ false → end_of events id ≡ Some end → IsFirstNeed events end bio event
@@ -143,7 +137,6 @@ first-need-queues events id end event bio is no_flush no_fua ends first =
           λ k less. no-need events id end k bio is (λ after need. first.first k after less need);
     }))
 
--- and not at all where none does
 pub no-need-unqueued : (events : List CoreEvent) (id end : ℕ) (bio : Bio)
     → slice_get events id ≡ Some (Submit bio) → has_flush bio ≡ false
     → has_fua bio ≡ false → end_of events id ≡ Some end
@@ -157,7 +150,6 @@ no-need-unqueued events id end bio is no_flush no_fua ends none =
     (λ k within. no-need events id end k bio is (λ after need. none k after within need)))
     ∙ unless_stopped-none (first_place is_stop events)
 
--- a flush that stands in the list finds what ended before its submission
 pub flush-finds : (size : ℕ) (events : List CoreEvent) (earlier flush j : ℕ)
     → is_well_formed events ≡ true
     → is_flush_submit (slice_get events flush) ≡ true → is_before events earlier flush ≡ true
@@ -179,7 +171,6 @@ flush-finds size events earlier flush j well_formed has before listed =
       why = inr second.2;
     }) listed
 
--- and a request that stands there finds what it overlaps
 pub overlap-finds : (size : ℕ) (events : List CoreEvent) (earlier later j : ℕ) (first second : Bio)
     → is_well_formed events ≡ true
     → slice_get events earlier ≡ Some (Submit first) → slice_get events later ≡ Some (Submit second)

@@ -1,5 +1,4 @@
--- The loops that cut a text at a byte and that read a number give what `Words` defines. The proofs
--- of `cut` and `number_of` cite these lemmas.
+-- Proves that the loops that cut a text and read a number give what `Words` defines.
 use Rattle.std.proofs.Common.{⊎_elim, lit<, refl, ap, ◌∙◌, sym, arith, cond, List, Result, Ok, Err}
 use Rattle.std.proofs.Common.{MatchResult, Bor, [], ◌∷◌, length, take, drop, take_all, Option, Some}
 use Rattle.std.proofs.Common.{None, ◌≡◌, ℕ, ◌+◌, ◌-◌, ◌*◌, ◌^◌, ◌<◌, ◌≤◌, suc, Bool, true, false}
@@ -15,14 +14,12 @@ use Rattle.std.specs.Result.{ResultUnwrapsOrElse}
 use Rattle.std.specs.Str.{IsUtf8}
 use Rattle.refusals.specs.Words.{before_byte, after_byte, number_after, number_of, with_digit}
 
--- one more byte before the mark
 front_step : (t : Bool) (n b : ℕ) (bytes f : List ℕ) → take n bytes ≡ f
     → take (cond (not t) (1 + n) 0) (b ∷ bytes) ≡ cond t [] (b ∷ f)
 front_step true n b bytes f same = refl
 front_step false n b bytes f same =
     let e : 1 + n ≡ suc n = omega arith in rw e (ap (λ x. b ∷ x) same)
 
--- one more byte
 behind_step : (t : Bool) (n b : ℕ) (bytes : List ℕ) (rest : Option (List ℕ))
     → rest ≡ cond (nat_lt n (length bytes)) (Some (drop (n + 1) bytes)) None
     → cond t (Some bytes) rest ≡ cond (nat_lt (cond (not t) (1 + n) 0) (length (b ∷ bytes)))
@@ -34,32 +31,29 @@ behind_step false n b bytes rest same =
     grind (arith, nat_tests) in
     rw (test, one) same
 
--- what stands before the first such byte, by its place
 pub before_byte_position : (mark : ℕ) (bytes : List ℕ)
     → take (position_or_len (λ b. b == mark) bytes) bytes ≡ before_byte mark bytes
 before_byte_position mark [] = refl
 before_byte_position mark (b ∷ bytes) = front_step (b == mark) _ b bytes _ (before_byte_position mark bytes)
 
--- what stands after the first such byte, by its place
 pub after_byte_position : (mark : ℕ) (bytes : List ℕ)
     → after_byte mark bytes ≡ cond (nat_lt (position_or_len (λ b. b == mark) bytes) (length bytes))
     (Some (drop (position_or_len (λ b. b == mark) bytes + 1) bytes)) None
 after_byte_position mark [] = refl
 after_byte_position mark (b ∷ bytes) = behind_step (b == mark) _ b bytes _ (after_byte_position mark bytes)
 
--- the number that digits write after those of n, where they are digits and it is below 2 ^ 64
+-- As the loop reads a number, it tests each digit; `number_of` tests only the whole number.
 abbrev pub number_after_checked : ℕ → List ℕ → Option ℕ
 number_after_checked n [] = Some n
 number_after_checked n (digit ∷ digits) =
     option_and_then (λ m. number_after_checked m digits) (with_digit n digit)
 
--- digits after a number make it no smaller
+-- This lets the test after each digit agree with the test of the whole number.
 pub number_after_grows : (n : ℕ) (digits : List ℕ) → n ≤ number_after n digits
 number_after_grows n [] = omega arith
 number_after_grows n (digit ∷ digits) =
     omega (arith, number_after_grows (10 * n + (digit - 48)) digits)
 
--- one more digit
 closed_step : (t all : Bool) (m end : ℕ) (f : ℕ → Option ℕ) → m ≤ end
     → (m < 2 ^ 64 → f m ≡ cond (all && nat_lt end (2 ^ 64)) (Some end) None) →
     option_and_then f (cond (t && nat_lt m (2 ^ 64)) (Some m) None)
@@ -74,7 +68,6 @@ closed_step true all m end f up same =
     rw (test, past) (sym (cond-false _ _ _ (and_right all false refl))))
     (cases_lt m (2 ^ 64))
 
--- all digits at once
 pub number_behind_closed : (n : ℕ) (digits : List ℕ) → n < 2 ^ 64
     → number_after_checked n digits
     ≡ cond (list_all is_ascii_digit digits && nat_lt (number_after n digits) (2 ^ 64))
@@ -85,18 +78,15 @@ number_behind_closed n (digit ∷ digits) low =
     (number_after_grows (10 * n + (digit - 48)) digits)
     (number_behind_closed (10 * n + (digit - 48)) digits)
 
--- a value was chosen
 chosen_some : (t : Bool) (n place : ℕ) → Some place ≡ cond t (Some n) None
     → (t ≡ true) × (place ≡ n)
 chosen_some true n place e = (refl, cc)
 chosen_some false n place e = absurd (cc)
 
--- nothing was chosen
 chosen_none : (t : Bool) (n : ℕ) → None ≡ cond t (Some n) None → t ≡ false
 chosen_none true n e = absurd (cc)
 chosen_none false n e = refl
 
--- what a cut at the first such byte gives
 pub cut_some : (mark : ℕ) (bytes : List ℕ) (place : ℕ)
     → Some place ≡ position (λ b. b == mark) bytes
     → (place < length bytes) × (take place bytes ≡ before_byte mark bytes)
@@ -110,7 +100,6 @@ cut_some mark bytes place e =
       after_byte_position mark bytes ∙ cond-true _ _ _ h.0,
     )
 
--- what no cut leaves
 pub cut_none : (mark : ℕ) (bytes : List ℕ) → None ≡ position (λ b. b == mark) bytes
     → (bytes ≡ before_byte mark bytes) × (after_byte mark bytes ≡ None)
 cut_none mark bytes e =
@@ -120,7 +109,6 @@ cut_none mark bytes e =
       after_byte_position mark bytes ∙ cond-false _ _ _ h,
     )
 
--- the start of a word of 1 to 20 bytes
 pub number_start : (word : List ℕ) → 0 < length word → length word ≤ 20
     → number_after_checked 0 word ≡ number_of word
 number_start word low high =
@@ -128,9 +116,6 @@ number_start word low high =
     let h : nat_le (length word) 20 ≡ true = le-leb _ _ high in
     number_behind_closed 0 word (lit< tt) ∙ (rw (l, h) refl)
 
--- If UTF-8 text is read and unwrapped, the result is that text.
-
--- what is unwrapped of a reading of UTF-8 text is that text
 pub unwrapped : (E : Type 0) (P : Bor (List ℕ) → Type 0) (bytes : List ℕ) (Q : E → Type 0)
     (r : Result (Bor (List ℕ)) E) (text : Bor (List ℕ)) → IsUtf8 bytes
     → MatchResult r (λ s. (s.now ≡ bytes) × IsUtf8 bytes) (λ e. (IsUtf8 bytes → ⊥) × Q e)

@@ -1,7 +1,7 @@
 -- For each clause about a replay, its reads or a copy: an example that the clause refuses.
-use Rattle.std.proofs.Common.{false, Option, Some, None, Result, slice_index_or, refl, ap, ◌≡◌, ℕ}
-use Rattle.std.proofs.Common.{◌+◌, zero, suc, ◌<◌, ◌≤◌, true, sym, ◌∙◌, inl, inr, arith, Ok, Err}
-use Rattle.std.proofs.Common.{List, [], ◌∷◌, ◌++◌, length, replicate}
+use Rattle.std.proofs.Common.{false, Some, None, Result, slice_index_or, refl, ap, ◌≡◌, ℕ, ◌+◌}
+use Rattle.std.proofs.Common.{zero, suc, ◌<◌, ◌≤◌, true, sym, ◌∙◌, inl, inr, arith, Ok, Err, List}
+use Rattle.std.proofs.Common.{[], ◌∷◌, ◌++◌, length, replicate}
 use Rattle.std.specs.Prelude.{slice_get}
 use Rattle.refusals.specs.declared.run_error.End.TheVariants as ends
 use Rattle.bio.specs.Content.{Content}
@@ -12,25 +12,23 @@ use Rattle.bio.specs.declared.outcome.DevError.TheVariants as devices
 use Rattle.bio.specs.declared.request.Bio.TheVariants as bios
 use Rattle.blockdev.specs.View.{Call, Discards, DoesInTurn, Reads, View, Writes}
 use Rattle.log_format.specs.declared.entry.Entry.{Entry}
-use Rattle.log_format.specs.Entries.{end_mark, entry_of, kind_of, no_flags}
-use Rattle.log_format.specs.Replay.{kind_values, replay}
+use Rattle.log_format.specs.Entries.{end_mark, entry_of, no_flags}
+use Rattle.log_format.specs.Replay.{replay}
 use Rattle.log_store.specs.Calls.{append_calls, settle_calls}
 use Rattle.log_store.specs.Store.{Store, entries_of}
 use Rattle.log_reader.specs.declared.fault.LogFault.TheVariants.{CutShort}
 use Rattle.log_reader.specs.declared.fault.ReadDeviceError.TheVariants as reads
 use Rattle.log_reader.specs.Reader.{Reader}
 use Rattle.log_reader.specs.Search.{IsFlush}
-use Rattle.replay.specs.Calls.{CallsBy, IsCalled, IsCalledTo, ReadsToStop, entry_calls}
-use Rattle.replay.specs.Copies.{AreSettled, EndsSince, IsCopied, IsUnaligned}
-use Rattle.replay.specs.Copies.{RefusesNoMore as CopyRefusesNoMore, Replays, SettledBy, SettlesOnly}
-use Rattle.replay.specs.Copies.{StopsBy, StopsCalls, copy_calls, is_aligned_to, resized}
+use Rattle.replay.specs.Calls.{IsCalled, IsCalledTo, ReadsToStop, entry_calls}
+use Rattle.replay.specs.Copies.{EndsSince, IsCopied, IsUnaligned}
+use Rattle.replay.specs.Copies.{RefusesNoMore as CopyRefusesNoMore, Replays, SettlesOnly, StopsBy}
+use Rattle.replay.specs.Copies.{StopsCalls, copy_calls, is_aligned_to, resized}
 use Rattle.replay.specs.declared.fault.CopyError.TheVariants as copies
 use Rattle.replay.specs.declared.fault.ReplayError.TheVariants as replays
 use Rattle.replay.specs.declared.replaying.Upto.{Upto}
 use Rattle.replay.specs.declared.replaying.Upto.TheVariants.{Count, Flush, Mark}
-use Rattle.replay.specs.Replays.{AsksTooMany, HasReplayCause, IsApplied, IsAppliedInPart, IsUpto}
-use Rattle.replay.specs.Replays.{KeepsTarget, LacksFlush, LacksMark, LeavesBy, ReachesPast}
-use Rattle.replay.specs.Replays.{RefusesNoMore}
+use Rattle.replay.specs.Replays.{AsksTooMany, IsApplied, IsUpto, LacksFlush, LacksMark, ReachesPast}
 
 -- For each clause about the content after a replay, its calls, or the cause of a refusal: an
 -- example that the clause refuses.
@@ -38,10 +36,6 @@ use Rattle.replay.specs.Replays.{RefusesNoMore}
 -- content of one value in each sector
 all : ℕ → Content
 all value sector = replicate 512 value
-
--- sectors of one value tell it
-one_value : (a b : ℕ) → replicate 512 a ≡ replicate 512 b → a ≡ b
-one_value a b same = grind (arith, slice_index_or)
 
 -- a write of 1s to sector 5, and a flush
 write : Entry
@@ -59,21 +53,6 @@ abbrev asks_mark : Upto → List ℕ → Type 0
 asks_mark (Mark text) bytes = text.now ≡ bytes
 asks_mark other bytes = ⊥
 
--- a device of 8 sectors of zeroes
-still : View
-still =
-    record {
-      size = 8;
-      place = record { origin = 0; disk = 8 };
-      content = all 0;
-      crash = λ left. Unit {0};
-      moment = 0;
-      since = λ moment left. Unit {0};
-      faults = 1;
-      lies = 1;
-      can_lie = true;
-    }
-
 -- the write is applied where it is replayed, and not where its sector stays
 applied : IsApplied 512 (write ∷ []) 0 1 (all 0) (replay 512 (write ∷ []) (all 0))
 unfolding write
@@ -82,27 +61,6 @@ applied = record { some = λ more. omega arith; content = refl }
 -- no more entries are applied than there are
 applied_past : IsApplied 512 [] 0 1 (all 0) (all 0) → ⊥
 applied_past told = let there = told.some (omega arith) in omega arith
-
--- an entry that isn't told of isn't applied, but by a target that refused in it
-applied_more : LeavesBy 512 (write ∷ []) 0 (all 0)
-    (replay 512 (write ∷ []) (all 0)) 0 replays.PastTarget → ⊥
-unfolding write all contents.over
-applied_more told = let same = one_value 1 0 (ap (λ (c : Content). c 5) told.content) in omega arith
-
--- and then just the next one is, in part
-part_none : IsAppliedInPart 512 [] 0 0 (all 0) (all 0) → ⊥
-part_none told = let there = told.there in cc
-
-part_other : (told : IsAppliedInPart 512 (write ∷ []) 0 0 (all 0) (all 2)) → told.next ≡ write → ⊥
-unfolding write all contents.over
-part_other told is = elim (told.content 6) [
-  | inl old ↦ let same = one_value 2 0 old in omega arith
-  | inr new ↦ let same = one_value 2 0
-      (new ∙ rw is) in omega arith
-]
-  where
-    values : Entry → ℕ → Option (List ℕ)
-    values e sector = kind_values 512 (kind_of e.flags) e sector
 
 -- so many entries are so many
 upto_count : (es : List Entry) → IsUpto (Count 2) es 0 1 → ⊥
@@ -157,23 +115,6 @@ reaches_end : ReachesPast 512 (write ∷ []) 0 6 → ⊥
 unfolding write
 reaches_end told = grind arith
 
--- a target of another size, and counts that fall
-keeps_size : KeepsTarget still (record still { size = 9 }) → ⊥
-unfolding still
-keeps_size kept = let same = kept.size in omega arith
-
-cause_search : (old new : Reader)
-    → HasReplayCause [] None Flush old new still still 0 replays.PastEntries → ⊥
-cause_search old new cause = cause.1
-
--- a reader that refuses, and did before; and one that didn't
-refuses_before : (old : Reader) → old.failed ≡ true → RefusesNoMore old old
-refuses_before old refused = λ same. same
-
-refuses_first : (old new : Reader) → old.failed ≡ false → new.failed ≡ true
-    → RefusesNoMore old new → ⊥
-refuses_first old new fresh refused no_more = grind arith
-
 -- a write of one byte to sector 5, and a discard of two sectors from sector 6 on
 small : Entry
 small = record { sector = 5; nr_sectors = 1; flags = no_flags; body = 7 ∷ [] }
@@ -190,10 +131,6 @@ calls_write = refl
 calls_none : entry_calls 512 flush ≡ []
 unfolding flush
 calls_none = refl
-
-calls_larger : entry_calls 1024 cut ≡ Discards 12 4 ∷ []
-unfolding cut
-calls_larger = refl
 
 -- a target whose calls begin at the moment 0, and that notes
 -- each: the first one ends well, and each later one fails
@@ -227,13 +164,6 @@ called_to = record {
   refused = inl (refl, refl, refl);
 }
 
-called_past : IsCalledTo notes 512 [] 0 0 Io [] [] → ⊥
-called_past told = let there = told.there in cc
-
--- nor is anything called for an entry that isn't told of, but by a target that refused in it
-called_more : CallsBy notes 512 (small ∷ []) 0 [] (put_small ∷ []) 0 replays.PastTarget → ⊥
-called_more same = cc
-
 -- Examples for the clauses about the reads of a replay: one that satisfies them, and others that
 -- they refuse.
 
@@ -254,16 +184,6 @@ stopped = (
     turn = (1, (0, refl), refl);
   },
 )
-
--- the log's device didn't fail
-refused_device : ReadsToStop counts (Unit {0}) 0 1 (replays.Log reads.Device) → ⊥
-unfolding counts
-refused_device (most, done) = by_calls 0 done.calls done.turn
-  where
-    by_calls : (old : ℕ) (calls : List Call) → DoesInTurn counts 0 calls old (Err devices.Io) 1 → ⊥
-    by_calls old [] turn = turn
-    by_calls old (call ∷ calls) (inl refused) = refused
-    by_calls old (call ∷ calls) (inr (mid, ends, turn)) = by_calls mid calls turn
 
 -- there was memory for an entry that has a fault, and for one that has none there may be none
 refused_memory : ReadsToStop counts ⊥ 0 1 (replays.Log reads.Memory) → ⊥
@@ -366,15 +286,6 @@ swapped new honest empty copied have =
     bodies [] = []
     bodies (e ∷ es) = e.body
 
--- a mark that isn't settled, though it isn't the last
--- copied entry, or though the copy stopped by another cause
-unsettled : AreSettled (end_mark ∷ []) 0 1 none one → ⊥
-unfolding none one still_device
-unsettled settled = let after = settled 0 end_mark (omega arith) refl refl in omega arith
-
-unsettled_unaligned : SettledBy (end_mark ∷ []) 0 1 none one copies.Unaligned → ⊥
-unsettled_unaligned settled = unsettled settled
-
 -- a settle behind the entries that are told of
 settled_beyond : SettlesOnly (end_mark ∷ end_mark ∷ []) 0 1 none (record one { settled = 2 }) → ⊥
 unfolding none one still_device
@@ -437,9 +348,6 @@ replays_nothing new honest empty told =
 settled_mark : copy_calls 512 1 0 (end_mark ∷ [])
     ≡ append_calls 512 1 end_mark ++ settle_calls 512 1
 settled_mark = refl
-
-unsettled_mark : length (copy_calls 512 1 0 (end_mark ∷ [])) ≡ 1 → ⊥
-unsettled_mark same = omega (arith, same)
 
 -- a flush is written alone
 plain_flush : copy_calls 512 1 0 (entry_of 512 bios.Flush ∷ [])

@@ -1,4 +1,4 @@
--- The lemmas of `replay`. The proof of a function is in the folder of its source file.
+-- The lemmas of `replay`. The proof of each function is in the folder of its source file.
 pub mod Loops
 mod Counterexamples
 pub mod CopyLoops

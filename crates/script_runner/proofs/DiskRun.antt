@@ -1,4 +1,4 @@
--- How a run on disks in memory starts, and what its log's disk holds at the end.
+-- Proves how a run on disks in memory starts, and what its log's disk holds at the end.
 use Rattle.std.proofs.Common.{◌*◌, Err, ◌∷◌, false, length, take, refl, sym, ap, subst, arith, ◌≡◌}
 use Rattle.std.proofs.Common.{◌⊎◌, ◌∙◌, Result, ◌+◌, ◌/◌, ◌<◌, ◌≤◌, ℕ, true, Option, inl, inr, None}
 use Rattle.std.proofs.Common.{Some, List, []}
@@ -57,20 +57,17 @@ use Rattle.script_runner.specs.inside.{StartsOn}
 use Rattle.script_runner.specs.Lines.{Answering}
 use Rattle.script_runner.specs.Runs.{IsWritten, RunsLines}
 
--- layers that may stand are those that lines may ask for
 pub asked : (sectors : ℕ) (layers : List LayerSpec) → IsAllowed sectors layers
     → AllByRecursion IsLayerSpec layers
 asked sectors [] stand = tt
 asked sectors (layer ∷ layers) stand = (stand.0, asked layer.length layers stand.2)
 
--- a disk's layers may stand over it
 pub stands : (disk : Disk) (layers : List LayerSpec) {sectors : ℕ} → layers ≡ disk.layers
     → sectors ≡ disk.sectors → IsDisk disk → IsAllowed sectors layers
 stands disk layers {sectors} above here is =
     subst (λ (ls : List LayerSpec). IsAllowed sectors ls) (sym above)
     (subst (λ (n : ℕ). IsAllowed n disk.layers) (sym here) is.stand)
 
--- what is said of a disk, is said of one of the same sectors and layers
 same_stack : (sectors : ℕ) (layers : List LayerSpec) (stack : Stack) {disk : Disk}
     → sectors ≡ disk.sectors → layers ≡ disk.layers
     → IsStackOf (record { sectors = sectors; layers = layers }) stack → IsStackOf disk stack
@@ -79,7 +76,6 @@ same_stack sectors layers stack {disk} here above is =
     (subst (λ (ls : List LayerSpec). IsStackOf
     (record { sectors = sectors; layers = ls }) stack) above is)
 
--- a new disk under the layers that were put over it
 pub stacked : (spec : Disk) (disk : SectorDisk) (bare stack : Stack) {sectors : ℕ}
     {layers : List LayerSpec} → sectors ≡ spec.sectors → layers ≡ spec.layers
     → Begins sectors zeroes (shown_of disk)
@@ -108,7 +104,6 @@ stacked spec disk bare stack {sectors} {layers} here above blank none beneath se
           });
     })
 
--- the top's sectors and its place on the disk
 pub stack_size : (disk : Disk) (stack : Stack) → IsStackOf disk stack
     → (stack_shown stack).size ≡ top_of disk
 stack_size disk stack is = is.over.size ∙ ap (λ (n : ℕ). top_sectors n disk.layers) is.blank.size
@@ -121,7 +116,6 @@ stack_place disk stack is =
       disk = n;
     }) is.blank.size
 
--- a recorder over a log that was made on a device is new
 pub new_log : {L : Type 0} {l : Ghosts L} (bytes : ℕ) (device : L) (store : LogStore L l)
     (recorder : Recorder L l)
     → (store_of store).sector_bytes ≡ bytes → store.placed ≡ 0 → store.moment ≡ 0
@@ -144,20 +138,18 @@ new_log {L} {l} bytes device store recorder size none start goes empty (core, sa
       (sym same) empty;
 }
 
--- a device on which one of the log's sectors fits has one
 one_fits : (size : SectorSize) (sectors : ℕ) → bytes_of size / 512 ≤ sectors
     → 0 < log_sectors (bytes_of size) sectors
 one_fits sizes.B512 sectors room = omega (arith, room)
 one_fits sizes.B4096 sectors room = omega (arith, room)
 
--- what is on a disk a crash may leave
 may_leave : (ending : Option (List ℕ)) (disk : SectorDisk)
     → (shown_of disk).crash (left_on ending disk)
 may_leave None disk = (disk_lawful disk).current
 may_leave (Some picks) disk =
     picks_leave_one (cache_of disk) picks (is_current (start_of disk) (steps_of disk))
 
--- a log that is seen of a disk's content is seen of its image too
+-- If the content that is left on the disk has a log, the image of the disk has it too.
 image_log : (plan : ScriptValue) (device : Stack) (seen : Content) (image : List ℕ)
     → bytes_of plan.log_size / 512 ≤ top_of plan.log_disk
     → (stack_shown device).size ≡ top_of plan.log_disk
@@ -183,18 +175,15 @@ image_log plan device seen image room size place agree looks {es} log_c =
     (λ sector h. agree (top_origin 0 plan.log_disk.layers + sector) (omega arith)
     ∙ ap (λ (n : ℕ). left (n + sector)) (sym origin) ∙ sym (looks sector)) log_c
 
--- the image of a disk: the bytes of all its sectors
 abbrev pub image_of : SectorDisk → List ℕ
 image_of disk = gather (shown_of disk).content 0 (shown_of disk).size
 
--- it has the bytes of so many sectors as another disk of its size
 pub image_long : (disk : SectorDisk) {sectors : ℕ} → (shown_of disk).size ≡ sectors
     → length (image_of disk) ≡ 512 * sectors
 image_long disk {sectors} size =
     length-gather (shown_of disk).size (shown_of disk).content 0 (shown_of disk).size
     (content_whole disk) (omega arith) ∙ ap (λ (n : ℕ). 512 * n) size
 
--- what the disk agrees with its image agrees with
 pub image_agrees : (left : Content) (disk : SectorDisk) {sectors : ℕ}
     → (shown_of disk).size ≡ sectors → AgreeBelow sectors left (shown_of disk).content
     → AgreeBelow sectors left (sector_of (image_of disk))
@@ -202,19 +191,16 @@ image_agrees left disk {sectors} size agrees = λ sector below.
     sector_of-gather (shown_of disk).size (shown_of disk).content (content_whole disk) sector
     (omega (arith, size, below)) ∙ agrees sector below
 
--- lies that are equal, each for its disk
 pub same_lies : (lies : Lies) (over_data over_log : ℕ) → lies.data_disk ≡ over_data
     → lies.log_disk ≡ over_log
     → lies ≡ record { data_disk = over_data; log_disk = over_log }
 same_lies lies over_data over_log here there = rw (sym here, sym there) refl
 
--- nothing has to be placed where nothing is recorded
 new_written : (bytes : ℕ) (disk : Disk) (recorder : DiskRecorder) → IsNew bytes disk recorder
     → IsWritten recorder
 new_written bytes disk recorder new = λ closed on. absurd
     (let recording = ap (λ (c : CoreState). has_no_close c.events) new.begun.core in cc)
 
--- what a script's recording leaves
 pub is_recorded : (plan : ScriptValue) (text : List ℕ) (start last : DiskRun) (log : Stack)
     (status : Status) (lies : Lies) (image : List ℕ) (picks : Option (List ℕ))
     → bytes_of plan.log_size / 512 ≤ top_of plan.log_disk
@@ -320,9 +306,6 @@ is_recorded plan text start last log status lies image picks room starts ran goe
           (honest none)).crash seen.0 seen.1)));
     }
 
--- Making a log on a disk without layers fails only for lack of memory.
-
--- a disk under no layers refuses a write as out of memory alone
 bare_refuses : (after : List Layer) (old new : SectorDisk) (bytes : List ℕ) (error : DevError)
     → LayersDo [] old (Writes 0 bytes true) 0 (Err error) after new → error ≡ Memory
 bare_refuses after old new bytes Io done = absurd done.2
@@ -348,14 +331,10 @@ bare_log_fails does bytes disk fault bare un =
     (disk_of refused.last)) none done) in
     refused.ends_by ∙ ap (λ (e : DevError). LoggingEnded (end_cause e)) memory
 
--- The calls of a run's data device and log's device begin at the same time.
-
--- before the first line both are 0
 pub started_together : (plan : ScriptValue) (start : DiskRun) → Starts plan start
     → start.recorder.store.moment ≡ start.moment
 started_together plan start starts = starts.log_disk.begun.moment ∙ sym starts.moment
 
--- each line sets both or keeps both
 pub lines_together : {D L : Type 0} {d : Ghosts D} {l : Ghosts L} (m : Answering D L)
     (names : List ScriptId) (body : List Command) (text : List ℕ) (old new : Running D L d l)
     → RunsLines m names body text old new → old.recorder.store.moment ≡ old.moment
@@ -367,10 +346,7 @@ lines_together {D} {L} {d} {l} m names (command ∷ body) text old new ran same 
     lines_together {d = d} {l = l} m names body ran.2 ran.0 new ran.5
     (line.log_moment ∙ ap (λ (moment : ℕ). time_at moment command) same ∙ sym line.moment)
 
--- What playing a script does: from running its lines to recording on two disks in memory.
-
--- what was played from one kind of start was played from
--- another, where each of the one kind is of the other
+-- The condition `Start` may be replaced by any condition that it implies.
 pub played_from : {D L : Type 0} {d : Ghosts D} {l : Ghosts L} (m : Answering D L)
     (plan : ScriptValue) (Start Other : Running D L d l → Type 0) (before after : Option (List ℕ))
     (recorder : Recorder L l)
@@ -389,7 +365,6 @@ played_from m plan Start Other before after recorder lies ample follows played =
   found = played.found;
 }
 
--- and so does a failure
 pub fails_from : {D L : Type 0} {d : Ghosts D} {l : Ghosts L} (m : Answering D L) (text : List ℕ)
     (plan : ScriptValue) (Unmade : RunError → Type 0) (Start Other : Running D L d l → Type 0)
     (before after : Option (List ℕ)) (fault : RunError)
@@ -402,7 +377,6 @@ fails_from m text plan Unmade Start Other before after fault follows (unmade f i
 fails_from m text plan Unmade Start Other before after fault follows (run start f starts ends) =
     run start f (follows start starts) ends
 
--- a run that can't be started fails, and has printed nothing
 pub fails_at_start : {D L : Type 0} {d : Ghosts D} {l : Ghosts L} (m : Answering D L)
     (text : List ℕ) (plan : ScriptValue) (Unmade : RunError → Type 0)
     (Start : Running D L d l → Type 0)
@@ -412,14 +386,12 @@ fails_at_start m text plan Unmade Start known fault (inl memory) = file fault (i
 fails_at_start m text plan Unmade Start known fault (inr none) =
     unmade fault none (keeps_same known)
 
--- a start with a log of one sector size is one of the size that it is
 pub started : {D L : Type 0} {d : Ghosts D} {l : Ghosts L} (size other : SectorSize) (disk : D)
     (log : L) (now : Running D L d l) → size ≡ other → StartsOn (bytes_of size) disk log now
     → StartsOn (bytes_of other) disk log now
 started {d = d} {l = l} size other disk log now same starts =
     subst (λ (s : SectorSize). StartsOn {d = d} {l = l} (bytes_of s) disk log now) same starts
 
--- so is a start that failed
 pub unstarted : {L : Type 0} (l : Ghosts L) (size other : SectorSize) (log : L) (fault : RunError)
     → size ≡ other → (fault ≡ memory_error) ⊎ IsUnmadeOn l (bytes_of size) log fault
     → (fault ≡ memory_error) ⊎ IsUnmadeOn l (bytes_of other) log fault
@@ -427,14 +399,12 @@ unstarted l size other log fault same fails =
     subst (λ (s : SectorSize). (fault ≡ memory_error)
     ⊎ IsUnmadeOn l (bytes_of s) log fault) same fails
 
--- the recorder of a start counts in the sectors of its log
 pub start_bytes : {D L : Type 0} {d : Ghosts D} {l : Ghosts L} (bytes : ℕ) (disk : D) (log : L)
     (now : Running D L d l) → StartsOn bytes disk log now
     → (core_of now.recorder).sector_bytes ≡ bytes
 start_bytes bytes disk log now starts =
     let begun = starts.begun in ap (λ (c : CoreState). c.sector_bytes) begun.core
 
--- a start on a stack is one beside it
 pub on_beside : {L : Type 0} {l : Ghosts L} (bytes : ℕ) (disk : Disk) (stack : Stack) (log : L)
     → IsStackOf disk stack → (run : Running Stack L on_stack l) → StartsOn bytes stack log run
     → StartsOnStack bytes disk log run
@@ -446,7 +416,6 @@ on_beside bytes disk stack log is now starts = record {
   short = starts.short;
 }
 
--- a start beside a log's stack is one on two disks
 pub beside_starts : (plan : ScriptValue) (log : Stack) → IsStackOf plan.log_disk log
     → (run : DiskRun) → StartsOnStack (bytes_of plan.log_size) plan.data_disk log run
     → Starts plan run
@@ -458,7 +427,6 @@ beside_starts plan log is now starts = record {
   short = starts.short;
 }
 
--- and a failure on it is one on two disks
 pub fails_on_disks : (text : List ℕ) (plan : ScriptValue) (log : Stack)
     (before after : Option (List ℕ)) (fault : RunError) → IsStackOf plan.log_disk log
     → FailsPlaying {d = on_stack} {l = on_stack} stack_answering text plan
@@ -471,7 +439,6 @@ fails_on_disks text plan log before after fault is (unmade f refused kept) =
 fails_on_disks text plan log before after fault is (run start f starts ends) =
     no_run start f (beside_starts plan log is start starts) ends
 
--- the same of results
 pub all_played : {D L : Type 0} {d : Ghosts D} {l : Ghosts L} (m : Answering D L)
     (plan : ScriptValue) (Start Other : Running D L d l → Type 0) (before after : Option (List ℕ))
     (result : Result (Played L l) RunError) → ((run : Running D L d l) → Start run → Other run)

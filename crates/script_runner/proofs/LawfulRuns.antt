@@ -1,5 +1,4 @@
--- The events of a script's run are lawful for a device of the size of the data disk's top.
--- Lines that submit a request, and requests that fit a device.
+-- Proves that a run's events are lawful for a device with the size of the data disk's top.
 use Rattle.std.proofs.Common.{arith, ◌∷◌, ◌++◌, Result, Ok, Err, ap, inl, inr, refl, subst, sym}
 use Rattle.std.proofs.Common.{◌≡◌, ◌∙◌, ◌≤◌, ℕ, zero, suc, Bool, true, false, Option, Some, None}
 use Rattle.std.proofs.Common.{List, []}
@@ -49,7 +48,6 @@ use Rattle.script_runner.specs.Lines.{Answering, Asks, EndsRequest, RecordsEnd, 
 use Rattle.script_runner.specs.Runs.{RunsLines}
 use Rattle.script_runner.specs.Submissions.{bio_of, fits_device}
 
--- the request of a line passes the test that its line passes, for a log's sectors of so many bytes
 pub bio_suits : (bytes sectors : ℕ) (submission : Submission)
     → submission_answer bytes sectors submission ≡ Ok tt
     → check_sized_answer bytes (bio_of submission) sectors ≡ Ok tt
@@ -75,7 +73,6 @@ bio_suits bytes sectors submits.Flush passes =
     flush_aligned per = rw (zero-mod per) refl
 bio_suits bytes sectors (submits.Discard first count) passes = passes
 
--- and so that of the device alone
 pub bio_passes : (bytes sectors : ℕ) (submission : Submission)
     → submission_answer bytes sectors submission ≡ Ok tt
     → is_ok (check_answer (bio_of submission) sectors) ≡ true
@@ -83,7 +80,6 @@ bio_passes bytes sectors submission passes =
     ap is_ok (sized_passed bytes (bio_of submission) sectors
     (bio_suits bytes sectors submission passes)).0
 
--- a range that passes the test of a device passes that of a larger one
 range_larger : (bytes first count few many : ℕ) → few ≤ many
     → range_test bytes few first count ≡ Ok tt → range_test bytes many first count ≡ Ok tt
 range_larger bytes first count few many more passes =
@@ -91,7 +87,6 @@ range_larger bytes first count few many more passes =
     sized_passes bytes (bios.Read first count) many
     (check_answer-larger (bios.Read first count) few many parts.0 more) parts.1
 
--- what fits a device fits a larger one
 pub fits_larger : (bytes : ℕ) (submission : Submission) (few many : ℕ) → few ≤ many
     → submission_answer bytes few submission ≡ Ok tt
     → submission_answer bytes many submission ≡ Ok tt
@@ -101,7 +96,6 @@ fits_larger bytes submits.Flush few many more passes = refl
 fits_larger bytes (submits.Discard first count) few many more passes =
     range_larger bytes first count few many more passes
 
--- what became of a submission fits the device that it fits
 request_fits : {L : Type 0} {l : Ghosts L} (bytes sectors : ℕ) (submission : Submission)
     (request : Request) (old new : Recorder L l)
     → submission_answer bytes sectors submission ≡ Ok tt → Asks (bio_of submission) request old new
@@ -110,7 +104,6 @@ request_fits bytes sectors submission (requests.Asked bio id) old new passes ask
     ap (λ b. is_ok (check_answer b sectors)) asks.0 ∙ bio_passes bytes sectors submission passes
 request_fits bytes sectors submission requests.NotAsked old new passes asks = refl
 
--- the requests fit a device still, where there is room for one more and where there is none
 pub pushed_fit : {L : Type 0} {l : Ghosts L} (bytes sectors : ℕ) (submission : Submission)
     (request : Request) (old new : Recorder L l) (before after : List Request) (room : Bool)
     → submission_answer bytes sectors submission ≡ Ok tt → Asks (bio_of submission) request old new
@@ -124,16 +117,14 @@ pushed_fit {L} {l} bytes sectors submission request old new before after true pa
     ∙ and_from _ _ fit (and_from _ _
     (request_fits {l = l} bytes sectors submission request old new passes asks) refl))
 
--- a request whose bytes can be refused has some
 pub has_some : (some : Bool) → (some ≡ false → false ≡ true) → some ≡ true
 has_some true refused = refl
 has_some false refused = refused refl
 
--- each request among the events passed the test of a device of so many sectors
+-- Each request among the events passes the check of a device of `sectors` sectors.
 abbrev AreWithin : ℕ → List CoreEvent → Type 0
 AreWithin sectors events = (place : ℕ) → is_within sectors (slice_get events place) ≡ true
 
--- one more event
 within_snoc : (sectors : ℕ) (es : List CoreEvent) (e : CoreEvent) → AreWithin sectors es
     → is_within sectors (Some e) ≡ true → AreWithin sectors (es ++ e ∷ [])
 within_snoc sectors [] e within here zero = here
@@ -142,7 +133,6 @@ within_snoc sectors (first ∷ es) e within here zero = within zero
 within_snoc sectors (first ∷ es) e within here (suc place) =
     within_snoc sectors es e (λ p. within (suc p)) here place
 
--- of a core that grew by an event
 grown_within : (sectors : ℕ) (core grown : CoreState) (e : CoreEvent) → grown ≡ added_to core e
     → is_within sectors (Some e) ≡ true
     → AreWithin sectors core.events → AreWithin sectors grown.events
@@ -150,13 +140,11 @@ grown_within sectors core grown e is here within =
     subst (λ (c : CoreState). AreWithin sectors c.events) (sym is)
     (within_snoc sectors core.events e within here)
 
--- of a core that is the same
 same_within : (sectors : ℕ) (core same : CoreState) → same ≡ core → AreWithin sectors core.events
     → AreWithin sectors same.events
 same_within sectors core same is within =
     subst (λ (c : CoreState). AreWithin sectors c.events) (sym is) within
 
--- where logging ends
 stopped_within : (sectors : ℕ) (core : CoreState) (cause : End) → AreWithin sectors core.events
     → AreWithin sectors (stopped_by core cause).events
 stopped_within sectors core cause within = by_case (is_recording core.events)
@@ -173,7 +161,6 @@ stops_within sectors cause old new stops within =
     subst (λ (es : List CoreEvent). AreWithin sectors es) (sym stops.events)
     (stopped_within sectors (core_of old) cause within)
 
--- a submission of a request that passes the test
 submitted_within : {L : Type 0} {l : Ghosts L} (sectors : ℕ) (bio : Bio) (reply : Reply)
     (old new : Recorder L l) → Submits bio reply old new
     → is_ok (check_answer bio sectors) ≡ true → AreWithin sectors (core_of old).events
@@ -190,7 +177,6 @@ submitted_within {L} {l} sectors bio reply old new submits passes within =
           same_within sectors (core_of old) (core_of new) (submits.passed other).1.core within
     ]
 
--- the end of a request
 completed_within : {L : Type 0} {l : Ghosts L} (sectors id : ℕ) (ok : Bool) (reply : Reply)
     (old new : Recorder L l) → Completes id ok reply old new
     → AreWithin sectors (core_of old).events → AreWithin sectors (core_of new).events
@@ -203,7 +189,6 @@ completed_within sectors id ok reply old new completes within =
           same_within sectors (core_of old) (core_of new) (completes.unknown other).1 within
     ]
 
--- a mark
 marked_within : {L : Type 0} {l : Ghosts L} (sectors : ℕ) (text : List ℕ) (reply : Reply)
     (old new : Recorder L l) → Marks text reply old new
     → AreWithin sectors (core_of old).events → AreWithin sectors (core_of new).events
@@ -219,7 +204,6 @@ marked_within sectors text reply old new marks within = elim (bool_cases (is_tex
   | inr bad ↦ same_within sectors (core_of old) (core_of new) (marks.unheard bad) within
 ]
 
--- the end of recording
 closed_within : {L : Type 0} {l : Ghosts L} (sectors : ℕ) (reply : Reply) (old new : Recorder L l)
     → Closes reply old new
     → AreWithin sectors (core_of old).events → AreWithin sectors (core_of new).events
@@ -239,7 +223,6 @@ closed_within sectors reply old new closes within = elim closes.answer [
     by_case true = within_snoc sectors (core_of old).events events.Close within refl
     by_case false = within
 
--- a turn of the writer
 turned_within : {L : Type 0} {l : Ghosts L} (sectors : ℕ) (turn : Turn) (old new : Recorder L l)
     → Turns turn old new
     → AreWithin sectors (core_of old).events → AreWithin sectors (core_of new).events
@@ -262,7 +245,6 @@ turned_within {L} {l} sectors turn old new turned within = by_end old.end refl
     by_end (Some cause) is =
         same_within sectors (core_of old) (core_of new) (turned.ended cause is).1.core within
 
--- turns until the log is written
 drained_within : {L : Type 0} {l : Ghosts L} (sectors : ℕ) (answer : Result Unit End)
     (old new : Recorder L l) → Drains answer old new
     → AreWithin sectors (core_of old).events → AreWithin sectors (core_of new).events
@@ -281,7 +263,6 @@ drained_within {L} {l} sectors answer old new drains within = by_end old.end ref
     by_end (Some cause) is =
         same_within sectors (core_of old) (core_of new) (drains.ended cause is).1.core within
 
--- a request that is asked
 asked_within : {L : Type 0} {l : Ghosts L} (sectors : ℕ) (bio : Bio) (request : Request)
     (old new : Recorder L l) → Asks bio request old new
     → is_ok (check_answer bio sectors) ≡ true → AreWithin sectors (core_of old).events
@@ -296,7 +277,6 @@ asked_within {L} {l} sectors bio requests.NotAsked old new asks passes within = 
       (replies.Refused refusals.Memory) old new refused passes within
 ]
 
--- a request's end
 heard_within : {L : Type 0} {l : Ghosts L} (sectors : ℕ) (id : Option ℕ) (ok : Bool)
     (old new : Recorder L l) → RecordsEnd id ok old new
     → AreWithin sectors (core_of old).events → AreWithin sectors (core_of new).events
@@ -315,7 +295,6 @@ ended_within {D} {L} {d} {l} sectors (Some requests.NotAsked) name text old new 
 ended_within {D} {L} {d} {l} sectors (Some (requests.Asked bio id)) name text old new does within =
     heard_within {l = l} sectors id (is_ok does.answer) old.recorder new.recorder does.hears within
 
--- a line that names no request
 step_within : {D L : Type 0} {d : Ghosts D} {l : Ghosts L} (m : Answering D L) (sectors : ℕ)
     (step : Step) (text : List ℕ) (old new : Running D L d l) → TakesStep m step text old new
     → AreWithin sectors (core_of old.recorder).events
@@ -338,7 +317,6 @@ step_within {D} {L} {d} {l} m sectors
     (steps.Message disks.Log layer asked) text old new does within =
     same_within sectors (core_of old.recorder) (core_of new.recorder) does.core within
 
--- the lines of a script, where each request fits a device of so many sectors
 lines_within : {D L : Type 0} {d : Ghosts D} {l : Ghosts L} (m : Answering D L) (bytes sectors : ℕ)
     (names : List ScriptId) (before body : List Command) (text : List ℕ) (old new : Running D L d l)
     → IsWellFormed bytes sectors before body → RunsLines m names body text old new
@@ -367,7 +345,6 @@ lines_within {D} {L} {d} {l} m bytes sectors names before
     (before ++ commands.Step step ∷ []) body ran.2 ran.0 new fit.1 ran.5
     (step_within {d = d} {l = l} m sectors step ran.1 old ran.0 ran.4.does within)
 
--- the events of a script's run are lawful
 pub run_lawful : (plan : ScriptValue) (text : List ℕ) (start last : DiskRun) → IsPlan plan
     → Starts plan start → RunsLines stack_answering plan.names plan.commands text start last
     → is_well_formed (core_of last.recorder).events ≡ true

@@ -1,4 +1,4 @@
--- What one line does and prints.
+-- Proves what one line of a script does, and what it prints.
 use Rattle.std.proofs.Common.{add-one, ◌<◌, ◌≤◌, Bool, ℕ, ◌+◌, ◌*◌, zero, suc, ◌&&◌, true, false}
 use Rattle.std.proofs.Common.{not, None, Option, Some, append_assoc, drop, refl, subst}
 use Rattle.std.proofs.Common.{if◌then◌else◌, sym, inl, inr, ◌≡◌, ◌∙◌, List, [], ◌∷◌, ◌++◌}
@@ -50,9 +50,6 @@ use Rattle.script_runner.specs.inside.{mark_outcome}
 use Rattle.script_runner.specs.Lines.{Answering, PrintsLine, PrintsMark, TakesStep, first_bytes}
 use Rattle.script_runner.specs.Lines.{outcome_line, outcome_word, read_line}
 
--- What one line does.
-
--- a reply to a submission that names no id and passes nothing says that there is no memory
 pub refused-only : {L : Type 0} {g : Ghosts L} (bio : Bio) (reply : Reply) (old new : Recorder L g)
     → Submits bio reply old new
     → ((id : ℕ) → reply ≡ replies.Tracked id → ⊥) → (reply ≡ replies.Passed → ⊥)
@@ -66,7 +63,6 @@ refused-only bio reply old new submits tracked passed =
       | inr other ↦ absurd (passed (submits.passed other).0)
     ]
 
--- a close that isn't refused is done
 pub closed-only : {L : Type 0} {g : Ghosts L} (reply : Reply) (old new : Recorder L g)
     → Closes reply old new
     → ((refusal : Refusal) → reply ≡ replies.Refused refusal → ⊥) → Closes replies.Closed old new
@@ -76,18 +72,15 @@ closed-only reply old new closes refused = elim closes.answer [
       elim other [ inl busy ↦ absurd (refused _ busy.0) | inr memory ↦ absurd (refused _ memory.0) ]
 ]
 
--- a byte that may stand in a line isn't zero
 byte_is_text : (byte : ℕ) → is_line_byte byte ≡ true → not (byte == 0) ≡ true
 byte_is_text byte plain = grind (arith, nat_tests)
 
--- a text that may stand in a line is one that a mark may have
 line_is_text : (text : List ℕ) → is_line_text text ≡ true → is_text text ≡ true
 line_is_text [] plain = refl
 line_is_text (byte ∷ text) plain =
     let parts = and_parts (is_line_byte byte) (is_line_text text) plain in
     and_from _ _ (byte_is_text byte parts.0) (line_is_text text parts.1)
 
--- what is printed of a mark is what its reply says
 pub mark_prints : {L : Type 0} {g : Ghosts L} (text : List ℕ) (reply : Reply)
     (old new : Recorder L g) → Marks text reply old new → is_line_text text ≡ true
     → PrintsMark reply (mark_outcome reply)
@@ -104,7 +97,6 @@ mark_prints text reply old new marks plain = elim (bool_cases (is_recording (cor
     heard : is_text text ≡ true
     heard = line_is_text text plain
 
--- a text that may stand in a line is ASCII
 pub line_ascii : (text : List ℕ) → is_line_text text ≡ true → IsAscii text
 line_ascii [] plain i = omega arith
 line_ascii (byte ∷ text) plain zero =
@@ -114,24 +106,20 @@ line_ascii (byte ∷ text) plain zero =
 line_ascii (byte ∷ text) plain (suc i) =
     line_ascii text (and_parts (is_line_byte byte) (is_line_text text) plain).1 i
 
--- what stands at a place
 pub stands_at : (items : List Request) (place : ℕ) (here found : Request) → place < length items
     → here ≡ slice_index_or items place here → here ≡ found
     → slice_get items place ≡ Some found
 stands_at items place here found within is same =
     slice_get-get_or items place here within ∙ ap Some (sym is ∙ same)
 
--- a line whose step is a close is one
 pub is_close_step : (command : Command) (step : Step) → command ≡ commands.Step step
     → step ≡ steps.Close → command ≡ commands.Step steps.Close
 is_close_step command step is close = is ∙ ap (λ (s : Step). commands.Step s) close
 
--- a line whose step is this one is it
 pub is_step : (command : Command) (step other : Step) → command ≡ commands.Step step → step ≡ other
     → command ≡ commands.Step other
 is_step command step other is same = is ∙ ap (λ (s : Step). commands.Step s) same
 
--- what follows from a success, and from an error
 pub on_ok : {T E A B : Type 0} (result : Result T E) → OnOk result A → (A → B) → OnOk result B
 on_ok (Ok value) holds follows = follows holds
 on_ok (Err error) holds follows = tt
@@ -141,12 +129,10 @@ pub if_err : {T E : Type 0} {P Q : E → Type 0} (result : Result T E) → IfErr
 if_err (Ok value) holds follows = tt
 if_err (Err error) holds follows = follows error holds
 
--- a call that failed promises nothing of a success
 pub on_failed : {T E : Type 0} (A : Type 0) (result : Result T E) → IsErr result → OnOk result A
 on_failed A (Ok value) fails = absurd (cc fails)
 on_failed A (Err error) fails = tt
 
--- an output that failed stops a line for the file, or for memory
 pub output_stops : (kind : ErrorKind) → IsFileError (refused_by (io_refusal kind))
 output_stops kinds.OutOfMemory = inr refl
 output_stops _ = inl refl
@@ -155,13 +141,11 @@ pub if_failed : {T E : Type 0} (P : T → Type 0) (result : Result T E) → IsEr
 if_failed P (Ok value) fails = absurd (cc fails)
 if_failed P (Err error) fails = tt
 
--- what follows from a success in two parts
 pub both_ok : {T E A B C : Type 0} (result : Result T E) → OnOk result A → OnOk result B
     → (A → B → C) → OnOk result C
 both_ok (Ok value) one two follows = follows one two
 both_ok (Err error) one two follows = tt
 
--- a line whose step is this one was run
 pub step_runs : {D L : Type 0} {d : Ghosts D} {l : Ghosts L} (m : Answering D L)
     (names : List ScriptId) (command : Command) (step : Step) (before after : Option (List ℕ))
     (text : List ℕ)
@@ -177,18 +161,13 @@ step_runs m names command step before after text old new is takes moment log_mom
       printed,
     )
 
--- a writer that does nothing holds nothing more
 pub appends_none : (known : Option (List ℕ)) → Appends known known []
 appends_none None = tt
 appends_none (Some bytes) = sym (append-nil bytes)
 
--- The printed names and outcomes are those that the specs define.
-
--- a character of an id is ASCII
 low_byte : (byte : ℕ) → is_name_byte byte ≡ true → byte < 128
 low_byte byte letter = grind (arith, nat_tests)
 
--- the characters of an id are ASCII
 low_letters : (word : List ℕ) (size : ℕ) → list_all is_name_byte word ≡ true
     → AllByRecursion (λ byte. byte < 128) (before_mark 0 (word ++ replicate size 0))
 low_letters [] zero all = tt
@@ -202,7 +181,7 @@ low_letters (byte ∷ word) size all =
     kept true bytes low rest = tt
     kept false bytes low rest = (low, rest)
 
--- a name is printed by its letters
+-- The characters of an id are ASCII, so UTF-8 encodes each as itself.
 letters_encoded : (name : ScriptId) → IsName name
     → encode_utf8_all (letters_of name) ≡ letters_of name
 letters_encoded name is =
@@ -213,14 +192,12 @@ letters_encoded name is =
     (All-from_recursion (λ byte. byte < 128) (letters_of (script_id word))
     (low_letters word _ letters.1))))
 
--- a line of two words
 line_of : (word other : List ℕ)
     → word ++ 32 ∷ (other ++ 10 ∷ []) ≡ word ++ codes " " ++ other ++ codes "\n"
 line_of word other =
     sym (append_assoc (word ++ codes " ") other (codes "\n")
     ∙ append_assoc word (codes " ") (other ++ codes "\n"))
 
--- what became of a request was printed
 pub outcome_printed : (name : ScriptId) (ok : Bool) (word : List ℕ) (before after : Option (List ℕ))
     → IsName name → word ≡ outcome_word ok
     → Appends before after (encode_utf8_all (letters_of name) ++ 32 ∷ (word ++ 10 ∷ []))
@@ -231,22 +208,17 @@ outcome_printed name ok word before after is says output =
     ∙ line_of (letters_of name) word
     ∙ ap (λ (w : List ℕ). letters_of name ++ codes " " ++ w ++ codes "\n") says) output
 
--- the id of a request is an id
 pub name_is : (names : List ScriptId) (request : ℕ) (other : ScriptId) → AllByRecursion IsName names
     → request < length names
     → IsName (slice_index_or names request other)
 name_is names request other ids here =
     All-get_or IsName names request other here (All-from_recursion IsName names ids)
 
--- What a read's line reads and prints.
-
--- what the test of a range says that it passes
 pub range_parts : (first count sectors : ℕ) → range_answer first count sectors ≡ Ok tt
     → (0 < count) × (count ≤ 2048) × (first + count ≤ sectors)
 range_parts first count sectors passes =
     (grind (arith, nat_tests), grind (arith, nat_tests), grind (arith, nat_tests))
 
--- so many sectors of bytes are those of the range
 pub byte_range : (sectors first count bytes : ℕ) → range_answer first count sectors ≡ Ok tt
     → bytes ≡ count * 512 → IsByteRange sectors first bytes
 byte_range sectors first count bytes passes is =
@@ -258,7 +230,6 @@ byte_range sectors first count bytes passes is =
       within = rw (mul-div_cancel count {n = 512} (omega arith)) within;
     })
 
--- a buffer that was filled holds what was put in it
 pub filled : (new old : List ℕ) (n : ℕ) → length new ≡ length old → n ≡ length old
     → take n (new ++ drop (length new) old) ≡ new
 filled new old n same size =
@@ -266,13 +237,11 @@ filled new old n same size =
     ∙ ap (take n) (append-nil new)
     ∙ take_all n new (omega arith)
 
--- the first byte of one sector more
 first_bytes-more : (n : ℕ) (bytes : List ℕ)
     → first_bytes (n + 1) bytes
     ≡ first_bytes n bytes ++ byte_text (slice_index_or bytes (n * 512) 0)
 first_bytes-more n bytes = ap (λ (k : ℕ). first_bytes k bytes) (add-one n)
 
--- is printed after those before it
 pub byte_printed : (n : ℕ) (bytes : List ℕ) (byte : ℕ) (digits : List ℕ)
     (start now new : Option (List ℕ)) → Appends start now (first_bytes n bytes)
     → byte ≡ slice_index_or bytes (n * 512) 0 → digits ≡ byte_text byte → Appends now new digits
@@ -283,7 +252,6 @@ byte_printed n bytes byte digits start now new before here is more =
     (byte_text (slice_index_or bytes (n * 512) 0)) before
     (subst (Appends now new) (is ∙ ap byte_text here) more))
 
--- the words of a line one after another, or one by one
 in_one : (head from plus long space rest end : List ℕ)
     → head ++ (from ++ (plus ++ (long ++ (space ++ (rest ++ end)))))
     ≡ head ++ from ++ plus ++ long ++ space ++ rest ++ end
@@ -294,7 +262,6 @@ in_parts : (head from plus long space ok bytes end : List ℕ)
     ≡ head ++ from ++ plus ++ long ++ space ++ (ok ++ bytes) ++ end
 in_parts head from plus long space ok bytes end = simp append_assoc
 
--- the line of a read that failed was printed
 pub failed_printed : {V : Type 0} (items : V → List ℕ) (first count : ℕ) (bytes : Option V)
     (before after : Option (List ℕ)) → bytes ≡ None
     → Appends before after (codes "read "
@@ -307,7 +274,7 @@ failed_printed {V} items first count bytes before after none output =
     (in_one (codes "read ") (decimal first) (codes "+") (decimal count) (codes " ")
     (codes "failed") (codes "\n")) output)
 
--- the line of what was read was printed in three parts
+-- `begun` and `told` are what the output holds after the first and the second part of the line.
 pub read_printed : {V : Type 0} (items : V → List ℕ) (first count : ℕ) (bytes : Option V) (read : V)
     (shown : List ℕ) (before begun told after : Option (List ℕ)) → bytes ≡ Some read
     → shown ≡ items read

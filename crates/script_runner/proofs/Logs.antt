@@ -1,4 +1,5 @@
--- What the lines of a script do to the log, and what becomes of the requests that they submit.
+-- Proves what a script's lines do to the log, and what happens to the requests that they submit.
+-- After a close, the store has placed the whole log, unless logging ended (`IsWritten`).
 use Rattle.std.proofs.Common.{append_assoc, None, inl, ◌∙◌, ◌⊎◌, ap, refl, length, ℕ, Bool, true}
 use Rattle.std.proofs.Common.{false, not, ◌&&◌, Option, Some, arith, inr, subst, sym, List, [], ◌∷◌}
 use Rattle.std.proofs.Common.{◌++◌, Result, Ok, Err, ◌≡◌}
@@ -49,10 +50,6 @@ use Rattle.script_runner.specs.Runs.{IsWritten, RunsLines, TrackedAreRecorded, I
 use Rattle.script_runner.specs.Runs.{submissions_of}
 use Rattle.script_runner.specs.Submissions.{bio_of}
 
--- What the lines of a script do to the log.
--- If recording is closed, the whole completion list is placed: each line keeps this.
-
--- a recorder that didn't change keeps it
 pub kept_unchanged : {L : Type 0} {l : Ghosts L} (old new : Recorder L l) → IsWritten old
     → IsUnchanged old new → IsWritten new
 kept_unchanged old new written same = λ closed on.
@@ -62,12 +59,10 @@ kept_unchanged old new written same = λ closed on.
     ∙ written (ap has_no_close (sym events) ∙ closed) (sym same.end ∙ on)
     ∙ ap (λ (c : CoreState). length (log_of c)) (sym core)
 
--- one whose events have no Close keeps it
 pub kept_recording : {L : Type 0} {l : Ghosts L} (new : Recorder L l)
     → has_no_close (core_of new).events ≡ true → IsWritten new
 kept_recording new recording = λ closed on. absurd (let both = sym recording ∙ closed in cc)
 
--- an event that is no Close leaves none
 unclosed : (core grown : CoreState) (event : CoreEvent) → grown ≡ added_to core event
     → is_close (Some event) ≡ false → has_no_close core.events ≡ true
     → has_no_close grown.events ≡ true
@@ -75,12 +70,10 @@ unclosed core grown event is other recording =
     ap (λ (c : CoreState). has_no_close c.events) is ∙ none-grown is_close core.events event
     ∙ ap (λ b. b && not (is_close (Some event))) recording ∙ ap not other
 
--- one whose logging ended keeps it
 kept_ended : {L : Type 0} {l : Ghosts L} (new : Recorder L l) (cause : End) → new.end ≡ Some cause
     → IsWritten new
 kept_ended new cause ended = λ closed on. absurd (let both = sym ended ∙ on in cc)
 
--- a submission keeps it
 pub kept_submit : {L : Type 0} {l : Ghosts L} (bio : Bio) (reply : Reply) (old new : Recorder L l)
     → Submits bio reply old new → IsWritten old → IsWritten new
 kept_submit {L} {l} bio reply old new submits written =
@@ -99,7 +92,6 @@ kept_submit {L} {l} bio reply old new submits written =
       | inr passes ↦ kept_unchanged {l = l} old new written (submits.passed passes).1
     ]
 
--- the end of a request keeps it
 pub kept_complete : {L : Type 0} {l : Ghosts L} (id : ℕ) (ok : Bool) (reply : Reply)
     (old new : Recorder L l) → Completes id ok reply old new → IsWritten old → IsWritten new
 kept_complete {L} {l} id ok reply old new completes written =
@@ -130,7 +122,6 @@ kept_complete {L} {l} id ok reply old new completes written =
           })
     ]
 
--- a mark keeps it
 pub kept_mark : {L : Type 0} {l : Ghosts L} (text : List ℕ) (reply : Reply) (old new : Recorder L l)
     → Marks text reply old new → IsWritten old → IsWritten new
 kept_mark {L} {l} text reply old new marks written = elim (bool_cases (is_text text)) [
@@ -155,11 +146,9 @@ kept_mark {L} {l} text reply old new marks written = elim (bool_cases (is_text t
       (record { core = marks.unheard bad; store = marks.log; end = marks.end })
 ]
 
--- no entry stands behind the last
 none-behind : (log : List Entry) (n : ℕ) (e : Entry) → n ≡ length log → slice_get log n ≡ Some e → ⊥
 none-behind log n e all found = let within = slice_get_within log n e found in omega arith
 
--- a turn keeps it
 pub kept_turn : {L : Type 0} {l : Ghosts L} (turn : Turn) (old new : Recorder L l)
     → Turns turn old new → IsWritten old → IsWritten new
 kept_turn {L} {l} turn old new turned written = by_end old.end refl
@@ -187,7 +176,6 @@ kept_turn {L} {l} turn old new turned written = by_end old.end refl
     by_end None is = by_turn turn is turned
     by_end (Some cause) is = kept_unchanged {l = l} old new written (turned.ended cause is).1
 
--- a close writes the log to its end
 pub kept_close : {L : Type 0} {l : Ghosts L} (answer : Result Unit End) (closed new : Recorder L l)
     → Drains answer closed new → IsWritten new
 kept_close {L} {l} answer closed new drains = by_end closed.end refl
@@ -201,7 +189,7 @@ kept_close {L} {l} answer closed new drains = by_end closed.end refl
     by_end None is = by_answer answer is drains
     by_end (Some cause) is = kept_ended {l = l} new cause ((drains.ended cause is).1.end ∙ is)
 
--- no call of a recorder goes, and two calls go as one
+-- The law `several_calls_go_as_one` proves `GoesNone` and `GoesTwice`.
 abbrev pub GoesNone : {L : Type 0} → (l : Ghosts L) → Type 0
 GoesNone {L} l = (r : Recorder L l) → RecorderFrame (recorder_view r) (recorder_view r)
 
@@ -211,7 +199,6 @@ GoesTwice {L} l =
     → RecorderFrame (recorder_view mid) (recorder_view new)
     → RecorderFrame (recorder_view old) (recorder_view new)
 
--- the lines of a script go as one call
 pub lines_go : {D L : Type 0} {d : Ghosts D} {l : Ghosts L} → GoesNone l → GoesTwice l
     → (m : Answering D L) (names : List ScriptId) (body : List Command) (text : List ℕ)
     (old new : Running D L d l)
@@ -224,7 +211,6 @@ lines_go none twice m names (command ∷ body) text old new ran =
     twice old.recorder ran.0.recorder new.recorder ran.4.goes
     (lines_go none twice m names body ran.2 ran.0 new ran.5)
 
--- a request that is asked keeps the log written
 asked_written : {L : Type 0} {l : Ghosts L} (bio : Bio) (request : Request) (old new : Recorder L l)
     → Asks bio request old new → IsWritten old → IsWritten new
 asked_written {L} {l} bio (requests.Asked kept id) old new asks written =
@@ -234,7 +220,6 @@ asked_written {L} {l} bio requests.NotAsked old new asks written = elim asks [
   | inr refused ↦ kept_submit {l = l} bio (replies.Refused refusals.Memory) old new refused written
 ]
 
--- so does a request's end
 ended_written : {L : Type 0} {l : Ghosts L} (id : Option ℕ) (ok : Bool) (old new : Recorder L l)
     → RecordsEnd id ok old new → IsWritten old → IsWritten new
 ended_written {L} {l} (Some id) ok old new hears written =
@@ -251,7 +236,6 @@ found_written {D} {L} {d} {l} (Some requests.NotAsked) name text old new does wr
 found_written {D} {L} {d} {l} (Some (requests.Asked bio id)) name text old new does written =
     ended_written {l = l} id (is_ok does.answer) old.recorder new.recorder does.hears written
 
--- so does what leaves the core and the log as they are
 moment_written : {L : Type 0} {l : Ghosts L} (old new : Recorder L l) → core_of new ≡ core_of old
     → new.end ≡ old.end
     → Same (recorder_view old).store (recorder_view new).store → IsWritten old → IsWritten new
@@ -261,7 +245,6 @@ moment_written {L} {l} old new core end same written = λ closed on.
     (sym end ∙ on) in
     same.placed ∙ placed ∙ ap (λ (c : CoreState). length (log_of c)) (sym core)
 
--- each line does
 line_written : {D L : Type 0} {d : Ghosts D} {l : Ghosts L} (m : Answering D L)
     (names : List ScriptId) (command : Command) (text : List ℕ) (old new : Running D L d l)
     → RunsLine m names command text old new → IsWritten old.recorder → IsWritten new.recorder
@@ -291,7 +274,6 @@ line_written {D} {L} {d} {l} m names
     moment_written {l = l} old.recorder new.recorder line.does.core line.does.end line.does.store
     written
 
--- and all lines do
 pub lines_written : {D L : Type 0} {d : Ghosts D} {l : Ghosts L} (m : Answering D L)
     (names : List ScriptId) (body : List Command) (text : List ℕ) (old new : Running D L d l)
     → RunsLines m names body text old new → IsWritten old.recorder → IsWritten new.recorder
@@ -301,16 +283,12 @@ lines_written {D} {L} {d} {l} m names (command ∷ body) text old new ran writte
     lines_written {d = d} {l = l} m names body ran.2 ran.0 new ran.5
     (line_written {d = d} {l = l} m names command ran.1 old ran.0 ran.4 written)
 
--- What becomes of the requests that the lines of a script submit.
-
--- what is asked is what the line says
 asks_stands : {L : Type 0} {l : Ghosts L} (submission : Submission) (request : Request)
     (old new : Recorder L l) → Asks (bio_of submission) request old new
     → IsRequestOf submission request
 asks_stands submission (requests.Asked bio id) old new asks = asks.0
 asks_stands submission requests.NotAsked old new asks = tt
 
--- a line that ends a request keeps the requests
 ended_keeps : {D L : Type 0} {d : Ghosts D} {l : Ghosts L} (found : Option Request)
     (name : ScriptId) (text : List ℕ) (old new : Running D L d l)
     → EndsRequest found name text old new → new.requests.items ≡ old.requests.items
@@ -318,7 +296,6 @@ ended_keeps None name text old new does = absurd does
 ended_keeps (Some requests.NotAsked) name text old new does = does.0.kept
 ended_keeps (Some (requests.Asked bio id)) name text old new does = does.kept
 
--- so does one that names none
 step_keeps : {D L : Type 0} {d : Ghosts D} {l : Ghosts L} (m : Answering D L) (step : Step)
     (text : List ℕ) (old new : Running D L d l)
     → TakesStep m step text old new → new.requests.items ≡ old.requests.items
@@ -330,21 +307,19 @@ step_keeps m (steps.At moment) text old new does = does.keeps.kept
 step_keeps m (steps.Message disks.Data layer asked) text old new does = does.kept
 step_keeps m (steps.Message disks.Log layer asked) text old new does = does.keeps.kept
 
--- the requests that the lines submit, behind those before
+-- The run gets one more request for each of these submissions, in their order.
 abbrev Adds : {D L : Type 0} {d : Ghosts D} {l : Ghosts L} → List Submission → Running D L d l
     → Running D L d l → Type 0
 Adds asked old new =
     (more : List Request) × (new.requests.items ≡ old.requests.items ++ more)
     × AllZip IsRequestOf asked more
 
--- those of more lines, where the first adds none
 adds_later : {D L : Type 0} {d : Ghosts D} {l : Ghosts L} (asked : List Submission)
     (old mid new : Running D L d l) → mid.requests.items ≡ old.requests.items
     → Adds asked mid new → Adds asked old new
 adds_later asked old mid new same adds =
     (adds.0, adds.1 ∙ ap (λ (items : List Request). items ++ adds.0) same, adds.2)
 
--- each line that submits asks for what it says
 pub lines_ask : {D L : Type 0} {d : Ghosts D} {l : Ghosts L} (m : Answering D L)
     (names : List ScriptId) (body : List Command) (text : List ℕ) (old new : Running D L d l)
     → RunsLines m names body text old new → Adds (submissions_of body) old new
@@ -372,14 +347,12 @@ lines_ask {D} {L} {d} {l} m names (commands.Step step ∷ body) text old new ran
     (step_keeps {d = d} {l = l} m step ran.1 old ran.0 ran.4.does)
     (lines_ask {d = d} {l = l} m names body ran.2 ran.0 new ran.5)
 
--- events that stand stay as more are recorded
 pub stays : (old new : List CoreEvent) (id : ℕ) (event : CoreEvent) → EventsGrow old new
     → slice_get old id ≡ Some event → slice_get new id ≡ Some event
 stays old new id event (more, is) stands =
     ap (λ (es : List CoreEvent). slice_get es id) is
     ∙ slice_get-append_front old more id (slice_get_within old id event stands) ∙ stands
 
--- a mark that is queued stands at its place
 pub queued_stands : {L : Type 0} {l : Ghosts L} (text : List ℕ) (reply : Reply) (id : ℕ)
     (old new : Recorder L l) → Marks text reply old new → reply ≡ replies.Queued id
     → slice_get (core_of new).events id ≡ Some (events.Mark text)
@@ -407,7 +380,6 @@ queued_stands {L} {l} text reply id old new marks queued = elim (bool_cases (is_
     not_passed : (m : ℕ) → replies.Queued m ≡ replies.Passed → ⊥
     not_passed m is = cc
 
--- a submission that is followed stands at its id
 tracked_stands : {L : Type 0} {l : Ghosts L} (bio : Bio) (id : ℕ) (old new : Recorder L l)
     → Submits bio (reply_of (Some id)) old new
     → slice_get (core_of new).events id ≡ Some (events.Submit bio)
@@ -433,7 +405,6 @@ tracked_stands {L} {l} bio id old new submits = elim (bool_cases (records (core_
     not_passed : (m : ℕ) → replies.Tracked m ≡ replies.Passed → ⊥
     not_passed m is = cc
 
--- the last request of a list, or one before it
 last_case : (items : List Request) (last request : Request) (place : ℕ)
     → slice_get (items ++ last ∷ []) place ≡ Some request
     → (slice_get items place ≡ Some request) ⊎ (last ≡ request)
@@ -449,7 +420,6 @@ last_case items last request place found =
     some_same : {a b : Request} → Some a ≡ Some b → a ≡ b
     some_same is = cc
 
--- a request that was asked last, and is followed, stands at its id
 asked_stands : {L : Type 0} {l : Ghosts L} (bio asked : Bio) (request : Request) (id : ℕ)
     (old new : Recorder L l) → Asks asked request old new
     → request ≡ requests.Asked bio (Some id)
@@ -466,7 +436,6 @@ asked_stands {L} {l} bio asked (requests.Asked kept (Some other)) id old new ask
 asked_stands bio asked (requests.Asked kept None) id old new asks is = absurd (cc is)
 asked_stands bio asked requests.NotAsked id old new asks is = absurd (cc is)
 
--- where a line adds no request, each stays followed
 kept_followed : {D L : Type 0} {d : Ghosts D} {l : Ghosts L} (old new : Running D L d l)
     → new.requests.items ≡ old.requests.items
     → EventsGrow (core_of old.recorder).events (core_of new.recorder).events → TrackedAreRecorded old
@@ -477,7 +446,6 @@ kept_followed old new same grows followed = λ place bio id found.
     (followed place bio id (ap (λ (items : List Request). slice_get items place) (sym same)
     ∙ found))
 
--- each line keeps them followed
 line_followed : {D L : Type 0} {d : Ghosts D} {l : Ghosts L} (m : Answering D L)
     (names : List ScriptId) (command : Command) (text : List ℕ) (old new : Running D L d l)
     → RunsLine m names command text old new → TrackedAreRecorded old → TrackedAreRecorded new
@@ -501,7 +469,6 @@ line_followed {D} {L} {d} {l} m names (commands.Step step) text old new line fol
     kept_followed {d = d} {l = l} old new
     (step_keeps {d = d} {l = l} m step text old new line.does) line.goes.events followed
 
--- and all lines do
 pub lines_followed : {D L : Type 0} {d : Ghosts D} {l : Ghosts L} (m : Answering D L)
     (names : List ScriptId) (body : List Command) (text : List ℕ) (old new : Running D L d l)
     → RunsLines m names body text old new → TrackedAreRecorded old → TrackedAreRecorded new

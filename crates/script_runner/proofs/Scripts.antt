@@ -1,5 +1,4 @@
--- What a script's lines do one after another.
--- Laws of `Chain`: steps one after another.
+-- Proves what the lines of a script do one after another, as a `Chain` of steps.
 use Rattle.std.proofs.Common.{drop, length, slice_index_or, take, add-one, ap, refl, arith, sym}
 use Rattle.std.proofs.Common.{subst, ◌≡◌, ◌∙◌, ℕ, suc, ◌+◌, ◌<◌, Option, inl, inr, List, [], ◌∷◌}
 use Rattle.std.proofs.Common.{◌++◌, append_assoc}
@@ -26,7 +25,6 @@ use Rattle.script_runner.specs.Lines.{Answering, EndsSubmitted, FitsDevice, HasS
 use Rattle.script_runner.specs.Lines.{PrintsLine, RunsLine, StopsLine, count_of}
 use Rattle.script_runner.specs.Runs.{Chain, EndsRun, PrintsLines, close, file, message}
 
--- one step more
 pub chain_snoc : {C S : Type 0} (Step : C → List ℕ → S → S → Type 0) (cs : List C) (c : C)
     (text more : List ℕ) (old mid new : S)
     → Chain Step cs text old mid → Step c more mid new
@@ -51,21 +49,20 @@ chain_snoc Step (first ∷ cs) c text more old mid new before step = (
   chain_snoc Step cs c before.2 more before.0 mid new before.5 step,
 )
 
--- each command of a script may come after those before it
+-- Each command may follow the commands before it.
 abbrev pub IsOrderlyScript : ScriptValue → Type 0
 IsOrderlyScript plan =
     (before : List Command) (command : Command) (rest : List Command)
     → plan.commands ≡ before ++ command ∷ rest
     → CanFollow (bytes_of plan.log_size) (top_of plan.data_disk) before command
 
--- The next command of a script, after as many as have run.
+-- After `place` commands have run, `command` is the next one.
 pub record ComesNext (plan : ScriptValue) (place : ℕ) (command : Command) : Type 0 where
   pub rest : List Command
   pub split : plan.commands ≡ take place plan.commands ++ command ∷ rest
   pub comes : CanFollow (bytes_of plan.log_size) (top_of plan.data_disk)
       (take place plan.commands) command
 
--- the command at a place comes next
 pub command_next : (plan : ScriptValue) (items : List Command) (place : ℕ) (other : Command)
     → items ≡ plan.commands → IsOrderlyScript plan → place < length items
     → ComesNext plan place (slice_index_or items place other)
@@ -88,21 +85,18 @@ command_next plan items place other same orderly within =
           comes = orderly (take place plan.commands) command (drop (suc place) plan.commands) split;
         }
 
--- what it covers is within the data device
 pub next_fits : (bytes sectors : ℕ) (before : List Command) (command : Command)
     → CanFollow bytes sectors before command → FitsDevice bytes sectors command
 next_fits bytes sectors before (commands.Submit submission) comes = comes.0
 next_fits bytes sectors before (commands.Complete request) comes = tt
 next_fits bytes sectors before (commands.Step step) comes = comes.0
 
--- its text is one of a script
 pub next_text : (bytes sectors : ℕ) (before : List Command) (command : Command)
     → CanFollow bytes sectors before command → HasScriptText command
 next_text bytes sectors before (commands.Submit submission) comes = tt
 next_text bytes sectors before (commands.Complete request) comes = tt
 next_text bytes sectors before (commands.Step step) comes = comes.1
 
--- the request that it ends was submitted
 pub next_submitted : (bytes sectors : ℕ) (before : List Command) (command : Command)
     → CanFollow bytes sectors before command
     → EndsSubmitted (submissions before) command
@@ -110,7 +104,6 @@ next_submitted bytes sectors before (commands.Submit submission) comes = tt
 next_submitted bytes sectors before (commands.Complete request) comes = comes.0
 next_submitted bytes sectors before (commands.Step step) comes = tt
 
--- one more command before others, and after others
 submissions_cons : (command : Command) (body : List Command)
     → submissions (command ∷ body) ≡ count_of command + submissions body
 submissions_cons command body =
@@ -122,7 +115,6 @@ submissions_push front command =
     sum_by-append count_of front (command ∷ [])
     ∙ ap (λ (n : ℕ). submissions front + n) (omega arith)
 
--- the request that it submits or ends has a name
 pub next_named : (plan : ScriptValue) (place : ℕ) (command : Command) → IsPlan plan
     → ComesNext plan place command
     → HasName (length plan.names) (submissions (take place plan.commands)) command
@@ -142,7 +134,6 @@ next_named plan place (commands.Complete request) is next =
     omega (arith, all, before, numbered)
 next_named plan place (commands.Step step) is next = tt
 
--- one command more of a list
 pub one_more : (P : List Command → Type 0) (items body : List Command) (place : ℕ) (other : Command)
     → items ≡ body → place < length items
     → P (take place body ++ slice_index_or items place other ∷ []) → P (take (place + 1) body)
@@ -152,7 +143,6 @@ one_more P items body place other same within holds =
     → take (suc place) body ≡ take place body ++ slice_index_or cs place other ∷ []) (sym same)
     (take-suc body place other) within)) holds
 
--- one line more is run
 pub lines_more : {D L : Type 0} {d : Ghosts D} {l : Ghosts L} (m : Answering D L)
     (names : List ScriptId) (front : List Command) (command : Command)
     (before mid after : Option (List ℕ))
@@ -165,7 +155,6 @@ lines_more m names front command before mid after start now new ran line = (
   appends_twice before mid after ran.0 line.0 ran.2 line.2,
 )
 
--- the same, of ids that are the script's
 pub lines_more_of : {D L : Type 0} {d : Ghosts D} {l : Ghosts L} (m : Answering D L)
     (plan : ScriptValue) (items : List Command) (names : List ScriptId) (place : ℕ)
     (other : Command)
@@ -183,14 +172,12 @@ lines_more_of m plan items names place other before mid after start now new same
     (subst (λ (ids : List ScriptId). PrintsLine m ids
     (slice_index_or items place other) mid after now new) named line))
 
--- how many requests were submitted after one command more
 pub count_more : (front : List Command) (command : Command) (old new : ℕ) → old ≡ submissions front
     → new ≡ old + count_of command
     → new ≡ submissions (front ++ command ∷ [])
 count_more front command old new counted more =
     more ∙ ap (λ (n : ℕ). n + count_of command) counted ∙ sym (submissions_push front command)
 
--- how many requests were submitted after a line
 pub count_more_of : (plan : ScriptValue) (items : List Command) (place old new : ℕ)
     (other : Command) → items ≡ plan.commands → place < length items
     → old ≡ submissions (take place plan.commands)
@@ -201,7 +188,6 @@ count_more_of plan items place old new other same within counted more =
     ≡ submissions body) items plan.commands place other same within
     (count_more (take place plan.commands) (slice_index_or items place other) old new counted more)
 
--- where a line was run, the recorder's log has the sectors that it had
 pub bytes_more : {D L : Type 0} {d : Ghosts D} {l : Ghosts L} (m : Answering D L)
     (names : List ScriptId) (command : Command) (before after : Option (List ℕ))
     (old new : Running D L d l) {bytes : ℕ}
@@ -210,7 +196,6 @@ pub bytes_more : {D L : Type 0} {d : Ghosts D} {l : Ghosts L} (m : Answering D L
 bytes_more m names command before after old new line had =
     let ran = line.1 in ran.goes.sector_bytes ∙ had
 
--- what is asked of a line that comes next
 pub next_line_fits : (plan : ScriptValue) (items : List Command) (place bytes sectors : ℕ)
     (other : Command) → items ≡ plan.commands → IsOrderlyScript plan → place < length items
     → bytes ≡ bytes_of plan.log_size → sectors ≡ top_of plan.data_disk
@@ -253,7 +238,6 @@ next_line_named plan items names place requests other same is orderly within nam
     (slice_index_or items place other)) (sym named)
     (next_named plan place (slice_index_or items place other) is next))
 
--- a fault that names no line ends the run
 pub stops_whole : {D L : Type 0} {d : Ghosts D} {l : Ghosts L} (m : Answering D L) (text : List ℕ)
     (plan : ScriptValue) (command : Command) (before mid after : Option (List ℕ)) (fault : RunError)
     (start now : Running D L d l) → StopsLine m command mid after now (Whole fault)
@@ -264,7 +248,6 @@ stops_whole m text plan command before mid after fault start now (inr (inl stops
 stops_whole m text plan command before mid after fault start now (inr (inr stops)) =
     absurd (let never = stops.stops in cc)
 
--- a close or a message that is refused ends the run at its line
 pub stops_at_line : {D L : Type 0} {d : Ghosts D} {l : Ghosts L} (m : Answering D L) (text : List ℕ)
     (plan : ScriptValue) (place : ℕ) (line : Option ℕ) (command : Command)
     (before mid after : Option (List ℕ))
@@ -319,7 +302,6 @@ stops_at_line m text plan place line command before mid after refusal start now 
       refused = stops.refused;
     }) (appends_kept before mid after ran.0 ran.2 stops.printed)))
 
--- what is true of the item at a place is true of one that is it, and the other way round
 pub of_item : (P : Command → Type 0) (items : List Command) (place : ℕ) (command : Command)
     → command ≡ slice_index_or items place command
     → P (slice_index_or items place command) → P command
@@ -330,7 +312,6 @@ pub of_place : (P : Command → Type 0) (items : List Command) (place : ℕ) (co
     → P command → P (slice_index_or items place command)
 of_place P items place command is holds = subst P is holds
 
--- how many lines have run
 pub lines_run : (items body : List Command) (place : ℕ) → items ≡ body → place < length items
     → place ≡ length (take place body)
 lines_run items body place same within =

@@ -1,4 +1,4 @@
--- The results of a run's seats, its recorder and its disks, put together.
+-- Proves the result of a run from the results of its seats, its recorder and its disks.
 use Rattle.std.proofs.Common.{◌≡◌, ◌∙◌, ◌⊎◌, ⊎_elim, ℕ, zero, suc, ◌+◌, ◌*◌, ◌/◌, ◌<◌, ◌≤◌, List}
 use Rattle.std.proofs.Common.{[], ◌∷◌, ◌++◌, length, map, take, slice_get, Option, Some, ap}
 use Rattle.std.proofs.Common.{append-nil, append_assoc, arith, inl, inr, refl, subst, sym}
@@ -41,7 +41,6 @@ use Rattle.shared.specs.Close.{LeavesLog}
 use Rattle.shared.specs.declared.closing.Closed.{Closed}
 
 module _ {A : Type 0} where
-  -- what stands in a list that is one longer
   get_push : (xs : List A) (y x : A) (k : ℕ) → slice_get (xs ++ y ∷ []) k ≡ Some x
       → (slice_get xs k ≡ Some x) ⊎ ((k ≡ length xs) × (y ≡ x))
   get_push [] y x zero e = inr (refl, cc)
@@ -58,7 +57,6 @@ module _ {A : Type 0} where
   long_push [] x = refl
   long_push (y ∷ xs) x = ap suc (long_push xs x)
 
-  -- what is made of what stands there
   map_there : {B : Type 0} (f : A → B) (xs : List A) (k : ℕ) (x : A) → slice_get xs k ≡ Some x
       → slice_get (map f xs) k ≡ Some (f x)
   map_there f [] k x e = absurd (cc)
@@ -80,7 +78,6 @@ module _ {A : Type 0} where
   map_long f [] = refl
   map_long f (x ∷ xs) = ap suc (map_long f xs)
 
-  -- a turn more of a loop that makes a list of another
   pub map_next : {B : Type 0} (f : A → B) (xs : List A) (k next : ℕ) (x : A) (made : List B)
       → next ≡ suc k → slice_get xs k ≡ Some x
       → made ≡ map f (take k xs) → made ++ f x ∷ [] ≡ map f (take next xs)
@@ -88,7 +85,6 @@ module _ {A : Type 0} where
       ap (λ ys. ys ++ f x ∷ []) so ∙ sym (map_push f (take k xs) x)
       ∙ sym (ap (map f) (ap (λ n. take n xs) is ∙ take_next xs k x there))
 
--- seats that have made no call, and one more
 pub players_push : (many next : ℕ) (players : List Player) (player : Player) → next ≡ suc many
     → AreNewPlayers many players → player ≡ new_player many
     → AreNewPlayers next (players ++ player ∷ [])
@@ -103,7 +99,6 @@ players_push many next players player is new here = record {
       (get_push players player one number there);
 }
 
--- one list of receipts more
 pub joined_push : (lists : List (List Receipt)) (receipts : List Receipt)
     → joined (lists ++ receipts ∷ []) ≡ joined lists ++ receipts
 joined_push [] receipts = append-nil receipts
@@ -111,7 +106,6 @@ joined_push (first ∷ lists) receipts =
     ap (λ (rest : List Receipt). first ++ rest) (joined_push lists receipts)
     ∙ sym (append_assoc first (joined lists) receipts)
 
--- and one player's more
 pub joined_next : (players : List Player) (player : Player) (made : List Receipt)
     → made ≡ joined (map (λ (p : Player). p.receipts) players)
     → made ++ player.receipts ≡ joined (map (λ (p : Player). p.receipts) (players ++ player ∷ []))
@@ -120,7 +114,6 @@ joined_next players player made so =
     ∙ sym (joined_push (map (λ (p : Player). p.receipts) players) player.receipts)
     ∙ sym (ap joined (map_push (λ (p : Player). p.receipts) players player))
 
--- and one more of what each player has
 pub mapped_next : {B : Type 0} (of : Player → B) (players : List Player) (player : Player)
     (made next : List B) (value : B) → next ≡ made ++ value ∷ []
     → made ≡ map of players → value ≡ of player → next ≡ map of (players ++ player ∷ [])
@@ -130,18 +123,15 @@ mapped_next {B} of players player made next value pushed so has =
     ∙ ap (λ (v : B). map of players ++ v ∷ []) has
     ∙ sym (map_push of players player)
 
--- as many seats of a list as players
 pub seats_long : (players : List Player) (seats : List Part) (many : ℕ) → length players ≡ many
     → seats ≡ map (λ (p : Player). p.part) players → length seats ≡ many
 seats_long players seats many count is =
     ap (λ (parts : List Part). length parts) is ∙ map_long (λ (p : Player). p.part) players ∙ count
 
--- the top of a stack has the sectors that its disk says
 pub top_size : (disk : Disk) (stack : Stack) → IsStackOf disk stack
     → (stack_shown stack).size ≡ top_of disk
 top_size disk stack is = is.over.size ∙ ap (λ (n : ℕ). top_sectors n disk.layers) is.blank.size
 
--- where the top of a stack lies on its disk
 stack_place : (disk : Disk) (stack : Stack) → IsStackOf disk stack
     → (stack_shown stack).place ≡ record { origin = top_origin 0 disk.layers; disk = disk.sectors }
 stack_place disk stack is =
@@ -150,13 +140,12 @@ stack_place disk stack is =
       disk = n;
     }) is.blank.size
 
--- a device on which one of the log's sectors fits has one
 one_fits : (size : SectorSize) (sectors : ℕ) → bytes_of size / 512 ≤ sectors
     → 0 < log_sectors (bytes_of size) sectors
 one_fits sizes.B512 sectors room = omega (arith, room)
 one_fits sizes.B4096 sectors room = omega (arith, room)
 
--- a log that a part of a disk has, the disk's image has too
+-- If the content of the log's device has a log, the image of its disk has it too.
 image_log : (size : SectorSize) (disk : Disk) (device : Stack) (seen : Content) (image : List ℕ)
     → bytes_of size / 512 ≤ top_of disk
     → (stack_shown device).size ≡ top_of disk
@@ -181,7 +170,6 @@ image_log size disk device seen image room top place agree looks es log =
     (λ sector h. agree (top_origin 0 disk.layers + sector) (omega arith)
     ∙ ap (λ (n : ℕ). content (n + sector)) (sym origin) ∙ sym (looks sector)) log)
 
--- the image of a disk has the bytes of so many sectors, and agrees with it
 image_long : (disk : SectorDisk) (image : List ℕ) (sectors : ℕ)
     → image ≡ gather (shown_of disk).content 0 (shown_of disk).size → (shown_of disk).size ≡ sectors
     → length image ≡ 512 * sectors
@@ -198,21 +186,19 @@ image_agrees disk image sectors is size sector below =
     ∙ sector_of-gather (shown_of disk).size (shown_of disk).content (content_whole disk) sector
     (omega (arith, size, below))
 
--- What the log's stack of a script is, from before its log was made to when it was closed.
+-- `log` is the log's stack before its log is made, and `device` is this stack after the close.
 pub record IsLogStack (plan : RunPlan) (log device : Stack) (image : List ℕ) : Type 0 where
   pub room : bytes_of plan.log_size / 512 ≤ top_of plan.log_disk
   pub blank : IsStackOf plan.log_disk log
   pub stands : KeepsGround (ground_of (stack_shown log)) (stack_shown device)
   pub bytes : image ≡ gather (shown_of (disk_of device)).content 0 (shown_of (disk_of device)).size
 
--- its disk has the sectors that the script says
 disk_size : (plan : RunPlan) (log device : Stack) (image : List ℕ)
     → IsLogStack plan log device image → (shown_of (disk_of device)).size ≡ plan.log_disk.sectors
 disk_size plan log device image is =
     sym (part_of_disk device).disk
     ∙ ap (λ (p : Place). p.disk) (is.stands.place ∙ stack_place plan.log_disk log is.blank)
 
--- and its image has the log that a crash would leave
 leaves_image : (plan : RunPlan) (log device : Stack) (image : List ℕ) (few : ℕ) (core : CoreState)
     (end : Option End) → IsLogStack plan log device image
     → ((left : Content) → (stack_shown device).crash left
@@ -234,7 +220,6 @@ leaves_image plan log device image few core end is leaves =
       whole = left.whole;
     }
 
--- each seat of a script made the calls of its lines
 each_ran : (plan : RunPlan) (players : List Player) (seats : List Part) (tallies : List Tally)
     → HavePlayed plan.calls plan.seats players
     → seats ≡ map (λ (p : Player). p.part) players → tallies ≡ map (λ (p : Player). p.tally) players
@@ -256,7 +241,6 @@ each_ran plan players seats tallies played parts told number seat there =
           found.2 (played.each number player found.1);
     }
 
--- a script's run
 pub is_run : (ground : Ground) (bytes sectors : ℕ) (plan : RunPlan) (log : Stack)
     (players : List Player) (seats : List Part) (tallies : List Tally) (receipts : List Receipt)
     (closed : Closed Stack Stack) (status : Status) (lies : Lies) (image : List ℕ)
@@ -314,7 +298,6 @@ is_run ground bytes sectors plan log players seats tallies receipts closed statu
           is (here.crash (sym none ∙ zero));
     }
 
--- a run whose calls aren't made, or whose writer isn't told to end
 pub fails_unplayed : (plan : RunPlan) (refusal : Refusal) (fault : RunError) → IsUnplayed refusal
     → fault ≡ refused_by refusal → FailsRun plan fault
 fails_unplayed plan refusal fault why same =
@@ -328,7 +311,6 @@ fails_unplayed plan refusal fault why same =
     (sym is) thread))
     why)
 
--- a run whose recorder isn't closed
 pub fails_unclosed : (plan : RunPlan) (players : List Player) (seats : List Part)
     (tallies : List Tally) (receipts : List Receipt) (refusal : Refusal) (fault : RunError)
     → HavePlayed plan.calls plan.seats players → seats ≡ map (λ (p : Player). p.part) players

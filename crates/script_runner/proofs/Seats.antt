@@ -1,4 +1,4 @@
--- What a line adds to the calls that a seat made.
+-- Proves what one line adds to the calls of a seat, to its tally and to its receipts.
 use Rattle.std.proofs.Common.{◌≡◌, ◌∙◌, ℕ, zero, suc, ◌+◌, ◌-◌, ◌^◌, ◌<◌, ◌≤◌, Bool, true, false}
 use Rattle.std.proofs.Common.{List, [], ◌∷◌, ◌++◌, ◌==◌, if◌then◌else◌, length, take, slice_get}
 use Rattle.std.proofs.Common.{Option, None, Some, not, ap, append_assoc, arith, inl, inr, refl}
@@ -33,7 +33,6 @@ use Rattle.shared.specs.declared.answer.MarkAnswer.{MarkAnswer}
 use Rattle.shared.specs.declared.answer.MarkAnswer.TheVariants as marks
 use Rattle.shared.specs.declared.answer.MarkRefusal.TheVariants as refusals
 
--- the calls of a seat's lines, with a line more
 pub own_more : (number : ℕ) (before : List SeatCall) (line : SeatCall)
     → (line.seat == number) ≡ true
     → calls_of number (before ++ line ∷ []) ≡ calls_of number before ++ line.call ∷ []
@@ -64,7 +63,6 @@ other_more number (first ∷ before) line other =
     also true rest = ap (λ (calls : List Call). first.call ∷ calls) rest
     also false rest = rest
 
--- no more calls than lines
 own_few : (number : ℕ) (lines : List SeatCall) → length (calls_of number lines) ≤ length lines
 own_few number [] = omega arith
 own_few number (line ∷ lines) = also (line.seat == number) (own_few number lines)
@@ -75,7 +73,6 @@ own_few number (line ∷ lines) = also (line.seat == number) (own_few number lin
     also true few = omega (arith, few)
     also false few = omega (arith, few)
 
--- calls, and then one call more
 made_more : (old between new : Part) (calls : List Call) (comes : List CallResult) (call : Call)
     (came : CallResult)
     → AreMade old calls comes between → MakesCall between call came new
@@ -87,7 +84,6 @@ made_more old between new (first ∷ calls) [] call came made one = absurd made
 made_more old between new (first ∷ calls) (one_came ∷ comes) call came made one =
     (made.0, made.1, made_more made.0 between new calls comes call came made.2 one)
 
--- as many came of as many calls
 made_length : (old new : Part) (calls : List Call) (comes : List CallResult)
     → AreMade old calls comes new
     → length comes ≡ length calls
@@ -97,7 +93,6 @@ made_length old new (call ∷ calls) [] made = absurd made
 made_length old new (call ∷ calls) (came ∷ comes) made =
     ap suc (made_length made.0 new calls comes made.2)
 
--- one call more is counted where it comes to this, and isn't where it doesn't
 many_yes : (test : Outcome → Bool) (comes : List CallResult) (came : CallResult)
     → test came.outcome ≡ true
     → how_many test (comes ++ came ∷ []) ≡ how_many test comes + 1
@@ -122,7 +117,6 @@ many_few test (first ∷ comes) =
     let rest = many_few test comes in
     let one = at_most_one (test first.outcome) in omega (arith, rest, one)
 
--- a call that came to this, with this receipt
 abbrev came_to : Outcome → Option Receipt → CallResult
 came_to outcome receipt = record { outcome = outcome; receipt = receipt }
 
@@ -169,7 +163,7 @@ tally_more comes Refused receipt =
       many_yes is_refused comes (came_to Refused receipt) refl,
     ) refl
 
--- few calls leave room for one more
+-- No count is larger than the number of calls, so each count can grow by one.
 has_room : (comes : List CallResult) → length comes < 2 ^ 64 - 1 → HasRoom (tally_of comes)
 has_room comes few = record {
   done = let most = many_few is_done comes in omega (arith, most, few);
@@ -179,7 +173,6 @@ has_room comes few = record {
   refused = let most = many_few is_refused comes in omega (arith, most, few);
 }
 
--- one receipt more, if there is one, behind others
 kept_behind : (some receipts : List Receipt) (receipt : Option Receipt)
     → some ++ and_kept receipts receipt ≡ and_kept (some ++ receipts) receipt
 kept_behind some receipts None = refl
@@ -196,7 +189,6 @@ kept_more (first ∷ comes) came =
     ap (λ (rest : List Receipt). and_kept [] first.receipt ++ rest) (kept_more comes came)
     ∙ kept_behind (and_kept [] first.receipt) (receipts_of comes) came.receipt
 
--- a seat's request was answered
 pub makes_request : (submission : Submission) (inside old : Player) (part : Part)
     (answer : Answer Receipt)
     (outcome : Outcome) (given : Option Receipt) (receipts : List Receipt)
@@ -222,7 +214,6 @@ makes_request submission inside old part answer outcome given receipts same answ
       tally = ap (λ (p : Player). p.tally) same;
     }
 
--- and so was its mark
 pub makes_mark : (text : List ℕ) (inside old : Player) (part : Part)
     (answer : MarkAnswer Receipt)
     (outcome : Outcome) (given : Option Receipt) (receipts : List Receipt)
@@ -241,7 +232,7 @@ makes_mark text inside old part answer outcome given receipts same marked so has
   tally = ap (λ (p : Player). p.tally) same;
 }
 
--- a request for which there is no memory fails, and a mark is refused
+-- If memory runs out, a request has failed, a mark is refused, and the seat is unchanged.
 pub fails : (submission : Submission) (old new : Player) → new ≡ old
     → Makes (Submit submission) old Failed new
 fails submission old new same = record {
@@ -271,7 +262,6 @@ refused text old new same = record {
   tally = ap (λ (p : Player). p.tally) same;
 }
 
--- a seat did some lines, and then one of its own
 pub did_own : (old new : Player) (tally : Tally) (line : SeatCall) (outcome : Outcome)
     → (line.seat == old.number) ≡ true
     → Makes line.call old outcome new → (HasRoom old.tally → tally ≡ counted old.tally outcome)
@@ -298,7 +288,6 @@ did_own old new tally line outcome own makes counts before few ran =
           ran.kept ∙ sym (kept_more ran.calls makes.came);
     }
 
--- or one of another seat
 pub did_other : (old : Player) (line : SeatCall) → (line.seat == old.number) ≡ false
     → (before : List SeatCall) → length before < 2 ^ 64 - 1
     → IsSeatRun before old.number old.part old.tally old.receipts
@@ -312,14 +301,12 @@ did_other old line other before few ran = record {
   kept = ran.kept;
 }
 
--- a line of another seat is passed over
 pub skips : (line : SeatCall) (inside old : Player) → inside ≡ old
     → (line.seat == inside.number) ≡ false → DoesLine line old old
 skips line inside old same other =
     subst (λ (p : Player). DoesLine line p p) same
     (record { number = refl; ran = did_other inside line other })
 
--- a line of the seat's own is done
 pub does : (line : SeatCall) (inside old second made : Player) (tally : Tally) (outcome : Outcome)
     → inside ≡ old → second ≡ made
     → (line.seat == inside.number) ≡ true → Makes line.call old outcome made
@@ -340,7 +327,6 @@ does line inside old second made tally outcome same later own makes counts = rec
       (ap (λ (p : Player). p.tally) later ∙ makes.tally) counts);
 }
 
--- a line more is done
 pub did_more : (lines : List SeatCall) (line : SeatCall) (old between new : Player)
     → length lines < 2 ^ 64 - 1
     → DoesLines lines old between → DoesLine line between new
@@ -366,7 +352,6 @@ take_next [] n x there = absurd (cc)
 take_next (y ∷ ys) zero x there = ap (λ z. z ∷ []) (cc)
 take_next (y ∷ ys) (suc n) x there = ap (λ zs. y ∷ zs) (take_next ys n x there)
 
--- the line at the next place is done
 pub does_next : (lines : List SeatCall) (place next : ℕ) (line : SeatCall)
     (old between new : Player) → next ≡ suc place → place < 2 ^ 64 - 1
     → slice_get lines place ≡ Some line → DoesLines (take place lines) old between
@@ -377,14 +362,12 @@ does_next lines place next line old between new is few there before one =
     (did_more (take place lines) line old between new
     (let short = take_few place lines in omega (arith, short, few)) before one)
 
--- what holds of each holds of the one that stands there
 stands : {A : Type 0} (P : A → Type 0) (xs : List A) (k : ℕ) (x : A) → AllByRecursion P xs
     → slice_get xs k ≡ Some x → P x
 stands P [] k x all there = absurd (cc)
 stands P (y ∷ xs) zero x all there = subst P (cc) all.0
 stands P (y ∷ xs) (suc k) x all there = stands P xs k x all.1 there
 
--- a text of a line has no zero byte
 byte_is_text : (byte : ℕ) → is_line_byte byte ≡ true → not (byte == 0) ≡ true
 byte_is_text byte plain = grind (arith, nat_tests)
 

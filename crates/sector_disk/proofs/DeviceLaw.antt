@@ -18,12 +18,10 @@ use Rattle.sector_disk.specs.DiskView.{HasPast, cache_of, flushed_after, shown_o
 use Rattle.sector_disk.specs.DiskView as shown
 use Rattle.sector_disk.specs.inside.Storage.{content_at, past_of, step_after, steps_of}
 
--- what holds of a view holds of an equal one
 moved : (P : View → Type 0) (old new : SectorDisk) (past : List Step) → HasPast old new past
     → P (view_of old.sectors (start_of old) past) → P (shown_of new)
 moved P old new past has holds = grind arith
 
--- a disk that put values went and landed as the law has it
 pub goes_past : (old new : SectorDisk) (patch : Patch) (fua : Bool)
     → HasPast old new (Puts patch fua ∷ shown.steps_of old)
     → DeviceFrame patch (shown_of old) (shown_of new)
@@ -40,21 +38,18 @@ lands_past old new patch fua has =
     (Puts patch fua ∷ shown.steps_of old) has
     (lands_puts old.sectors (start_of old) (shown.steps_of old) patch fua)
 
--- a disk that is unchanged went by any call
 pub goes_unchanged : (old new : SectorDisk) (patch : Patch) → HasPast old new (shown.steps_of old)
     → DeviceFrame patch (shown_of old) (shown_of new)
 goes_unchanged old new patch has =
     moved (λ w. DeviceFrame patch (shown_of old) w) old new (shown.steps_of old) has
     (goes_none patch (shown_of old))
 
--- the bytes that a write keeps are those that were given
 pub written_past : (old new : SectorDisk) (first : ℕ) (kept bytes : List ℕ) (fua : Bool)
     → kept ≡ bytes
     → HasPast old new (Puts (writes first kept) fua ∷ shown.steps_of old)
     → HasPast old new (Puts (writes first bytes) fua ∷ shown.steps_of old)
 written_past old new first kept bytes fua same has = grind arith
 
--- calls end by a write or a discard, and no flush
 no_flush_last : (calls : List Call) (begun n : ℕ)
     → flushed_after (steps_of calls begun n) ≡ Flushes ∷ steps_of calls begun n
 no_flush_last calls begun zero = refl
@@ -67,13 +62,12 @@ no_flush_last calls begun (suc n) = at (slice_get calls (begun + n)) (no_flush_l
     at None earlier = earlier
     at (Some call) earlier = refl
 
--- so a flush is one step, and none after another
+-- if the past already ends with a flush, another flush adds no step
 pub past_flushed : (calls : List Call) (begun : ℕ) (flushed : Bool)
     → past_of calls begun true ≡ flushed_after (past_of calls begun flushed)
 past_flushed calls begun true = refl
 past_flushed calls begun false = sym (no_flush_last calls begun (length calls - begun))
 
--- a flush goes and syncs as the law has it
 pub goes_flushed : (size : ℕ) (calls : List Call) (base : List ℕ) (begun : ℕ) (flushed : Bool)
     → DeviceFrame nothing (view_of size (content_at calls base) (past_of calls begun flushed))
     (view_of size (content_at calls base) (past_of calls begun true))
@@ -82,26 +76,23 @@ goes_flushed size calls base begun true =
 goes_flushed size calls base begun false =
     goes_flush size (content_at calls base) (past_of calls begun false)
 
--- a read finds the content
 pub read_now : (disk : SectorDisk) (first n : ℕ) → first + n ≤ disk.sectors
     → gather (content_at disk.calls.items disk.newest.items) first n
     ≡ gather (cache_of disk).now first n
 read_now disk first n within = grind (arith, gather-ext)
 
--- what was read of a disk is its content
 pub read_of : (disk : SectorDisk) (calls : List Call) (newest buffer : List ℕ) (first n : ℕ)
     → calls ≡ disk.calls.items → newest ≡ disk.newest.items
     → first + n ≤ disk.sectors → buffer ≡ gather (content_at calls newest) first n
     → buffer ≡ gather (cache_of disk).now first n
 read_of disk calls newest buffer first n same_calls same_newest within is = grind (arith, read_now)
 
--- The bytes of all sectors of a disk, which has given them.
+-- `image` is the disk's whole content
 pub record IsGiven (disk : SectorDisk) (image : List ℕ) : Type 0 where
   pub content : image ≡ gather (shown_of disk).content 0 (shown_of disk).size
   pub sectors : AgreeBelow (shown_of disk).size (shown_of disk).content (sector_of image)
   pub length : length image ≡ 512 * (shown_of disk).size
 
--- what was read of all the sectors of a disk is its image
 pub given_of : (disk : SectorDisk) (calls : List Call) (newest image : List ℕ) (n : ℕ)
     → calls ≡ disk.calls.items → newest ≡ disk.newest.items
     → n ≡ disk.sectors → image ≡ gather (content_at calls newest) 0 n → IsGiven disk image
@@ -119,20 +110,15 @@ given_of disk calls newest image n same_calls same_newest count is =
           (omega arith);
     }
 
--- The candidates of a disk's sectors after each call, and what a crash may leave.
-
--- what a disk knows by its past
 cache_by : (old new : SectorDisk) (past : List Step) → HasPast old new past
     → cache_of new ≡ cache_after (start_of old) past
 cache_by old new past has = grind arith
 
--- any picks leave what a crash may leave
 pub picks_leave : (disk : SectorDisk) (picks : List ℕ)
     → MayLeave (cache_of disk) (left_by (cache_of disk) picks)
 picks_leave disk picks =
     picks_leave_one (cache_of disk) picks (is_current (start_of disk) (shown.steps_of disk))
 
--- what could be left before a call without FUA may be left after it
 pub old-left : (old new : SectorDisk) (patch : Patch) (left : Content)
     → HasPast old new (Puts patch false ∷ shown.steps_of old)
     → MayLeave (cache_of old) left → MayLeave (cache_of new) left
@@ -141,7 +127,7 @@ old-left old new patch left has may =
     subst May (sym (cache_by old new (Puts patch false ∷ shown.steps_of old) has))
     (left-kept patch (cache_of old) left may)
 
--- while a call runs, a crash may leave any part of it
+-- a crash during the call may leave the call's new values in only some of its sectors
 pub torn-left : (old new : SectorDisk) (patch : Patch) (fua : Bool) (before left : Content)
     → HasPast old new (Puts patch fua ∷ shown.steps_of old) → MayLeave (cache_of old) before
     → Patched patch before left
@@ -156,14 +142,12 @@ torn-left old new patch fua before left has may patched =
     (subst (λ (start : Content). Since start (Puts patch fua ∷ shown.steps_of old))
     (sym has.start) during_it)
 
--- a sector's candidates after a call that has a value for it
 pub may-put : (old new : SectorDisk) (patch : Patch) (fua : Bool) (sector : ℕ) (value : List ℕ)
     → HasPast old new (Puts patch fua ∷ shown.steps_of old)
     → patch sector ≡ Some value
     → (cache_of new).may sector ≡ candidates_after (Some value) fua ((cache_of old).may sector)
 may-put old new patch fua sector value has is = grind (arith, cache_by)
 
--- and after a flush
 pub may-flushed : (old new : SectorDisk) (sector : ℕ)
     → HasPast old new (flushed_after (shown.steps_of old))
     → (cache_of new).may sector ≡ (cache_of old).now sector ∷ []
@@ -177,10 +161,8 @@ may-flushed old new sector has =
     at (Flushes ∷ past) = refl
     at (Puts patch fua ∷ past) = refl
 
--- the value of a sector of a range
 pub over-there : (first count : ℕ) (value : ℕ → List ℕ) (sector : ℕ) → first ≤ sector
     → sector < first + count
     → over first count value sector ≡ Some (value (sector - first))
 over-there first count value sector low high =
-    let place : sector ≡ first + (sector - first) = omega arith in
-    ap (over first count value) place ∙ over-in first count value (sector - first) (omega arith)
+    grind (arith, over-in first count value (sector - first) (omega arith))

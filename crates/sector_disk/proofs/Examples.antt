@@ -178,7 +178,7 @@ started old new steps has zeroes ones =
 past : (old new : SectorDisk) → HasPast old new (Flushes ∷ steps_of old)
     → steps_of new ≡ steps_of old → ⊥
 past old new has same =
-    let lengths = ap (λ (steps : List Step). length steps) (sym has.past ∙ same) in omega arith
+    let lengths = ap length (sym has.past ∙ same) in omega arith
 
 refuses_flush : (old new : SectorDisk) (now : ℕ) → Does old flush now (Err Memory) new → ⊥
 refuses_flush old new now done = let same = done.0 in cc
@@ -193,4 +193,4 @@ reads_one old new first now before a b result one other = one.2 ∙ sym other.2
 lost_discard : (old new : SectorDisk) (first count now : ℕ)
     → Does old (Discards first count) now (Ok now) new → steps_of new ≡ steps_of old → ⊥
 lost_discard old new first count now done same =
-    let lengths = ap (λ (steps : List Step). length steps) (sym same ∙ done.1.past) in omega arith
+    let lengths = ap length (sym same ∙ done.1.past) in omega arith

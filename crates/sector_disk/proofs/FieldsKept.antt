@@ -1,4 +1,4 @@
--- Each call keeps the invariant of a disk's fields (`IsKept`).
+-- Each call, each flush and each crash keeps the invariant of a disk's fields (`IsKept`).
 use Rattle.std.proofs.Common.{◌≡◌, ℕ, suc, zero, ◌+◌, ◌-◌, ◌/◌, ◌<◌, ◌≤◌, ◌&&◌, Bool, true, false}
 use Rattle.std.proofs.Common.{Some, None, List, [], ◌∷◌, ◌++◌, length, take, drop, replicate, refl}
 use Rattle.std.proofs.Common.{ap, subst, sym, ◌∙◌, inl, inr, arith}
@@ -13,29 +13,25 @@ use Rattle.bio.specs.PlaceLaws.{length-snoc, slice_get-append_front, slice_get-a
 use Rattle.sector_disk.specs.declared.call.Call.{Call}
 use Rattle.sector_disk.specs.declared.call.Change.{Change}
 use Rattle.sector_disk.specs.declared.call.Change.TheVariants.{Write, Image, Discard}
-use Rattle.sector_disk.specs.Candidates.{Cache, Puts, Step, cache_after, candidates_after}
+use Rattle.sector_disk.specs.Candidates.{Cache, Puts, cache_after, candidates_after}
 use Rattle.sector_disk.specs.inside.Storage.{value_at, values_of, is_table, past_of, place_of}
-use Rattle.sector_disk.specs.inside.Storage.{step_after, steps_of, content_at, flushed_if, is_chain}
-use Rattle.sector_disk.specs.inside.Storage.{is_open, is_plain, before_at, before_in, cache_of}
-use Rattle.sector_disk.specs.inside.Storage.{change_values, AreWithin, ArePlaced, IsKept, IsPlaced}
-use Rattle.sector_disk.specs.inside.Storage.{back, IsFilled, count_of}
+use Rattle.sector_disk.specs.inside.Storage.{steps_of, content_at, is_chain, is_open, is_plain}
+use Rattle.sector_disk.specs.inside.Storage.{before_at, before_in, cache_of, change_values}
+use Rattle.sector_disk.specs.inside.Storage.{AreWithin, ArePlaced, IsKept, IsPlaced, back, IsFilled}
+use Rattle.sector_disk.specs.inside.Storage.{count_of}
 use Rattle.sector_disk.proofs.ImageBack.{chain-within}
 
--- equal functions
 pub same_content : (c d : Content) → ((s : ℕ) → c s ≡ d s) → c ≡ d
 same_content c d same = λ i s. same s i
 
--- a table with a place for each sector is one
 pub whole_table : (n : ℕ) → is_table n n ≡ true
 whole_table zero = refl
 whole_table (suc n) = eq-eqb (suc n) (suc n) refl
 
--- a table is empty or has a place for each sector
 pub table_cases : (sectors n : ℕ) → is_table sectors n ≡ true → (n ≡ 0) ⊎ (n ≡ sectors)
 table_cases sectors zero is = inl refl
 table_cases sectors (suc n) is = inr (eqb-true (suc n) sectors is)
 
--- a sector behind a table has the first call's place, and so has each sector of a new table
 pub place_past : (places : List ℕ) (sector : ℕ) → length places ≤ sector
     → place_of places sector ≡ 0
 place_past places sector past = grind (arith, slice_get_past)
@@ -44,17 +40,15 @@ pub first_place : (n sector : ℕ) → place_of (replicate n 0) sector ≡ 0
 first_place n sector =
     grind (arith, cases_lt, unwrap_or-slice_get, get_or-replicate, place_past, length-replicate)
 
--- so a new table has the places that none has
 new_place : (n : ℕ) (none table : List ℕ) → length none ≡ 0 → table ≡ replicate n 0 → (sector : ℕ)
     → place_of none sector ≡ place_of table sector
 new_place n none table empty zeroes sector = grind (arith, place_past, first_place)
 
--- and tables without places have the same content
 pub start_opened : (calls : List Call) (none others : List ℕ) → length none ≡ 0 → others ≡ []
     → content_at calls none ≡ content_at calls others
 start_opened calls none others empty is = grind (arith, same_content, place_past)
 
--- what holds of the fields holds when the tables are made
+-- an empty table gives the index 0 for each sector, so a table of zeroes changes nothing
 pub kept_opened : (sectors : ℕ) (calls : List Call) (newest base places others : List ℕ)
     (begun synced : ℕ) (flushed : Bool)
     → IsKept sectors calls newest base begun synced flushed → length newest ≡ 0
@@ -64,8 +58,6 @@ kept_opened sectors calls newest base places others begun synced flushed kept em
     bare =
     grind (arith, length-replicate, whole_table, place_past, start_opened, new_place)
 
--- calls that were there stay as they were when one is added:
--- their values, what came before, whether they are open
 call-kept : (calls : List Call) (call : Call) (place : ℕ) → place < length calls
     → slice_get (calls ++ call ∷ []) place ≡ slice_get calls place
 call-kept calls call place h = slice_get-append_front calls (call ∷ []) place h
@@ -86,7 +78,6 @@ within-kept : (calls : List Call) (call : Call) (place : ℕ) → place < length
     → nat_lt place (length (calls ++ call ∷ [])) ≡ nat_lt place (length calls)
 within-kept calls call place h = grind (arith, lt-ltb, length-snoc)
 
--- so a chain stays a chain
 chain-kept : (calls : List Call) (call : Call) (synced sector n place : ℕ)
     → is_chain calls synced sector n place ≡ true
     → is_chain (calls ++ call ∷ []) synced sector n place ≡ true
@@ -114,7 +105,6 @@ chain-kept calls call synced sector (suc (suc n)) place e =
         → is_chain calls synced sector (suc n) (before_at calls place sector) ≡ true
     rest e = grind (arith, and_parts)
 
--- with the same values
 back-kept : (calls : List Call) (call : Call) (synced sector n place : ℕ)
     → is_chain calls synced sector n place ≡ true
     → back (calls ++ call ∷ []) sector n place ≡ back calls sector n place
@@ -134,7 +124,6 @@ back-kept calls call synced sector (suc (suc n)) place e =
         → is_chain calls synced sector (suc n) (before_at calls place sector) ≡ true
     rest e = grind (arith, and_parts)
 
--- a sector that the new call leaves alone stays placed
 pub placed-kept : (calls : List Call) (call : Call) (synced sector place : ℕ) (now : List ℕ)
     (may : List (List ℕ))
     → IsPlaced calls synced sector place now may
@@ -142,36 +131,32 @@ pub placed-kept : (calls : List Call) (call : Call) (synced sector place : ℕ) 
 placed-kept calls call synced sector place now may placed =
     grind (arith, value-kept, chain-within, back-kept, chain-kept, length-snoc)
 
--- the steps of the calls that were there stay
 steps-kept : (calls : List Call) (call : Call) (begun n : ℕ) → begun + n ≤ length calls
     → steps_of (calls ++ call ∷ []) begun n ≡ steps_of calls begun n
 steps-kept calls call begun zero h = refl
 steps-kept calls call begun (suc n) h =
     grind (arith, steps-kept calls call begun n (omega arith), call-kept)
 
--- and the new one's comes first
 pub past-put : (calls : List Call) (call : Call) (begun : ℕ) → begun ≤ length calls
     → past_of (calls ++ call ∷ []) begun false
     ≡ Puts (values_of call) call.fua ∷ past_of calls begun call.after_flush
 past-put calls call begun h =
-    let n = length calls - begun in
-    let more = length-snoc calls call in
-    let count : length (calls ++ call ∷ []) - begun ≡ suc n = omega arith in
-    let last : begun + n ≡ length calls = omega arith in
-    ap (steps_of (calls ++ call ∷ []) begun) count
-    ∙ ap (λ (p : ℕ). step_after (slice_get (calls ++ call ∷ []) p)
-    (steps_of (calls ++ call ∷ []) begun n)) last
-    ∙ ap (λ (o : Option Call). step_after o (steps_of (calls ++ call ∷ []) begun n))
-    (slice_get-append_here calls call [])
-    ∙ ap (λ (steps : List Step). Puts (values_of call) call.fua ∷ flushed_if call.after_flush steps)
-    (steps-kept calls call begun n (omega arith))
+    grind (
+      arith,
+      length calls - begun,
+      length-snoc calls call,
+      length (calls ++ call ∷ []) -
+          begun,
+      suc (length calls - begun),
+      length calls,
+      slice_get-append_here calls call [],
+      steps-kept calls call begun (length calls - begun) (omega arith),
+    )
 
--- the start stays
 pub start-put : (calls : List Call) (call : Call) (base : List ℕ) → AreWithin calls base
     → content_at (calls ++ call ∷ []) base ≡ content_at calls base
 start-put calls call base within = grind (arith, same_content, value-kept)
 
--- the value of a call within its range, and none outside
 values-in : (call : Call) (sector : ℕ) → call.first ≤ sector
     → sector < call.first + count_of call.change
     → (value : List ℕ) × (values_of call sector ≡ Some value)
@@ -208,11 +193,9 @@ values-out call sector outside = at call.change outside
     at (Image bytes) side = without (length bytes / 512) (sector_of bytes) side
     at (Discard count) side = without count (λ _. replicate 512 0) side
 
--- the new call stands last
 here : (calls : List Call) (call : Call) → slice_get (calls ++ call ∷ []) (length calls) ≡ Some call
 here calls call = slice_get-append_here calls call []
 
--- a chain grows by an open call
 chain-more : (calls : List Call) (synced sector n place before : ℕ) → place < length calls
     → is_open calls synced place ≡ true
     → before_at calls place sector ≡ before → is_chain calls synced sector n before ≡ true
@@ -220,13 +203,11 @@ chain-more : (calls : List Call) (synced sector n place before : ℕ) → place 
 chain-more calls synced sector zero place before within opens is e = grind arith
 chain-more calls synced sector (suc n) place before within opens is e = grind (arith, lt-ltb)
 
--- a durable call is a chain by itself
 pub chain-alone : (calls : List Call) (synced sector place : ℕ) → place < length calls
     → is_open calls synced place ≡ false
     → is_chain calls synced sector 1 place ≡ true
 chain-alone calls synced sector place within closed = grind (arith, lt-ltb)
 
--- a sector of the new call is placed at it
 placed-new : (calls : List Call) (call : Call) (synced sector before : ℕ) (now value : List ℕ)
     (may : List (List ℕ))
     → IsPlaced calls synced sector before now may → synced ≤ length calls
@@ -274,14 +255,13 @@ placed-new calls call synced sector before now value may placed low is came = at
           few = let h = placed.few in let more = length-snoc calls call in omega arith;
         }
 
--- what came before the new call at one of its sectors is the sector's place
+-- `before`, which the call stores, has the indices that `newest` had for the call's sectors
 came-before : (newest before : List ℕ) (first count sector : ℕ)
     → before ≡ take count (drop first newest) → first ≤ sector → sector < first + count
     → unwrap_or (slice_get before (sector - first)) 0 ≡ place_of newest sector
 came-before newest before first count sector is low high =
     grind (arith, unwrap_or-slice_get, get_or, get_or-take, get_or-drop)
 
--- the cache after the new call
 cache-put : (calls : List Call) (call : Call) (base : List ℕ) (begun : ℕ) (flushed : Bool)
     → begun ≤ length calls → AreWithin calls base
     → call.after_flush ≡ flushed
@@ -292,7 +272,6 @@ cache-put calls call base begun flushed within base_within after =
     rw (start-put calls call base base_within) (ap (cache_after (content_at calls base))
     (past-put calls call begun within) ∙ rw after)
 
--- what holds of the fields holds when a call is added
 pub kept-put : (sectors : ℕ) (calls : List Call) (newest filled base : List ℕ) (begun synced : ℕ)
     (flushed : Bool) (call : Call)
     → IsKept sectors calls newest base begun synced flushed → length newest ≡ sectors
@@ -362,7 +341,7 @@ kept-put sectors calls newest filled base begun synced flushed call kept opened 
           ]
         ]
 
--- the same, for calls that are these
+-- For the prover: as `kept-put`, with equations for `all` and `count`
 pub kept_added : (sectors : ℕ) (calls all : List Call) (newest filled base : List ℕ)
     (begun synced count : ℕ) (flushed : Bool) (call : Call)
     → all ≡ calls ++ call ∷ [] → IsKept sectors calls newest base begun synced flushed
@@ -391,14 +370,12 @@ pub start_added : (calls all : List Call) (call : Call) (base : List ℕ) → al
 start_added calls all call base added within =
     rw added (start-put calls call base within)
 
--- a sector of durable newest call is placed with its value alone
 placed-alone : (calls : List Call) (synced sector place : ℕ) → place < length calls
     → is_open calls synced place ≡ false
     → IsPlaced calls synced sector place (value_at calls place sector)
     (value_at calls place sector ∷ [])
 placed-alone calls synced sector place within closed = grind (arith, chain-alone)
 
--- after a flush no call is open
 all-closed : (calls : List Call) (place : ℕ) → place < length calls
     → is_open calls (length calls) place ≡ false
 all-closed calls place within =
@@ -408,7 +385,6 @@ all-closed calls place within =
     above true e = absurd (let low = leb-true (length calls) place e in omega arith)
     above false e = refl
 
--- what holds of the fields holds after a flush
 pub kept_flushed : (sectors : ℕ) (calls : List Call) (newest base : List ℕ) (begun synced : ℕ)
     (flushed : Bool)
     → IsKept sectors calls newest base begun synced flushed
@@ -432,21 +408,9 @@ kept_flushed sectors calls newest base begun synced flushed kept = record {
         → IsPlaced calls (length calls) sector (place_of newest sector)
         ((cache_of calls base begun true).now sector) ((cache_of calls base begun true).may sector)
     each b sector old =
-        let place = place_of newest sector in
-        let within =
-        chain-within calls synced sector
-        (length ((cache_of calls base begun b).may sector)) place old.chain in
-        let Placed : List ℕ → Type 0 =
-        λ value. IsPlaced calls (length calls) sector place value (value ∷ []) in
-        subst Placed (old.value ∙ same b)
-        (placed-alone calls (length calls) sector place within (all-closed calls place within))
-      where
-        same : (b : Bool) → (cache_of calls base begun b).now sector
-            ≡ (cache_of calls base begun true).now sector
-        same true = refl
-        same false = refl
+        grind (arith, chain-within, length, placed-alone, all-closed, true, false)
 
--- the same, for a count of the calls
+-- For the prover: as `kept_flushed`, with an equation for `count`
 pub kept_synced : (sectors : ℕ) (calls : List Call) (newest base : List ℕ) (begun synced count : ℕ)
     (flushed : Bool)
     → IsKept sectors calls newest base begun synced flushed → count ≡ length calls
@@ -454,7 +418,7 @@ pub kept_synced : (sectors : ℕ) (calls : List Call) (newest base : List ℕ) (
 kept_synced sectors calls newest base begun synced count flushed kept is =
     grind (arith, kept_flushed)
 
--- after a crash, when the past begins anew with these places
+-- after a crash, the past begins with `places`, and all calls are durable
 pub kept_begun : (sectors : ℕ) (calls : List Call) (places : List ℕ) → 0 < sectors
     → sectors ≤ 1048576 → is_table sectors (length places) ≡ true
     → AreWithin calls places
@@ -470,18 +434,8 @@ kept_begun sectors calls places some few table within = record {
   synced_now = λ is. refl;
   base_within = within;
   placed =
-      let none : length calls - length calls ≡ 0 = omega arith in
-      let Placed : ℕ → Type 0 =
-      λ n. ArePlaced calls (length calls) sectors places
-      (cache_after (content_at calls places) (steps_of calls (length calls) n)) in
-      subst Placed (sym none) (record {
-        each = λ sector h.
-            let place = place_of places sector in
-            placed-alone calls (length calls) sector place (within.each sector)
-            (all-closed calls place (within.each sector));
-      });
+      grind (arith, length, placed-alone, all-closed);
 }
 
--- no call came since the past began
 pub past_begun : (calls : List Call) → past_of calls (length calls) false ≡ []
 past_begun calls = grind arith

@@ -1,4 +1,5 @@
--- The values of sectors after calls, and the image that a disk returns.
+-- Laws of the values of sectors, of each sector's chain of calls, and of the image that a disk
+-- returns.
 use Rattle.std.proofs.Common.{◌/◌, ◌<◌, ◌≤◌, Some, None, ◌&&◌, Bool, false, [], ◌∷◌, ◌++◌, length}
 use Rattle.std.proofs.Common.{take, drop, ◌≡◌, ℕ, suc, zero, ◌+◌, ◌-◌, ◌*◌, replicate, ap, refl}
 use Rattle.std.proofs.Common.{sym, ◌∙◌, inl, inr, arith, true, get_or, List}
@@ -21,41 +22,34 @@ use Rattle.sector_disk.specs.inside.Storage.{is_chain, is_image_in, is_open, is_
 use Rattle.sector_disk.specs.inside.Storage.{place_of, put_over, value_at, value_in, values_of}
 use Rattle.sector_disk.specs.inside.Storage.{walk}
 
--- The image that a disk returns: that of its first call, and over it the values of later calls.
-
--- a write from the first sector on leaves its bytes
 pub written_whole : (bytes : List ℕ) (sector : ℕ) → sector < length bytes / 512
     → unwrap_or (writes 0 bytes sector) (replicate 512 0) ≡ sector_of bytes sector
 written_whole bytes sector within =
     let place : sector ≡ 0 + sector = omega arith in
-    ap (λ (s : ℕ). unwrap_or (writes 0 bytes s) (replicate 512 0)) place
+    grind (arith, place)
     ∙ ap (λ (o : Option (List ℕ)). unwrap_or o (replicate 512 0))
     (over-in 0 (length bytes / 512) (sector_of bytes) sector within)
 
--- a sector of a later call is as that left it
 pub left_later : (later : List Call) (image : List ℕ) (place sector : ℕ) → 0 < place
     → left_at later image place sector ≡ value_at later (place - 1) sector
 left_later later image zero sector some = absurd (omega arith)
 left_later later image (suc place) sector some = grind arith
 
--- a sector of the first call is the image's
 pub left_first : (later : List Call) (image : List ℕ) (place sector : ℕ) → (0 < place → ⊥)
     → left_at later image place sector ≡ sector_of image sector
 left_first later image zero sector none = refl
 left_first later image (suc place) sector none = absurd (none (omega arith))
 
--- what stands behind a sector stays where all from it on does
 pub rest-next : (index : ℕ) (old first : List ℕ) → drop (512 * index) old ≡ drop (512 * index) first
     → drop (512 * (index + 1)) old ≡ drop (512 * (index + 1)) first
 rest-next index old first rest =
     let place : 512 * (index + 1) ≡ 512 * index + 512 = omega arith in
-    ap (λ (n : ℕ). drop n old) place
+    grind (arith, place)
     ∙ sym (drop-drop 512 (512 * index) old)
     ∙ ap (drop 512) rest
     ∙ drop-drop 512 (512 * index) first
     ∙ ap (λ (n : ℕ). drop n first) (sym place)
 
--- and where the sector itself was put
 pub rest-put : (index : ℕ) (old first value : List ℕ) → 512 * (index + 1) ≤ length old
     → length value ≡ 512
     → drop (512 * index) old ≡ drop (512 * index) first
@@ -63,7 +57,6 @@ pub rest-put : (index : ℕ) (old first value : List ℕ) → 512 * (index + 1) 
     ≡ drop (512 * (index + 1)) first
 rest-put index old first value within size rest = grind (arith, drop-put_mid, rest-next)
 
--- the next sector stays as the image has it
 pub gather-kept : (content : Content) (index : ℕ) (old first : List ℕ)
     → drop (512 * index) old ≡ drop (512 * index) first
     → content index ≡ sector_of first index → take (512 * index) old ≡ gather content 0 index
@@ -72,14 +65,14 @@ gather-kept content index old first rest is earlier =
     let place : 512 * (index + 1) ≡ 512 * index + 512 = omega arith in
     let more : suc index ≡ index + 1 = omega arith in
     let from : index ≡ 0 + index = omega arith in
-    ap (λ (n : ℕ). take n old) place
+    grind (arith, place)
     ∙ take-add (512 * index) 512 old
     ∙ ap (λ (xs : List ℕ). xs ++ take 512 (drop (512 * index) old)) earlier
     ∙ ap (λ (xs : List ℕ). gather content 0 index ++ take 512 xs) rest
     ∙ ap (λ (xs : List ℕ). gather content 0 index ++ xs) (sym is ∙ ap content from)
     ∙ ap (gather content 0) more
 
--- an image over which later calls were put is the content
+-- the image that the first call wrote, with later calls' values put over it, is the content
 pub given : (calls : List Call) (places : List ℕ) (sectors : ℕ) (first : Call)
     (bytes image : List ℕ) → first ≡ get_or calls 0 first
     → first.change ≡ Write bytes → image ≡ bytes
@@ -115,9 +108,6 @@ given (call ∷ later) places sectors first bytes image at is same covers =
         grind (arith, size_is, zero_is, change_is, written_whole)
     each (suc place) sector within = grind (arith, take_all)
 
--- The values of sectors after a write or a discard, and the bytes of sectors that are read in turn.
-
--- a sector before or after a write's range has no bytes of it
 pub written-none : (first sector : ℕ) (bytes : List ℕ)
     → (sector < first) ⊎ (length bytes / 512 ≤ sector - first) → writes first bytes sector ≡ None
 written-none first sector bytes outside = elim outside [
@@ -128,7 +118,6 @@ written-none first sector bytes outside = elim outside [
     early : length bytes / 512 ≤ sector - first → writes first bytes sector ≡ None
     early after = grind (arith, cases_lt, over-before, over-after)
 
--- a sector within it has its part
 pub written-some : (first sector : ℕ) (bytes : List ℕ) → first ≤ sector
     → sector - first < length bytes / 512
     → writes first bytes sector ≡ Some (take 512 (drop ((sector - first) * 512) bytes))
@@ -139,12 +128,11 @@ written-some first sector bytes low high =
     ∙ over-in first (length bytes / 512) (sector_of bytes) (sector - first) high
     ∙ ap (λ (n : ℕ). Some (take 512 (drop n bytes))) from
 
--- a discard leaves zeroes, where it has no value too
+-- a sector outside the discarded range is zeroes too, since that is the default
 pub discarded : (first count sector : ℕ)
     → unwrap_or (discards first count sector) (replicate 512 0) ≡ replicate 512 0
 discarded first count sector = grind (arith, over_cases, over-in)
 
--- the next sector that is read comes after those before it
 pub gather-next : (content : Content) (first index : ℕ) (old new value : List ℕ)
     → 512 * (index + 1) ≤ length old → length value ≡ 512
     → new ≡ put_mid (index * 512) (index * 512 + 512 - index * 512) old value
@@ -154,7 +142,6 @@ pub gather-next : (content : Content) (first index : ℕ) (old new value : List 
 gather-next content first index old new value within size is read earlier =
     grind (arith, take-put_mid)
 
--- each value of a call is a whole sector
 pub length-value_at : (calls : List Call) (place sector : ℕ)
     → length (value_at calls place sector) ≡ 512
 length-value_at calls place sector = at (slice_get calls place)
@@ -176,23 +163,18 @@ length-value_at calls place sector = at (slice_get calls place)
     at None = refl
     at (Some call) = there (values_of call sector) (values call sector)
 
--- Laws of the chain of a sector's calls, from its newest back to the durable one.
-
--- the parts of a chain of several
 chain_parts : (calls : List Call) (synced s n place : ℕ)
     → is_chain calls synced s (suc (suc n)) place ≡ true
     → (nat_lt place (length calls) ≡ true) × (is_open calls synced place ≡ true)
     × (is_chain calls synced s (suc n) (before_at calls place s) ≡ true)
 chain_parts calls synced s n place e = grind (arith, and_parts)
 
--- a chain begins within the calls
 pub chain-within : (calls : List Call) (synced s n place : ℕ)
     → is_chain calls synced s n place ≡ true → place < length calls
 chain-within calls synced s zero place e = let never : ⊥ = cc in absurd never
 chain-within calls synced s (suc zero) place e = grind (arith, ltb-true, and_parts)
 chain-within calls synced s (suc (suc n)) place e = grind (arith, ltb-true, chain_parts)
 
--- an open call isn't the last of a chain
 pub chain-open : (calls : List Call) (synced s n place : ℕ) → is_chain calls synced s n place ≡ true
     → is_open calls synced place ≡ true
     → (1 < n) × (is_chain calls synced s (n - 1) (before_at calls place s) ≡ true)
@@ -205,14 +187,12 @@ chain-open calls synced s (suc (suc n)) place e open_there =
       rw less parts.2,
     )
 
--- a durable one is
 pub chain-closed : (calls : List Call) (synced s n place : ℕ)
     → is_chain calls synced s n place ≡ true → is_open calls synced place ≡ false → n ≡ 1
 chain-closed calls synced s zero place e closed = let never : ⊥ = cc in absurd never
 chain-closed calls synced s (suc zero) place e closed = refl
 chain-closed calls synced s (suc (suc n)) place e closed = grind (arith, chain_parts)
 
--- each call of a chain is within the calls
 pub walk-within : (calls : List Call) (synced s n place k : ℕ)
     → is_chain calls synced s n place ≡ true → k < n → walk calls s k place < length calls
 walk-within calls synced s n place zero e h = chain-within calls synced s n place e
@@ -222,13 +202,11 @@ walk-within calls synced s (suc (suc n)) place (suc k) e h =
     walk-within calls synced s (suc n) (before_at calls place s) k
     (chain_parts calls synced s n place e).2 (omega arith)
 
--- so many values are that many
 pub length-back : (calls : List Call) (s n place : ℕ) → length (back calls s n place) ≡ n
 length-back calls s zero place = refl
 length-back calls s (suc n) place =
     grind (arith, length-back calls s n (before_at calls place s), length-snoc)
 
--- each of them is the value of the call that is so many back
 pub back-at : (calls : List Call) (s n place j : ℕ) → j < n
     → slice_get (back calls s n place) j ≡ Some (value_at calls (walk calls s (n - 1 - j) place) s)
 back-at calls s zero place j h = absurd (omega arith)
@@ -250,14 +228,12 @@ back-at calls s (suc n) place j h = elim (last_or_below j n h) [
       ∙ ap (λ (k : ℕ). Some (value_at calls (walk calls s k place) s)) more
 ]
 
--- a candidate of a sector is the value of the call that is so many back
 pub candidate-value : (calls : List Call) (synced s place : ℕ) (now : List ℕ) (may : List (List ℕ))
     (j : ℕ)
     → IsPlaced calls synced s place now may → j < length may
     → value_at calls (walk calls s (length may - 1 - j) place) s ≡ unwrap_or (slice_get may j) []
 candidate-value calls synced s place now may j placed h = grind (arith, back-at)
 
--- which is within the calls
 pub candidate-within : (calls : List Call) (synced s place : ℕ) (now : List ℕ) (may : List (List ℕ))
     (j : ℕ)
     → IsPlaced calls synced s place now may → j < length may

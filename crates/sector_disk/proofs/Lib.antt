@@ -1,4 +1,4 @@
--- The lemmas of `sector_disk`; the proof of a function is in the folder of its source file.
+-- The lemmas of `sector_disk`. The proof of each function is in the folder of its source file.
 pub mod FieldsKept
 pub mod DeviceLaw
 pub mod NewPast

@@ -1,5 +1,5 @@
--- The past of a disk begins when it is made, and at a crash.
--- A step of `choose`: the next sector gets the index of the call whose value its pick names.
+-- The past of a disk begins when the disk is made, and at a crash with the values that the picks
+-- choose.
 use Rattle.std.proofs.Common.{replicate, refl, ap, subst, sym, ◌∙◌, inl, inr, arith, ◌≡◌, ℕ, suc}
 use Rattle.std.proofs.Common.{zero, ◌+◌, ◌-◌, ◌%◌, ◌/◌, ◌<◌, ◌≤◌, ◌&&◌, Bool, false, true, List, []}
 use Rattle.std.proofs.Common.{◌∷◌, ◌++◌, length}
@@ -24,7 +24,6 @@ use Rattle.sector_disk.specs.inside.Storage.{AreChosen, ArePlaced, AreWithin, Is
 use Rattle.sector_disk.specs.inside.Storage.{is_chain, is_open, is_plain, is_table, past_of}
 use Rattle.sector_disk.specs.inside.Storage.{place_of, value_at, values_of, walk}
 
--- a place that was set, and the others
 pub place_of-set_same : (places : List ℕ) (sector place : ℕ) → sector < length places
     → place_of (set places sector place) sector ≡ place
 place_of-set_same places sector place h = grind (arith, unwrap_or-slice_get, get_or-set_same)
@@ -34,13 +33,11 @@ pub place_of-set_other : (places : List ℕ) (sector place other : ℕ) → othe
 place_of-set_other places sector place other h =
     grind (arith, unwrap_or-slice_get, get_or-set_other)
 
--- a chain isn't empty
 chain-some : (calls : List Call) (synced s n place : ℕ) → is_chain calls synced s n place ≡ true
     → 0 < n
 chain-some calls synced s zero place e = let never : ⊥ = cc in absurd never
 chain-some calls synced s (suc n) place e = omega arith
 
--- how many candidates a sector has, as they are counted
 counted : (calls : List Call) (synced : ℕ) (newest : List ℕ) (sector count : ℕ) (cache : Cache)
     → ArePlaced calls synced (length newest) newest cache → sector < length newest
     → ((n : ℕ) → n ≤ length calls → is_chain calls synced sector n (get_or newest sector 0) ≡ true
@@ -48,7 +45,6 @@ counted : (calls : List Call) (synced : ℕ) (newest : List ℕ) (sector count :
     → count ≡ length (cache.may sector)
 counted calls synced newest sector count cache placed h counts = grind (arith, unwrap_or-slice_get)
 
--- the unsynced sectors, with the next one
 pub unsynced-next : (calls : List Call) (synced : ℕ) (newest : List ℕ)
     (sector count unsynced next : ℕ) (cache : Cache)
     → ArePlaced calls synced (length newest) newest cache → sector < length newest
@@ -68,7 +64,6 @@ unsynced-next calls synced newest sector count unsynced next cache placed h coun
     at (inl many) is = grind (arith, lt-ltb)
     at (inr few) is = grind (arith, le-ltb)
 
--- the next sector has the place of the candidate that the picks give it
 pub chosen-next : (calls : List Call) (synced : ℕ) (newest picks chosen : List ℕ)
     (sector count unsynced pick place : ℕ) (cache : Cache)
     → ArePlaced calls synced (length newest) newest cache → sector < length newest
@@ -92,7 +87,7 @@ chosen-next calls synced newest picks chosen sector count unsynced pick place ca
     let pick_is : pick % count ≡ choice =
     ap (λ (n : ℕ). pick % n) is
     ∙ ap (λ (n : ℕ). n % length may)
-    (picked ∙ ap (λ (n : ℕ). unwrap_or (slice_get picks n) 0) before) in
+    (grind (arith, picked, before)) in
     let place_is : place ≡ walk calls sector (length may - 1 - choice) start =
     found
     ∙ ap (λ (n : ℕ). walk calls sector (n - 1 - pick % count) (get_or newest sector 0)) is
@@ -106,26 +101,18 @@ chosen-next calls synced newest picks chosen sector count unsynced pick place ca
     record {
       value = λ other less. elim (last_or_below other sector (omega arith)) [
         | inl last ↦
-            ap (λ (n : ℕ). value_at calls (place_of (set chosen sector place) n) n) last
-            ∙ ap (λ (n : ℕ). value_at calls n sector) set_is ∙ value
-            ∙ ap (left_by cache picks) (sym last)
+            grind (arith, last, set_is, value, ap (left_by cache picks) (sym last))
         | inr below ↦
-            ap (λ (n : ℕ). value_at calls n other)
-            (place_of-set_other chosen sector place other below) ∙ earlier.value other below
+            grind (arith, place_of-set_other)
       ];
       within = λ other less. elim (last_or_below other sector (omega arith)) [
         | inl last ↦
-            let there = ap (place_of (set chosen sector place)) last ∙ set_is in
-            omega arith
+            grind (arith, set)
         | inr below ↦
-            let there = place_of-set_other chosen sector place other below in
-            let old = earlier.within other below in
-            omega arith
+            grind (arith, place_of-set_other)
       ];
     }
 
--- the first call is durable where a flush came after it, so
--- a sector with its place has no other candidate
 chain-one : (calls : List Call) (synced s n place : ℕ) → is_open calls synced place ≡ false
     → is_chain calls synced s n place ≡ true → n ≡ 1
 chain-one calls synced s zero place closed e = let never : ⊥ = cc in absurd never
@@ -141,7 +128,7 @@ first-closed calls synced place some is =
     above true e = absurd (let low = leb-true synced place e in omega arith)
     above false e = refl
 
--- so where there is no table each sector keeps what it has
+-- without a table, each sector has the first call's value, which is durable and its only candidate
 pub first_chosen : (calls : List Call) (synced sectors : ℕ) (newest picks chosen : List ℕ)
     (cache : Cache) → length newest ≡ 0 → length chosen ≡ 0
     → 0 < synced → ArePlaced calls synced sectors newest cache
@@ -151,7 +138,6 @@ first_chosen calls synced sectors newest picks chosen cache none empty some plac
   within = λ s h. let is = start s h in let low = (candidate s h).1 in omega arith;
 }
   where
-    -- its place is the one that no pick changes
     back : (s : ℕ) → s < sectors → length (cache.may s) - 1 - choice_of cache picks s ≡ 0
     back s h = grind (arith, chain-one, first-closed, place_past)
 
@@ -171,12 +157,10 @@ first_chosen calls synced sectors newest picks chosen cache none empty some plac
     candidate s h =
         grind (arith, chain-some, mod-lt, candidate-value, candidate-within)
 
--- a past that begins with a content begins with an equal one
 pub begins_same : (n : ℕ) (c d : Content) (v : View) → ((s : ℕ) → s < n → c s ≡ d s) → Begins n c v
     → Begins n d v
 begins_same n c d v same begins = grind arith
 
--- a disk with no past begins
 begins_fresh : (n : ℕ) (start content : Content) → ((s : ℕ) → s < n → start s ≡ content s)
     → Begins n content (view_of n start [])
 begins_fresh n start content same = record {
@@ -186,7 +170,6 @@ begins_fresh n start content same = record {
   moment = refl;
 }
 
--- a disk that is one call begins with its values over zeroes
 pub begins_made : (sectors n : ℕ) (calls none : List Call) (base : List ℕ) (call : Call)
     → calls ≡ none ++ call ∷ [] → none ≡ [] → base ≡ [] → sectors ≡ n
     → Begins n (put (values_of call) (λ _. replicate 512 0))
@@ -203,14 +186,12 @@ begins_made sectors n calls none base call one empty bare same =
     (put (values_of call) (λ _. replicate 512 0)) (λ s h.
     ap (λ (places : List ℕ). value_at (call ∷ []) (place_of places s) s) bare)))
 
--- what a disk of zeroes begins with
 pub zeroes_made : (n : ℕ) (v : View) → Begins n (put (discards 0 n) (λ _. replicate 512 0)) v
     → Begins n (λ _. replicate 512 0) v
 zeroes_made n v =
     begins_same n (put (discards 0 n) (λ _. replicate 512 0)) (λ _. replicate 512 0) v
     (λ s h. discarded 0 n s)
 
--- what a disk of an image begins with
 pub image_made : (bytes : List ℕ) (v : View)
     → Begins (length bytes / 512) (put (writes 0 bytes) (λ _. replicate 512 0)) v
     → Begins (length bytes / 512) (sector_of bytes) v
@@ -221,7 +202,6 @@ image_made bytes v =
     put-writes 0 bytes (λ _. replicate 512 0) s (omega arith) (omega arith)
     ∙ ap (sector_of bytes) same)
 
--- what was chosen of a disk
 pub chosen_of : (disk : SectorDisk) (calls : List Call) (newest picks chosen : List ℕ)
     → calls ≡ disk.calls.items → newest ≡ disk.newest.items
     → length chosen ≡ length newest
@@ -252,14 +232,12 @@ chosen_of disk calls newest picks chosen same_calls same_newest size choice =
           ))
     ]
 
--- the places that were chosen are those of calls
 chosen-within : (disk : SectorDisk) (picks chosen : List ℕ)
     → AreChosen disk.calls.items (cache_of disk) picks disk.sectors chosen
     → is_table disk.sectors (length chosen) ≡ true
     → AreWithin disk.calls.items chosen
 chosen-within disk picks chosen choice table = grind (arith, cases_lt, place_past, table_cases)
 
--- what holds of the fields holds after a crash
 pub kept_chosen : (disk : SectorDisk) (picks newest chosen : List ℕ) (count : ℕ)
     → AreChosen disk.calls.items (cache_of disk) picks disk.sectors chosen
     → is_table disk.sectors (length chosen) ≡ true → newest ≡ chosen
@@ -268,7 +246,6 @@ pub kept_chosen : (disk : SectorDisk) (picks newest chosen : List ℕ) (count : 
 kept_chosen disk picks newest chosen count choice table same is =
     grind (arith, kept_begun, chosen-within)
 
--- a crash leaves what its picks name
 pub begins_chosen : (disk : SectorDisk) (picks chosen : List ℕ) (count : ℕ)
     → AreChosen disk.calls.items (cache_of disk) picks disk.sectors chosen
     → count ≡ length disk.calls.items

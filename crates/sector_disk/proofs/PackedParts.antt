@@ -1,4 +1,4 @@
--- Laws of packed sectors: of one sector, of one more, and of all sectors of an image.
+-- Laws of packed sectors and of the pieces of an image.
 use Rattle.std.proofs.Common.{append_assoc, replicate, sym, take, Some, ap, arith, drop, get_or}
 use Rattle.std.proofs.Common.{inl, inr, length, length-append, length-drop, refl, ◌≡◌, ℕ, suc, zero}
 use Rattle.std.proofs.Common.{◌+◌, ◌-◌, ◌*◌, ◌/◌, ◌%◌, ◌<◌, ◌≤◌, List, [], ◌∷◌, ◌++◌, ◌∙◌}
@@ -17,7 +17,7 @@ use Rattle.sector_disk.specs.inside.Packed.{AreParts, IsPackedTo, IsPart, packed
 use Rattle.sector_disk.specs.inside.Packed.{unpacked}
 use Rattle.sector_disk.specs.inside.Pieces.{AreWhole, joined}
 
--- the first byte of those at a sector's end that are all the same fills the others
+-- if equal bytes end the sector, the first of them is enough to refill it
 refilled_at : (sector : List ℕ) (n last : ℕ) → length sector ≡ 512 → n < 512
     → drop n sector ≡ replicate (512 - n) last → refilled (take (n + 1) sector) ≡ sector
 refilled_at sector n last size less same =
@@ -25,7 +25,7 @@ refilled_at sector n last size less same =
     let place : n + 1 - 1 ≡ n = omega arith in
     let first : n + 0 ≡ n = omega arith in
     let here : get_or (take (n + 1) sector) (n + 1 - 1) 0 ≡ last =
-    ap (λ (k : ℕ). get_or (take (n + 1) sector) k 0) place
+    grind (arith, place)
     ∙ get_or-take (n + 1) sector n 0 (omega arith)
     ∙ ap (λ (k : ℕ). get_or sector k 0) (sym first)
     ∙ sym (get_or-drop n sector 0 0)
@@ -45,17 +45,14 @@ pub refilled_held : (sector : List ℕ) (n held last : ℕ) → length sector �
 refilled_held sector n held last size within is same =
     grind (arith, cases_lt, refilled_at, take_all, append-nil)
 
--- a part stays where it is when bytes are appended
 front : (bytes more : List ℕ) (from to : ℕ) → from ≤ to → to ≤ length bytes
     → slice_range (bytes ++ more) from to ≡ slice_range bytes from to
 front bytes more from to order within = grind (arith, drop-append-le, take-append-le, length-drop)
 
--- and what is appended is the part behind it
 seam : (bytes part : List ℕ) (from to : ℕ) → from ≡ length bytes → to ≡ length bytes + length part
     → slice_range (bytes ++ part) from to ≡ part
 seam bytes part from to begins ends = grind (arith, drop-append_seam, take_all)
 
--- one more sector is packed
 pub packed_more : (image bytes bounds part : List ℕ) (end count : ℕ)
     → IsPackedTo image bytes bounds count
     → length part ≤ 512 → refilled part ≡ sector_of image count → end ≡ length bytes + length part
@@ -99,7 +96,6 @@ packed_more image bytes bounds part end count earlier few is ends_at = record {
               )
         ]
 
--- all sectors of an image are packed
 pub packed_all : (image bytes bounds : List ℕ) (count : ℕ) → length image ≡ 512 * count
     → IsPackedTo image bytes bounds count
     → unpacked bytes bounds ≡ image
@@ -112,30 +108,25 @@ packed_all image bytes bounds count size done =
     ∙ gather-sector_of image 0 count
     ∙ take_all (512 * count) image (omega arith)
 
--- each sector that is packed is whole
 pub packed_whole : (bytes bounds : List ℕ) → AreParts bytes bounds
     → HasWholeSectors (length bounds - 1) (packed bytes bounds)
 packed_whole bytes bounds parts =
     grind (arith, length-take-le, length-drop, length-append, length-replicate)
 
--- how many bytes they are
 pub length-unpacked : (bytes bounds : List ℕ) → AreParts bytes bounds
     → length (unpacked bytes bounds) ≡ 512 * (length bounds - 1)
 length-unpacked bytes bounds parts = grind (arith, length-gather, packed_whole)
 
--- the sector at a place of them
 pub sector_there : (bytes bounds : List ℕ) (from : ℕ) → AreParts bytes bounds → from % 512 ≡ 0
     → from / 512 + 1 < length bounds
     → take 512 (drop from (unpacked bytes bounds)) ≡ packed bytes bounds (from / 512)
 sector_there bytes bounds from parts place within =
     let at : from ≡ 512 * (from / 512) = omega arith in
-    ap (λ (n : ℕ). take 512 (drop n (unpacked bytes bounds))) at
+    grind (arith, at)
     ∙ sector_of-gather (length bounds - 1) (packed bytes bounds)
     (packed_whole bytes bounds parts) (from / 512) (omega arith)
 
--- The piece that has a given sector of the bytes.
-
--- the sector at this place is in this piece, from this place of it on
+-- the sector at byte `from` of the joined pieces is in piece `k`, at byte `r` of it
 pub record LiesIn (pieces : List (List ℕ)) (from k r : ℕ) : Type 0 where
   pub piece : List ℕ
   pub is : slice_get pieces k ≡ Some piece
@@ -186,13 +177,11 @@ lies_in (p ∷ (q ∷ ps)) from (suc k) r place small whole within =
       part = ap (take 512) (later p (joined (q ∷ ps)) from full (omega arith)) ∙ there.part;
     }
 
--- the bytes of one more piece come after the others
 pub joined-more : (pieces : List (List ℕ)) (piece : List ℕ)
     → joined (pieces ++ piece ∷ []) ≡ joined pieces ++ piece
 joined-more [] piece = grind (arith, common_steps)
 joined-more (x ∷ xs) piece = grind (arith, joined-more xs piece, append_assoc)
 
--- one more piece may follow whole pieces
 pub AreWhole-more : (pieces : List (List ℕ)) (piece : List ℕ) → AreWhole pieces
     → length (joined pieces) % 65536 ≡ 0 → 0 < length piece → length piece ≤ 65536
     → AreWhole (pieces ++ piece ∷ [])

@@ -380,12 +380,11 @@ pick-there cache index (suc n) sector h many = elim (last_or_below sector n h) [
   | inl last ↦
       let more = picks_for cache index n in
       let unsynced : nat_lt 1 (length (cache.may n)) ≡ true =
-      ap (λ k. nat_lt 1 (length (cache.may k))) (sym last)
+      grind (arith, last)
       ∙ lt-ltb 1 (length (cache.may sector)) many in
       let place : unsynced_below cache sector ≡ length more =
       ap (unsynced_below cache) last ∙ sym (length-picks cache index n) in
-      ap (λ b. slice_get (more ++ (if b then index n ∷ [] else []))
-      (unsynced_below cache sector)) unsynced
+      grind (arith, unsynced)
       ∙ ap (slice_get (more ++ index n ∷ [])) place
       ∙ slice_get-append_here more (index n) []
       ∙ ap (λ k. Some (index k)) (sym last)
@@ -471,8 +470,4 @@ disk_lawful disk =
 
 -- The content of a disk has whole sectors.
 pub content_whole : (disk : SectorDisk) → HasWholeSectors disk.sectors (shown_of disk).content
-content_whole disk =
-    let lawful = disk_lawful disk in
-    let view = shown_of disk in
-    lawful.whole view.moment view.content (omega arith)
-    (lawful.nested view.moment view.content (omega arith) lawful.current)
+content_whole disk = grind (arith, disk_lawful disk)

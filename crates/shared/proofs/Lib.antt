@@ -1,4 +1,4 @@
--- The lemmas of `shared`. The proof of a function is in the folder of its source file.
+-- The lemmas of `shared`. The proof of each function is in the folder of its source file.
 pub mod ClosedLog
 pub mod PostedStatus
 mod Examples

@@ -494,6 +494,20 @@ A log that is too small, and a moment past the last event of its run.
   !   the run of script has 5 events; you asked for 99
   [1]
 
+A moment past the end of logging, which ended before the script did.
+
+  $ write script
+  > data 16
+  > log 3
+  > w a 5 1 41 fua
+  > c a
+  > turn
+  > close
+  $ dmlw --explain judge script 99 first
+  ! dmlw: 34 BadMoment
+  !   the run of script has 2 events before logging ended; you asked for 99
+  [1]
+
 A layer that ends past what stands beneath it, and a request past its top.
 
   $ write script

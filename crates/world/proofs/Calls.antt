@@ -1,5 +1,4 @@
--- What a step leaves unchanged, what each test of a step implies, and laws of the calls of a
--- machine.
+-- Laws of a machine's calls (submissions and ends), of their events, and of its lists of requests.
 use Rattle.std.proofs.Common.{Some, None, List, [], ◌∷◌, ◌++◌, refl, ap, sym, ◌∙◌, inl, inr, arith}
 use Rattle.std.proofs.Common.{◌≡◌, ℕ, ◌+◌, ◌-◌, zero, suc, ◌<◌, ◌==◌, Bool, true, false, not, ◌&&◌}
 use Rattle.std.proofs.Common.{◌||◌, Option}
@@ -20,20 +19,16 @@ use Rattle.world.specs.declared.step.Step.TheVariants.{Submit, Land, Destage, En
 use Rattle.world.specs.Machine.{before_submit, call_of, calls_below, each_sector, is_among, is_end}
 use Rattle.world.specs.Machine.{is_submit, with_sector}
 
--- Laws of the submissions and ends among a machine's calls, and of the events that they are for.
-
--- the step ends the request of this place with success
 abbrev pub is_good_end : ℕ → Step → Bool
 is_good_end id (End ended ok) = ended == id && ok
 is_good_end id _ = false
 
--- of these steps, newest first, one that passes `late` has one that passes `early` behind it
+-- the list, newest first, has a step that passes `late` and an older one that passes `early`
 abbrev pub came_before : (Step → Bool) → (Step → Bool) → List Step → Bool
 came_before early late [] = false
 came_before early late (call ∷ calls) =
     (late call && list_any early calls) || came_before early late calls
 
--- an end with success is an end
 pub good_end : (id : ℕ) (step : Step) → is_good_end id step ≡ true → is_end id step ≡ true
 good_end id (End ended ok) good = (and_parts (ended == id) ok good).0
 good_end id (Submit other) good = cc
@@ -41,7 +36,6 @@ good_end id (Land other sector) good = cc
 good_end id (Destage sector) good = cc
 good_end id Power good = cc
 
--- where one step of each kind is also of the other, a list with one has one
 pub any_weaker : (s t : Step → Bool) → ((step : Step) → s step ≡ true → t step ≡ true)
     → (steps : List Step) → list_any s steps ≡ true → list_any t steps ≡ true
 any_weaker s t weaker [] h = cc
@@ -50,7 +44,6 @@ any_weaker s t weaker (step ∷ steps) h = elim (or_cases (s step) (list_any s s
   | inr there ↦ or_second (t step) (list_any t steps) (any_weaker s t weaker steps there)
 ]
 
--- and so is what came before
 pub came_weaker : (s t late : Step → Bool) → ((step : Step) → s step ≡ true → t step ≡ true)
     → (steps : List Step)
     → came_before s late steps ≡ true → came_before t late steps ≡ true
@@ -58,51 +51,42 @@ came_weaker s t late weaker [] h = cc
 came_weaker s t late weaker (step ∷ steps) h =
     elim (or_cases (late step && list_any s steps) (came_before s late steps) h) [
       | inl here ↦
-          let parts = and_parts (late step) (list_any s steps) here in
-          ap (λ b. (b && list_any t steps) || came_before t late steps) parts.0
-          ∙ ap (λ b. b || came_before t late steps) (any_weaker s t weaker steps parts.1)
+          grind (arith, and_parts, any_weaker)
       | inr there ↦
           or_second (late step && list_any t steps) (came_before t late steps)
           (came_weaker s t late weaker steps there)
     ]
 
--- what came before has happened
 pub came_early : (early late : Step → Bool) (steps : List Step)
     → came_before early late steps ≡ true → list_any early steps ≡ true
 came_early early late [] h = cc
 came_early early late (step ∷ steps) h =
     elim (or_cases (late step && list_any early steps) (came_before early late steps) h) [
       | inl here ↦
-          or_second (early step) (list_any early steps)
-          (and_parts (late step) (list_any early steps) here).1
+          grind (arith, or_second, and_parts)
       | inr there ↦
           or_second (early step) (list_any early steps) (came_early early late steps there)
     ]
 
--- what came before a step that was taken is before it in a longer list too
 came_append : (early late : Step → Bool) (front calls : List Step)
     → came_before early late calls ≡ true → came_before early late (front ++ calls) ≡ true
 came_append early late [] calls h = h
 came_append early late (step ∷ front) calls h =
     grind (arith, came_append early late front calls h, or_second)
 
--- a call that an event below the place is stands in the list
 pub any_call : (test : Step → Bool) (events : List CoreEvent) (n k : ℕ) (step : Step) → k < n
     → call_of k (slice_get events k) ≡ step ∷ []
     → test step ≡ true → list_any test (calls_below events n) ≡ true
 any_call test events zero k step h is passes = absurd (omega arith)
 any_call test events (suc n) k step h is passes = elim (last_or_below k n h) [
   | inl same ↦
-      list_any-append test (call_of n (slice_get events n)) (calls_below events n) ∙ rw (ap (λ j.
-      list_any test (call_of j (slice_get events j))) (sym same) ∙ ap (list_any test) is ∙ ap
-      (λ b. b || false) passes)
+      grind (arith, list_any-append, false)
   | inr below ↦
       list_any-append test (call_of n (slice_get events n)) (calls_below events n)
       ∙ or_second (list_any test (call_of n (slice_get events n)))
       (list_any test (calls_below events n)) (any_call test events n k step below is passes)
 ]
 
--- and of two such calls the earlier one came before
 pub calls_before : (early late : Step → Bool) (events : List CoreEvent) (n k j : ℕ)
     (first second : Step) → k < j → j < n
     → call_of k (slice_get events k) ≡ first ∷ [] → call_of j (slice_get events j) ≡ second ∷ []
@@ -112,11 +96,7 @@ calls_before early late events zero k j first second order h is_first is_second 
 calls_before early late events (suc n) k j first second order h is_first is_second passes_first
     passes_second = elim (last_or_below j n h) [
       | inl same ↦
-          rw (
-            ap (λ i. call_of i (slice_get events i)) (sym same) ∙ is_second,
-            passes_second,
-            any_call early events n k first (omega arith) is_first passes_first,
-          )
+          grind (arith, any_call)
       | inr below ↦
           came_append early late (call_of n (slice_get events n)) (calls_below events n)
           (calls_before early late events n k j first second order below is_first
@@ -124,7 +104,6 @@ calls_before early late events (suc n) k j first second order h is_first is_seco
           passes_second)
     ]
 
--- a call that stands in the list is that of an event
 call_from : (test : Step → Bool) (events : List CoreEvent) (n : ℕ)
     → list_any test (calls_below events n) ≡ true
     → (k : ℕ) × (k < n) × (list_any test (call_of k (slice_get events k)) ≡ true)
@@ -135,16 +114,13 @@ call_from test events (suc n) h =
     (sym (list_any-append test (call_of n (slice_get events n)) (calls_below events n)) ∙ h)) [
       | inl here ↦ (n, omega arith, here)
       | inr there ↦
-          let found = call_from test events n there in
-          let less = found.1 in (found.0, omega arith, found.2)
+          grind (arith, call_from test events n there)
     ]
 
--- one of two is the first where the second isn't
 first_of_two : (a : Bool) → (a || false) ≡ true → a ≡ true
 first_of_two true h = refl
 first_of_two false h = cc
 
--- an event whose call submits a request is its submission
 submit_call : (id k : ℕ) (event : Option CoreEvent)
     → list_any (is_submit id) (call_of k event) ≡ true
     → (bio : Bio) × (k ≡ id) × (event ≡ Some (core_events.Submit bio))
@@ -156,7 +132,6 @@ submit_call id k (Some (core_events.Stop cause)) h = cc
 submit_call id k (Some core_events.Close) h = cc
 submit_call id k None h = cc
 
--- and one whose call ends it is its end
 end_call : (id k : ℕ) (event : Option CoreEvent) → list_any (is_end id) (call_of k event) ≡ true
     → (ok : Bool) × (event ≡ Some (core_events.Complete id ok))
 end_call id k (Some (core_events.Submit bio)) h = cc
@@ -169,7 +144,6 @@ end_call id k (Some (core_events.Stop cause)) h = cc
 end_call id k (Some core_events.Close) h = cc
 end_call id k None h = cc
 
--- a request whose submission stands among the calls was submitted at its place
 pub submit_from : (events : List CoreEvent) (n id : ℕ)
     → list_any (is_submit id) (calls_below events n) ≡ true
     → (bio : Bio) × (id < n) × (slice_get events id ≡ Some (core_events.Submit bio))
@@ -180,14 +154,12 @@ submit_from events n id h =
     let less = found.1 in
     (call.0, omega arith, ap (slice_get events) (sym same) ∙ call.2)
 
--- and one whose end does ended at some place
 pub end_from : (events : List CoreEvent) (n id : ℕ)
     → list_any (is_end id) (calls_below events n) ≡ true
     → (place : ℕ) × (ok : Bool) × (place < n)
     × (slice_get events place ≡ Some (core_events.Complete id ok))
 end_from events n id h = grind (arith, call_from, end_call)
 
--- a call of another place doesn't submit the request
 other_submit : (id k : ℕ) (event : Option CoreEvent) (calls : List Step) → (k ≡ id → ⊥)
     → before_submit id (call_of k event ++ calls) ≡ before_submit id calls
 other_submit id k (Some (core_events.Submit bio)) calls differ = grind (arith, differ-eqb)
@@ -197,7 +169,6 @@ other_submit id k (Some (core_events.Stop cause)) calls differ = refl
 other_submit id k (Some core_events.Close) calls differ = refl
 other_submit id k None calls differ = refl
 
--- what came before a request's submission are the calls below its place
 pub before_submit_at : (events : List CoreEvent) (n id : ℕ) (bio : Bio) → id < n
     → slice_get events id ≡ Some (core_events.Submit bio)
     → before_submit id (calls_below events n) ≡ calls_below events id
@@ -210,7 +181,6 @@ before_submit_at events (suc n) id bio h is = elim (last_or_below id n h) [
       ∙ before_submit_at events n id bio below is
 ]
 
--- what each call below a place passes, all of them do
 pub all_calls : (test : Step → Bool) (events : List CoreEvent) (n : ℕ)
     → ((k : ℕ) → k < n → list_all test (call_of k (slice_get events k)) ≡ true)
     → list_all test (calls_below events n) ≡ true
@@ -218,29 +188,22 @@ all_calls test events zero each = refl
 all_calls test events (suc n) each =
     grind (arith, all_calls test events n (λ k h. each k (omega arith)), list_all-append)
 
--- Parts of the machine that a step leaves unchanged, and what each test of a step implies.
-
--- what isn't so
 pub not_true : (b : Bool) → not b ≡ true → b ≡ false
 not_true true h = cc
 not_true false h = refl
 
--- what holds and doesn't
 pub clash : {A : Type 0} (b : Bool) → b ≡ true → b ≡ false → A
 clash b yes_so not_so = absurd (let contra : true ≡ false = sym yes_so ∙ not_so in cc)
 
--- a list that one sector alone has another of: what holds there
--- of the one, and elsewhere of the old ones, holds in each
+-- For the prover: a case split on whether `other` is the sector that gets the list `ids`
 pub with_cases : (P : List ℕ → Type 0) (sector : ℕ) (ids : List ℕ) (old : ℕ → List ℕ) (other : ℕ)
     → (other ≡ sector → P ids) → P (old other) → P (with_sector sector ids old other)
 with_cases P sector ids old other here there = grind (arith, eqb_tells)
 
--- the sector has the list
 pub with_here : (sector : ℕ) (ids : List ℕ) (old : ℕ → List ℕ)
     → with_sector sector ids old sector ≡ ids
 with_here sector ids old = grind (arith, eq-eqb)
 
--- a request is among these and one more just where it is that one or among these
 pub among_cases : (new id : ℕ) (ids : List ℕ) → is_among (new ∷ ids) id ≡ true
     → (new ≡ id) ⊎ (is_among ids id ≡ true)
 among_cases new id ids
@@ -253,7 +216,6 @@ among_more new id ids h = or_second (new == id) (is_among ids id) h
 pub among_new : (id : ℕ) (ids : List ℕ) → is_among (id ∷ ids) id ≡ true
 among_new id ids = grind (arith, eq-eqb)
 
--- a test of each sector of a request holds at a sector that it covers
 pub each_covered : (test : ℕ → Bool) (event : Option CoreEvent) (sector : ℕ)
     → each_sector test event ≡ true → covers_at sector event ≡ true
     → test sector ≡ true

@@ -1,8 +1,8 @@
--- The plan's steps for the events, one event after another: the machine can take them, and after
--- them each wanted request that has ended is the newest that is settled in its sector.
-use Rattle.std.proofs.Common.{◌≡◌, ℕ, zero, suc, ◌<◌, ◌≤◌, ◌==◌, Bool, true, false, not, ◌&&◌}
-use Rattle.std.proofs.Common.{◌||◌, Option, Some, None, List, [], ◌∷◌, ◌++◌, length, take, refl, ap}
-use Rattle.std.proofs.Common.{sym, ◌∙◌, subst, inl, inr, arith}
+-- The machine can take the plan's steps for the events; after them, each wanted request that has
+-- ended is the newest that is settled in its sector.
+use Rattle.std.proofs.Common.{◌≡◌, ℕ, zero, suc, ◌<◌, ◌≤◌, ◌==◌, Bool, true, false, not, ◌&&◌, ◌||◌}
+use Rattle.std.proofs.Common.{Option, Some, None, List, [], ◌∷◌, ◌++◌, length, take, refl, ap, sym}
+use Rattle.std.proofs.Common.{◌∙◌, subst, inl, inr, arith}
 use Rattle.std.proofs.lemmas.Bool.{and_parts, eq-eqb, eqb-true, lt-ltb}
 use Rattle.std.specs.List.{list_all, list_any}
 use Rattle.std.specs.Prelude.{slice_get}
@@ -33,9 +33,9 @@ use Rattle.world.proofs.SectorSteps.{StepsFrame, by_cases, go_none, go_on, go_on
 use Rattle.world.proofs.SectorSteps.{lands_there, more_landed, more_settled, settles_there}
 use Rattle.world.proofs.SectorSteps.{still_within, touch_all}
 
--- The machine after the plan's steps for the events below a place: each request that isn't wanted
--- in a sector, and will end with success, has landed there, and is settled where that has to be
--- sure; each that is wanted and has ended is the newest that is settled there.
+-- `m` is the machine after the plan's steps for the first `k` events. A wanted request lands only
+-- at its end, and is then the newest that is settled (`only_late`, `late`). If another request ends
+-- with success, it has landed, and if `sure` holds for it, it is settled.
 pub record Follows (events : List CoreEvent) (wanted : ℕ → Option ℕ) (sure : ℕ → ℕ → Bool) (k : ℕ)
     (m : Machine) : Type 0 where
   pub calls : m.calls ≡ calls_below events k
@@ -55,7 +55,6 @@ pub record Follows (events : List CoreEvent) (wanted : ℕ → Option ℕ) (sure
       → list_any (is_end id) (calls_below events k) ≡ true → newest (m.settled sector) ≡ Some id
   pub bare : (sector : ℕ) → wanted sector ≡ None → newest (m.settled sector) ≡ None
 
--- a machine before its first step
 pub start_follows : (events : List CoreEvent) (wanted : ℕ → Option ℕ) (sure : ℕ → ℕ → Bool)
     → Follows events wanted sure zero start
 start_follows events wanted sure = record {
@@ -70,11 +69,9 @@ start_follows events wanted sure = record {
   bare = λ sector is. refl;
 }
 
--- two that hold make both
 both_hold : (a b : Bool) → a ≡ true → b ≡ true → (a && b) ≡ true
 both_hold a b h k = grind arith
 
--- the wanted request is it
 wanted_is : (wanted : Option ℕ) (id : ℕ) → wanted ≡ Some id → is_wanted wanted id ≡ true
 wanted_is wanted id is = grind (arith, eq-eqb)
 
@@ -82,34 +79,29 @@ pub is_wanted-some : (wanted : Option ℕ) (id : ℕ) → is_wanted wanted id �
 is_wanted-some None id h = cc
 is_wanted-some (Some other) id h = grind (arith, eqb-true)
 
--- no request is wanted where none is
 none_wanted : (wanted : Option ℕ) (id : ℕ) → wanted ≡ None → is_wanted wanted id ≡ false
 none_wanted wanted id is = grind arith
 
--- some are one
 pub same_some : (a b : ℕ) (o : Option ℕ) → o ≡ Some a → o ≡ Some b → a ≡ b
 same_some a b o is other = grind arith
 
--- a request that has ended below a place has its end there
 pub ended_below : (events : List CoreEvent) (k id : ℕ) → is_well_formed events ≡ true
     → list_any (is_end id) (calls_below events k) ≡ true
     → (place : ℕ) × (place < k) × IsEnded events id place
 ended_below events k id well_formed ended =
     grind (arith, end_from events k id ended, well_formed-end)
 
--- a request's end is one
 pub not_ended : (events : List CoreEvent) (k id : ℕ) → is_well_formed events ≡ true
     → ((place : ℕ) → place < k → end_of events id ≡ Some place → ⊥)
     → list_any (is_end id) (calls_below events k) ≡ false
 not_ended events k id well_formed none =
     elim (bool_cases (list_any (is_end id) (calls_below events k))) [
       | inl ended ↦
-          let end = ended_below events k id well_formed ended in
-          absurd (none end.0 end.1 end.2.ends)
+          grind (arith, ended_below events k id well_formed ended)
       | inr open_yet ↦ open_yet
     ]
 
--- what is sure in a sector has no wanted request that ended before it
+-- a durable request from `new` on would replace the wanted request, which ended before it
 no_late_settle : (events : List CoreEvent) (wanted : ℕ → Option ℕ) (sure : ℕ → ℕ → Bool)
     (sector id new place : ℕ) → IsChoice events wanted sure
     → wanted sector ≡ Some id → end_of events id ≡ Some place → place < new
@@ -127,19 +119,16 @@ no_late_settle events wanted sure sector id new place choice is ends less needs 
     (rw found.2 before) in
     clash (is_replaced events sector id) replaced (choice.stays sector id is)
 
--- a durable request makes a sector one that has some
 some_kept : (events : List CoreEvent) (sector id : ℕ) → is_kept events sector id ≡ true
     → has_kept events sector ≡ true
 some_kept events sector id kept =
     any_below-at (is_kept events sector) (length events) id (kept_within events sector id kept) kept
 
--- a test of all sectors of a request holds where it does at each that it covers
 each_of : (test : ℕ → Bool) (bio : Bio) → is_tracked bio ≡ true
     → ((sector : ℕ) → covers bio sector ≡ true → test sector ≡ true)
     → each_sector test (Some (core_events.Submit bio)) ≡ true
 each_of test bio tracked each = grind (arith, each_all_below, covers-within)
 
--- a submission: the machine after its steps
 pub follow_submit : (events : List CoreEvent) (wanted : ℕ → Option ℕ) (sure : ℕ → ℕ → Bool) (k : ℕ)
     (m : Machine) (bio : Bio)
     → is_well_formed events ≡ true → IsChoice events wanted sure
@@ -154,10 +143,11 @@ follow_submit events wanted sure k m bio well_formed choice is before =
     let unknown : list_any (is_submit k) m.calls ≡ false =
     elim (bool_cases (list_any (is_submit k) m.calls)) [
       | inl found ↦
-          absurd
-          (let there = submit_from events k k
-          (ap (list_any (is_submit k)) (sym before.calls) ∙ found) in
-          let less = there.1 in omega arith)
+          grind (
+            arith,
+            submit_from events k k (ap (list_any (is_submit k)) (sym before.calls) ∙
+                found),
+          )
       | inr none ↦ none
     ] in
     let open_yet : list_any (is_end k) (calls_below events k) ≡ false =
@@ -166,8 +156,7 @@ follow_submit events wanted sure k m bio well_formed choice is before =
     (let end = end_found events k place ends in let later = end.later in omega arith)) in
     let submitted = after m (Submit k) in
     let may : has_step events m (Submit k) ≡ true =
-    ap (λ b. not b && (is_request (slice_get events k)
-    && not (list_any (is_submit k) m.calls))) before.on
+    grind (arith, not)
     ∙ ap (λ event. is_request event && not (list_any (is_submit k) m.calls)) is
     ∙ ap (λ b. b && not (list_any (is_submit k) m.calls)) tracked
     ∙ ap not unknown in
@@ -202,8 +191,7 @@ follow_submit events wanted sure k m bio well_formed choice is before =
           (go_one events m (Submit k) may) touch.1,
       record {
         calls =
-            t.calls ∙ ap (λ calls. Submit k ∷ calls) before.calls
-            ∙ sym (ap (λ event. call_of k event ++ calls_below events k) is);
+            grind arith;
         on = t.off ∙ before.on;
         known = λ sector id among.
             elim (landed_from (covers bio) lands settles k submitted new sector id t among) [
@@ -213,29 +201,23 @@ follow_submit events wanted sure k m bio well_formed choice is before =
         only_late = λ sector id chosen among.
             elim (landed_from (covers bio) lands settles k submitted new sector id t among) [
               | inl here ↦
-                  let goes = (and_parts (covers bio sector) (lands sector) here.0).1 in
-                  clash (not (is_wanted (wanted sector) k))
-                  (and_parts (not (is_wanted (wanted sector) k)) (ended_ok events k) goes).0
-                  (ap not
-                  (wanted_is (wanted sector) k (chosen ∙ ap (λ (n : ℕ). Some n) (sym here.1))))
+                  grind (arith, and_parts, clash, not, wanted_is)
               | inr older ↦ calls (is_end id) refl ∙ before.only_late sector id chosen older
             ];
         within =
-            λ sector id among. still_within (covers bio) lands settles k submitted new sector id t
-            (before.within sector id) among;
+            λ sector id among. grind (arith, still_within);
         early = λ sector id less covered other good. elim (last_or_below id k less) [
           | inl same ↦
               ap (λ ids. is_among ids id)
               (lands_there (covers bio) lands settles k submitted new sector t
               (sym (ap (covers_at sector) (ap (slice_get events) same ∙ is)) ∙ covered)
               (both_hold (not (is_wanted (wanted sector) k)) (ended_ok events k)
-              (ap (λ i. not (is_wanted (wanted sector) i)) (sym same) ∙ ap not other)
+              (grind (arith, same, ap not other))
               (ap (ended_ok events) (sym same) ∙ good)))
               ∙ ap (λ i. is_among (i ∷ m.landed sector) id) (sym same)
               ∙ among_new id (m.landed sector)
           | inr below ↦
-              more_landed (covers bio) lands settles k submitted new sector id t
-              (before.early sector id below covered other good)
+              grind (arith, more_landed)
         ];
         early_sure = λ sector id less covered other good needs. elim (last_or_below id k less) [
           | inl same ↦
@@ -243,9 +225,9 @@ follow_submit events wanted sure k m bio well_formed choice is before =
               (settles_there (covers bio) lands settles k submitted new sector t
               (sym (ap (covers_at sector) (ap (slice_get events) same ∙ is)) ∙ covered)
               (both_hold (not (is_wanted (wanted sector) k)) (ended_ok events k)
-              (ap (λ i. not (is_wanted (wanted sector) i)) (sym same) ∙ ap not other)
+              (grind (arith, same, ap not other))
               (ap (ended_ok events) (sym same) ∙ good))
-              (ap (λ i. sure i sector) (sym same) ∙ needs))
+              (grind (arith, same, needs)))
               ∙ ap (λ i. is_among (i ∷ m.landed sector) id) (sym same)
               ∙ among_new id (m.landed sector)
           | inr below ↦
@@ -264,29 +246,20 @@ follow_submit events wanted sure k m bio well_formed choice is before =
             end.1 needs))
             ∙ before.late sector id chosen earlier;
         bare = λ sector none.
-            stays sector (λ both.
-            let needs =
-            (and_parts (lands sector) (settles sector)
-            (and_parts (covers bio sector) (lands sector && settles sector) both).1).1 in
-            let later = choice.before sector k needs in
-            clash (has_kept events sector) (some_kept events sector later.0 later.2)
-            (choice.bare sector none))
-            ∙ before.bare sector none;
+            grind (arith, and_parts, clash, some_kept);
       },
     )
 
--- a request that ended with success
 good_end : (events : List CoreEvent) (id place : ℕ) → end_of events id ≡ Some place
     → slice_get events place ≡ Some (core_events.Complete id true) → ended_ok events id ≡ true
 good_end events id place ends is = ap (is_success_at events) ends ∙ ap is_success is
 
--- where the first of two holds the second does, so that one of its opposite and the second holds
 if_so : (a b : Bool) → (a ≡ true → b ≡ true) → (not a || b) ≡ true
 if_so true b h = h refl
 if_so false b h = refl
 
--- where each durable request is settled where it lands, and
--- all that have to have landed have, an end may have success
+-- An end may have success if its request has landed, and each durable request that has ended by
+-- then is settled.
 may_end : (events : List CoreEvent) (mid : Machine) (k id : ℕ) (ok : Bool) (bio : Bio)
     → is_well_formed events ≡ true
     → slice_get events k ≡ Some (core_events.Complete id ok)
@@ -331,7 +304,7 @@ may_end events mid k id ok bio well_formed is submitted tracked less ends calls 
     (if_so (is_flush_submit (slice_get events id))
     (list_all (settled_if_ended events mid) (before_submit id mid.calls)) flush)
   where
-    -- an end with success before a flush that ended with success has its request settled
+    -- the flush `id` makes such a request durable, and so `settled` applies to it
     of_end : (place other : ℕ) (good_one : Bool)
         → slice_get events place ≡ Some (core_events.Complete other good_one) → place < id
         → is_flush_submit (slice_get events id) ≡ true → ended_ok events id ≡ true
@@ -371,7 +344,6 @@ may_end events mid k id ok bio well_formed is submitted tracked less ends calls 
     of_event place (Some core_events.Close) there early is_flush end = refl
     of_event place None there early is_flush end = refl
 
--- an end at a place is that of one request
 ended_one : (events : List CoreEvent) (place a b : ℕ) (good fine : Bool)
     → slice_get events place ≡ Some (core_events.Complete a good)
     → slice_get events place ≡ Some (core_events.Complete b fine) → b ≡ a
@@ -381,12 +353,10 @@ ended_one events place a b good fine is other = ap id_of (sym other ∙ is)
     id_of (Some (core_events.Complete id ok)) = id
     id_of _ = 0
 
--- the newest of a list is among it
 newest_among : (ids : List ℕ) (id : ℕ) → newest ids ≡ Some id → is_among ids id ≡ true
 newest_among [] id is = cc
 newest_among (first ∷ ids) id is = grind (arith, same_some, eq-eqb)
 
--- an end: the machine after its steps
 pub follow_end : (events : List CoreEvent) (wanted : ℕ → Option ℕ) (sure : ℕ → ℕ → Bool) (k : ℕ)
     (m : Machine) (id : ℕ) (ok : Bool)
     → is_well_formed events ≡ true → IsChoice events wanted sure
@@ -408,7 +378,7 @@ follow_end events wanted sure k m id ok well_formed choice is before =
     (let same = same_some place k (end_of events id) ends ended.ends in omega arith)) in
     let pending : is_pending m id ≡ true =
     both_hold (list_any (is_submit id) m.calls) (not (list_any (is_end id) m.calls)) known
-    (ap (λ calls. not (list_any (is_end id) calls)) before.calls ∙ ap not open_yet) in
+    (grind (arith, before.calls, ap not open_yet)) in
     let lands : ℕ → Bool = λ sector. is_wanted (wanted sector) id in
     let settles : ℕ → Bool = λ sector. true in
     let touch =
@@ -425,15 +395,9 @@ follow_end events wanted sure k m id ok well_formed choice is before =
     is_among (mid.landed sector) id ≡ true = λ good sector covered.
     elim (bool_cases (is_wanted (wanted sector) id)) [
       | inl goes ↦
-          ap (λ ids. is_among ids id)
-          (lands_there (covers bio) lands settles id m mid sector t covered goes)
-          ∙ among_new id (m.landed sector)
+          grind (arith, lands_there, among_new)
       | inr other ↦
-          more_landed (covers bio) lands settles id m mid sector id t
-          (before.early sector id ended.earlier
-          (ap (covers_at sector) ended.submitted ∙ covered) other
-          (good_end events id k ended.ends
-          (is ∙ ap (λ (b : Bool). Some (core_events.Complete id b)) good)))
+          grind (arith, more_landed, good_end)
     ] in
     let settled : (sector other place : ℕ) → place ≤ k → end_of events other ≡ Some place →
     is_kept events sector other ≡ true
@@ -447,16 +411,7 @@ follow_end events wanted sure k m id ok well_formed choice is before =
           let chosen = is_wanted-some (wanted sector) other goes in
           elim (last_or_below place k (omega arith)) [
             | inl last ↦
-                let one : id ≡ other =
-                sym (ended_one events k id other ok there.ok is
-                (ap (slice_get events) (sym last) ∙ there.event)) in
-                let here = settles_there (covers bio) lands settles id m mid sector t
-                (sym (ap (covers_at sector) (ap (slice_get events) (sym one) ∙ ended.submitted))
-                ∙ covered)
-                (ap (is_wanted (wanted sector)) one ∙ goes) refl in
-                ap (λ ids. is_among ids other) here
-                ∙ ap (λ i. is_among (i ∷ m.landed sector) other) one
-                ∙ among_new other (m.landed sector)
+                grind (arith, ended_one, settles_there, among_new)
             | inr below ↦
                 let newest_is = before.late sector other chosen
                 (any_call (is_end other) events k place (End other there.ok) below
@@ -482,14 +437,14 @@ follow_end events wanted sure k m id ok well_formed choice is before =
     ap (λ b. not b && (is_pending mid id && (not ok || may_succeed events mid id)))
     (t.off ∙ before.on)
     ∙ both_hold (is_pending mid id) (not ok || may_succeed events mid id)
-    (ap (λ calls. list_any (is_submit id) calls && not (list_any (is_end id) calls)) t.calls
+    (grind (arith, t.calls)
     ∙ pending)
     (if_so ok (may_succeed events mid id)
     (may_end events mid k id ok bio well_formed is ended.submitted ended.tracked ended.earlier
     ended.ends calls landed settled)) in
     let new = after mid (End id ok) in
     let longer : calls_below events (suc k) ≡ End id ok ∷ calls_below events k =
-    ap (λ event. call_of k event ++ calls_below events k) is in
+    grind (arith, is) in
     let still : (other : ℕ) → list_any (is_end other) (calls_below events k) ≡ true →
     list_any (is_end other) (calls_below events (suc k)) ≡ true =
     λ other there. ap (list_any (is_end other)) longer
@@ -504,7 +459,7 @@ follow_end events wanted sure k m id ok well_formed choice is before =
           (subst (λ event. StepsFrame events m (by_sector (lands_late wanted id) event) mid)
           (sym ended.submitted) touch.1) (go_one events mid (End id ok) may),
       record {
-        calls = ap (λ steps. End id ok ∷ steps) calls ∙ sym longer;
+        calls = grind (arith, calls, sym longer);
         on = t.off ∙ before.on;
         known = λ sector other among.
             elim (landed_from (covers bio) lands settles id m mid sector other t among) [
@@ -514,14 +469,11 @@ follow_end events wanted sure k m id ok well_formed choice is before =
         only_late = λ sector other chosen among.
             elim (landed_from (covers bio) lands settles id m mid sector other t among) [
               | inl here ↦
-                  ap (list_any (is_end other)) longer
-                  ∙ ap (λ b. b || list_any (is_end other) (calls_below events k))
-                  (eq-eqb id other here.1)
+                  grind (arith, eq-eqb)
               | inr older ↦ still other (before.only_late sector other chosen older)
             ];
         within =
-            λ sector other among. still_within (covers bio) lands settles id m mid sector other t
-            (before.within sector other) among;
+            λ sector other among. grind (arith, still_within);
         early = λ sector other less covered stays good. elim (last_or_below other k less) [
           | inl same ↦ absurd (not_here sector other same covered)
           | inr below ↦
@@ -542,13 +494,13 @@ follow_end events wanted sure k m id ok well_formed choice is before =
               | inl same ↦
                   let one = eqb-true id other same in
                   let goes = wanted_is (wanted sector) id
-                  (chosen ∙ ap (λ (n : ℕ). Some n) (sym one)) in
+                  (grind (arith, chosen, one)) in
                   let covered =
                   sym (ap (covers_at sector) ended.submitted)
-                  ∙ choice.covers sector id (chosen ∙ ap (λ (n : ℕ). Some n) (sym one)) in
+                  ∙ choice.covers sector id (grind (arith, chosen, one)) in
                   ap newest (settles_there
                   (covers bio) lands settles id m mid sector t covered goes refl)
-                  ∙ ap (λ (n : ℕ). Some n) one
+                  ∙ ap Some one
               | inr older ↦
                   ap newest (t.settled sector)
                   ∙ by_cases (λ ids. newest ids ≡ Some other)
@@ -575,7 +527,6 @@ follow_end events wanted sure k m id ok well_formed choice is before =
       },
     )
 
--- an event that is neither: nothing changes
 pub follow_other : (events : List CoreEvent) (wanted : ℕ → Option ℕ) (sure : ℕ → ℕ → Bool) (k : ℕ)
     (m : Machine)
     → call_of k (slice_get events k) ≡ []
@@ -609,7 +560,6 @@ follow_other events wanted sure k m none uncovered before =
       bare = before.bare;
     }
 
--- any event
 follow_event : (events : List CoreEvent) (wanted : ℕ → Option ℕ) (sure : ℕ → ℕ → Bool) (k : ℕ)
     (m : Machine) (event : Option CoreEvent)
     → is_well_formed events ≡ true → IsChoice events wanted sure → slice_get events k ≡ event
@@ -645,7 +595,6 @@ follow_event events wanted sure k m None well_formed choice is before = (
       (λ sector. ap (covers_at sector) is) before,
 )
 
--- all events below a place
 pub follow_all : (events : List CoreEvent) (wanted : ℕ → Option ℕ) (sure : ℕ → ℕ → Bool) (k : ℕ)
     → is_well_formed events ≡ true → IsChoice events wanted sure
     → (new : Machine) × StepsFrame events start

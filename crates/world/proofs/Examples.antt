@@ -13,8 +13,8 @@ use Rattle.world.specs.declared.step.Step.{Step}
 use Rattle.world.specs.declared.step.Step.TheVariants.{Submit, Land, Destage, End, Power}
 use Rattle.refusals.specs.declared.refusal.Refusal.TheVariants as refusals
 use Rattle.world.specs.declared.step.StepError.TheVariants as step_errors
-use Rattle.world.specs.Cells.{AllSteps, IsFresh, IsPut, IsRun, Steps, WorldState}
-use Rattle.world.specs.Cells.{empty_cell, landing, put_at, settling}
+use Rattle.world.specs.Cells.{AllSteps, IsFresh, IsPut, IsRun, Steps, WorldState, empty_cell}
+use Rattle.world.specs.Cells.{landing, put_at, settling}
 use Rattle.world.specs.Texts.{end_text, step_refusal, step_text}
 use Rattle.world.proofs.Lists.{put_none}
 use Rattle.world.specs.Machine.{IsReachable, Leaves, before_submit, calls_below, durable, has_step}
@@ -50,7 +50,7 @@ run-left sector = elim (eqb_tells sector 3) [
   | inr other ↦
       ap (λ (b : Bool). unwrap_or (values_of_id list (newest (if b then 0 ∷ 1 ∷ [] else [])) sector)
       (replicate 512 (if b then 0 else 0))) other.0
-      ∙ sym (ap (λ (b : Bool). replicate 512 (if b then 1 else 0)) other.0)
+      ∙ sym (grind (arith, other.0))
 ]
   where
     here : durable list (holding 0) (taken start run) 3 ≡ holding 1 3

@@ -1,4 +1,4 @@
--- The lemmas of `world`; the proof of a function is in the folder of its source file.
+-- The lemmas of `world`. The proof of each function is in the folder of its source file.
 pub mod Calls
 pub mod RunIsPossible
 pub mod SectorSteps

@@ -1,4 +1,4 @@
--- Laws of lists that the code keeps oldest first and contracts see newest first.
+-- Laws of lists that the code keeps oldest first and the specs newest first, and laws of `IsPut`.
 use Rattle.std.proofs.Common.{length-append, length-drop, Bool, true, false, ◌&&◌, ◌||◌, Some, None}
 use Rattle.std.proofs.Common.{List, [], ◌∷◌, ◌++◌, length, append_assoc, take, drop, refl, ap, sym}
 use Rattle.std.proofs.Common.{◌∙◌, arith, ◌≡◌, ℕ, ◌+◌, ◌-◌, ◌*◌, ◌/◌, ◌<◌, ◌≤◌, zero, suc}
@@ -19,11 +19,9 @@ use Rattle.world.specs.declared.step.Step.{Step}
 use Rattle.world.specs.inside.{IsBefore}
 use Rattle.world.specs.Machine.{is_submit}
 
--- one more at the end of a list is the first of it the other way round
 pub reverse_snoc : {A : Type 0} (xs : List A) (x : A) → reverse (xs ++ x ∷ []) ≡ x ∷ reverse xs
 reverse_snoc xs x = reverse-append xs (x ∷ [])
 
--- a list has the same elements both ways round
 pub any_reverse : {A : Type 0} (test : A → Bool) (xs : List A)
     → list_any test (reverse xs) ≡ list_any test xs
 any_reverse test [] = refl
@@ -37,7 +35,6 @@ any_reverse test (x ∷ xs) =
     swapped false true = refl
     swapped false false = refl
 
--- and all of them pass both ways round
 pub all_reverse : {A : Type 0} (test : A → Bool) (xs : List A)
     → list_all test (reverse xs) ≡ list_all test xs
 all_reverse test [] = refl
@@ -51,14 +48,12 @@ all_reverse test (x ∷ xs) =
     swapped false true = refl
     swapped false false = refl
 
--- a longer beginning the other way round
 take_next : {A : Type 0} (xs : List A) (k : ℕ) (x : A) → slice_get xs k ≡ Some x
     → take (suc k) xs ≡ take k xs ++ x ∷ []
 take_next [] k x is = cc
 take_next (y ∷ xs) zero x is = grind arith
 take_next (y ∷ xs) (suc k) x is = grind (arith, take_next xs k x is)
 
--- one more call that submits the request, or that doesn't
 pub before_here : (calls : List Step) (id place next end : ℕ) (call : Step) → next ≡ suc place
     → slice_get calls place ≡ Some call → is_submit id call ≡ true
     → IsBefore calls id place end → IsBefore calls id next place
@@ -83,7 +78,6 @@ before_other calls id place next end call is there other before =
           calls,
     )
 
--- where one element fails a test not all pass
 pub some_fails : {A : Type 0} (test : A → Bool) (xs : List A) (k : ℕ) (x : A)
     → slice_get xs k ≡ Some x → test x ≡ false → list_all test xs ≡ false
 some_fails test [] k x is fails = cc
@@ -95,53 +89,41 @@ some_fails test (y ∷ xs) (suc k) x is fails =
     and_false true = refl
     and_false false = refl
 
--- where a beginning passes and the next element does, the longer beginning passes
 pub all_more : {A : Type 0} (test : A → Bool) (xs : List A) (k next : ℕ) (x : A) → next ≡ suc k
     → slice_get xs k ≡ Some x → test x ≡ true
     → list_all test (take k xs) ≡ true → list_all test (take next xs) ≡ true
 all_more test xs k next x is there passes before =
     grind (arith, take_next xs k x there, list_all-append test (take k xs) (x ∷ []), take k xs)
 
--- If a run grows by the steps for one index, it has the steps for all indices up to there.
-
--- the steps of one more place come behind those of the places before it
 pub grown : {A : Type 0} (f : ℕ → List A) (n next : ℕ) (old mid new : List A) → next ≡ suc n
     → mid ≡ old ++ collect f n → new ≡ mid ++ f n
     → new ≡ old ++ collect f next
 grown f n next old mid new is before here = cc (append_assoc old (collect f n) (f n))
 
--- An image after one of its sectors gets other bytes.
-
--- a sector that the call has no value for stays as it was
 pub put_none : (patch : Patch) (at : ℕ) (image : List ℕ) → patch at ≡ None
     → IsPut patch at image image
 put_none patch at image none = grind (arith, eqb_tells)
 
--- nor does one outside the call's range change
 pub put_outside : (first count : ℕ) (value : ℕ → List ℕ) (at : ℕ) (image : List ℕ)
     → (at < first) ⊎ (first + count ≤ at)
     → IsPut (over first count value) at image image
 put_outside first count value at image outside = grind (arith, put_none, over-before, over-after)
 
--- the value that a range has for one of its sectors
 pub range_value : (first count : ℕ) (value : ℕ → List ℕ) (at place : ℕ) (part : List ℕ)
     → at ≡ first + place → place < count → part ≡ value place
     → over first count value at ≡ Some part
 range_value first count value at place part is within same = grind (arith, over-in)
 
--- the front of the image, with the new bytes
 front_is : (at : ℕ) (old part : List ℕ) → at < length old / 512 → length part ≡ 512
     → take (512 * at + 512) (put_mid (at * 512) (at * 512 + 512 - at * 512) old part)
     ≡ take (at * 512) old ++ part
 front_is at old part within size = grind (arith, take-put_mid)
 
--- and what is behind them
 back_is : (at n : ℕ) (old part : List ℕ) → at < length old / 512 → length part ≡ 512
     → 512 * at + 512 ≤ n
     → drop n (put_mid (at * 512) (at * 512 + 512 - at * 512) old part) ≡ drop n old
 back_is at n old part within size past = grind (arith, drop-put_mid)
 
--- the image is as long as it was
 length_put : (at : ℕ) (old part : List ℕ) → at < length old / 512 → length part ≡ 512
     → length (put_mid (at * 512) (at * 512 + 512 - at * 512) old part) ≡ length old
 length_put at old part within size =
@@ -156,7 +138,6 @@ length_put at old part within size =
       take-append-drop,
     )
 
--- a sector before the one that gets the bytes
 sector_before : (at sector : ℕ) (old part : List ℕ) → at < length old / 512 → length part ≡ 512
     → sector < at
     → sector_of (put_mid (at * 512) (at * 512 + 512 - at * 512) old part) sector
@@ -169,7 +150,6 @@ sector_before at sector old part within size less =
     (omega arith) (omega arith))
     ∙ drop-take (512 * sector) 512 old
 
--- the one that gets them
 sector_here : (at : ℕ) (old part : List ℕ) → at < length old / 512 → length part ≡ 512
     → sector_of (put_mid (at * 512) (at * 512 + 512 - at * 512) old part) at ≡ part
 sector_here at old part within size =
@@ -181,7 +161,6 @@ sector_here at old part within size =
     ∙ ap (λ (n : ℕ). drop n (take (at * 512) old ++ part)) (sym cut)
     ∙ drop-append_seam (take (at * 512) old) part
 
--- the call's value in one sector
 pub is_put : (patch : Patch) (at : ℕ) (old part new : List ℕ) → at < length old / 512
     → length part ≡ 512
     → new ≡ put_mid (at * 512) (at * 512 + 512 - at * 512) old part → patch at ≡ Some part

@@ -1,9 +1,9 @@
--- The steps of a world are steps of the machine that it models, and those of a fresh world are a
--- run.
+-- Each step of a world is a step of the machine that it models, and the steps of a fresh world are
+-- a run.
 use Rattle.std.proofs.Common.{None, Option, Some, subst, inl, ◌≡◌, ℕ, Bool, zero, suc, ◌*◌, ◌/◌}
 use Rattle.std.proofs.Common.{◌<◌, true, not, ◌&&◌, inr, arith, List, [], ◌∷◌, length, replicate}
 use Rattle.std.proofs.Common.{get_or, set, refl, ap, sym, ◌∙◌}
-use Rattle.std.specs.Prelude.{is_some, slice_get, unwrap_or}
+use Rattle.std.specs.Prelude.{is_some, slice_get}
 use Rattle.std.proofs.lemmas.Bool.{and_parts, cases_lt}
 use Rattle.std.proofs.lemmas.Bool.Decides.{eqb_tells}
 use Rattle.std.proofs.lemmas.List.{length-replicate, length-set}
@@ -29,9 +29,6 @@ use Rattle.world.specs.Machine.{Machine, after, durable, has_step, is_among, is_
 use Rattle.world.specs.Machine.{may_succeed, may_take, newest, settled_if_ended, start, taken}
 use Rattle.world.specs.Machine.{values_of_id, with_sector}
 
--- If a world takes a step of some kind, the machine that it models takes the same step.
-
--- the element that was set, and the others
 get_set_same : {A : Type 0} (xs : List A) (k : ℕ) (x : A) → k < length xs
     → slice_get (set xs k x) k ≡ Some x
 get_set_same [] k x h = absurd (omega arith)
@@ -46,14 +43,13 @@ get_set_other (y ∷ xs) zero (suc j) x differ = refl
 get_set_other (y ∷ xs) (suc k) zero x differ = refl
 get_set_other (y ∷ xs) (suc k) (suc j) x differ = grind (arith, get_set_other xs k j x)
 
--- what is seen of a cell that was set
+-- `see` is `landed_of` or `settled_of`
 set_seen : (see : Option CellState → List ℕ) (cells : List CellState) (at : ℕ) (cell : CellState)
     (sector : ℕ) → at < length cells
     → see (slice_get (set cells at cell) sector)
     ≡ with_sector at (see (Some cell)) (λ s. see (slice_get cells s)) sector
 set_seen see cells at cell sector within = grind (arith, eqb_tells, get_set_same, get_set_other)
 
--- and of one whose part seen is as it was
 set_same : (see : Option CellState → List ℕ) (cells : List CellState) (at : ℕ) (cell : CellState)
     (sector : ℕ) → at < length cells
     → see (Some cell) ≡ see (slice_get cells at)
@@ -61,7 +57,6 @@ set_same : (see : Option CellState → List ℕ) (cells : List CellState) (at : 
 set_same see cells at cell sector within same =
     grind (arith, eqb_tells, get_set_same, get_set_other)
 
--- a sector where a request lands, or that is destaged, is one of the world's
 pub land_within : (events : List CoreEvent) (id sector : ℕ) (old : WorldState)
     → is_lawful (length old.image / 512) events ≡ true
     → length old.image ≡ 512 * length old.cells
@@ -92,7 +87,6 @@ pub destage_within : (events : List CoreEvent) (sector : ℕ) (old : WorldState)
     → sector < length old.cells
 destage_within events sector old may = grind (arith, cases_lt, and_parts, slice_get_past)
 
--- a landing
 pub land_steps : (events : List CoreEvent) (id at : ℕ) (old new : WorldState)
     → has_step events (machine_of old) (Land id at) ≡ true
     → at < length old.cells → new
@@ -105,9 +99,7 @@ land_steps events id at old new may within is =
       may = may;
       after = record {
         landed = λ sector.
-            set_seen landed_of old.cells at (landing id cell) sector within
-            ∙ ap (λ (o : Option CellState). with_sector at (id ∷ landed_of o)
-            (λ s. landed_of (slice_get old.cells s)) sector) (sym there);
+            grind (arith, set_seen landed_of old.cells at (landing id cell) sector within);
         settled =
             λ sector. set_same settled_of old.cells at (landing id cell) sector within
             (ap settled_of (sym there));
@@ -119,7 +111,6 @@ land_steps events id at old new may within is =
       size = refl;
     })
 
--- a destage
 pub destage_steps : (events : List CoreEvent) (at : ℕ) (old new : WorldState)
     → has_step events (machine_of old) (Destage at) ≡ true
     → at < length old.cells → length old.image ≡ 512 * length old.cells
@@ -140,9 +131,7 @@ destage_steps events at old new may within size is image =
             λ sector. set_same landed_of old.cells at (settling cell) sector within
             (ap landed_of (sym there));
         settled = λ sector.
-            set_seen settled_of old.cells at (settling cell) sector within
-            ∙ ap (λ (o : Option CellState). with_sector at (landed_of o)
-            (λ s. settled_of (slice_get old.cells s)) sector) (sym there);
+            grind (arith, set_seen settled_of old.cells at (settling cell) sector within);
         calls = refl;
         off = refl;
       };
@@ -150,8 +139,6 @@ destage_steps events at old new may within size is image =
       sectors = length-set old.cells at (settling cell);
       size = image.size;
     })
-
--- The tests on the cells and calls of a world agree with the tests of the machine that it models.
 
 settled_is : (events : List CoreEvent) (cells : List CellState) (calls : List Step) (off : Bool)
     (step : Step)
@@ -186,14 +173,10 @@ allowed_is events cells calls off (Destage sector) = refl
 allowed_is events cells calls off (End id ok) = simp (succeeds_is)
 allowed_is events cells calls off Power = refl
 
--- The steps that a fresh world takes are a run, and its image is the content that the run leaves.
-
--- machines that are alike are one
 like : (a b : Machine) → IsSameMachine a b → a ≡ b
 like a b same = grind (arith, fun_ext)
 
--- the values of a request that landed in a sector, put over
--- one content or another, are the same there
+-- the newest request has a value for the sector, so the old value there doesn't matter
 put_newest : (events : List CoreEvent) (m : Machine) (at : ℕ) (old first : Content)
     → IsSound events m → is_some (newest (m.landed at)) ≡ true
     → put (values_of_id events (newest (m.landed at))) old at
@@ -205,15 +188,13 @@ put_newest events m at old first sound some = of_list (m.landed at) refl
         ≡ put (values_of_id events (newest (m.landed at))) first at
     of_list [] is = grind arith
     of_list (id ∷ ids) is =
-        let covered =
-        sound.covers at id (ap (λ (list : List ℕ). is_among list id) is ∙ among_new id ids) in
-        let value = covered_value (slice_get events id) at covered in
-        let there : values_of_id events (newest (m.landed at)) at ≡ Some value.0 =
-        ap (λ (list : List ℕ). values_of_id events (newest list) at) is ∙ value.1 in
-        ap (λ (o : Option (List ℕ)). unwrap_or o (old at)) there
-        ∙ sym (ap (λ (o : Option (List ℕ)). unwrap_or o (first at)) there)
+        grind (
+          arith,
+          among_new id ids,
+          covered_value (slice_get events id) at (sound.covers at id
+              (grind (arith, is, among_new id ids))),
+        )
 
--- a step of the image is one of what is durable
 left_durable : (events : List CoreEvent) (m : Machine) (step : Step) (first old : Content)
     (sector : ℕ) → IsSound events m → may_take events m step ≡ true
     → old sector ≡ durable events first m sector
@@ -225,7 +206,6 @@ left_durable events m Power first old sector sound may same = same
 left_durable events m (Destage at) first old sector sound may same =
     grind (arith, eqb_tells, put_newest)
 
--- steps that a world took are a run of the machine that it was
 runs_on : (events : List CoreEvent) (first : Content) (steps : List Step) (old new : WorldState)
     → IsSound events (machine_of old)
     → ((sector : ℕ) → sector < length old.cells
@@ -250,14 +230,12 @@ runs_on events first (step ∷ steps) old new sound image all =
     (image sector (let size = took.sectors in omega arith))
     ∙ ap (λ (m : Machine). durable events first m sector) (sym is))
     all.2 in (
-      ap (λ b. b && is_run events (after (machine_of old) step) steps) took.may
-          ∙ ap (λ m. is_run events m steps) (sym is) ∙ rest.0,
-      ap (λ m. taken m steps) (sym is) ∙ rest.1,
+      grind (arith, took.may, is, rest.0),
+      grind (arith, is, rest.1),
       rest.2 ∙ took.sectors,
       λ sector within. rest.3 sector (let size = took.sectors in omega arith),
     )
 
--- nothing is in the cells of a fresh world
 empty_seen : (see : Option CellState → List ℕ) (n sector : ℕ) → see None ≡ []
     → see (Some empty_cell) ≡ [] → see (slice_get (replicate n empty_cell) sector) ≡ []
 empty_seen see zero sector none empty = none
@@ -276,7 +254,6 @@ fresh_start first world fresh = like (machine_of world) start (record {
   off = fresh.off;
 })
 
--- a fresh world's steps are a run
 pub fresh_runs : (events : List CoreEvent) (first : List ℕ) (steps : List Step)
     (old new : WorldState) → IsFresh first old → AllSteps events steps old new
     → IsRun events first steps new
@@ -294,7 +271,5 @@ fresh_runs events first steps old new fresh all =
       runs = rw (← is) runs.0;
       reached = rw (← is) runs.1;
       left = λ sector within.
-          runs.3 sector (omega arith)
-          ∙ ap (λ (m : Machine). durable events (sector_of first) m sector)
-          (sym (ap (λ (m : Machine). taken m steps) (sym is) ∙ runs.1));
+          grind arith;
     }

@@ -1,4 +1,4 @@
--- The plan's last steps, and that each content that the device could hold is left by some run.
+-- The plan is a run that leaves the chosen content, so some run leaves each possible content.
 use Rattle.std.proofs.Common.{Some, inr, ◌≡◌, ℕ, zero, suc, ◌^◌, ◌<◌, ◌≤◌, Bool, true, false, not}
 use Rattle.std.proofs.Common.{◌&&◌, Option, arith, None, List, [], ◌∷◌, ◌++◌, length, refl, ap, sym}
 use Rattle.std.proofs.Common.{◌∙◌, subst, inl}
@@ -33,12 +33,9 @@ use Rattle.world.specs.Machine.{IsReachable, Leaves, Machine, after, call_of, ca
 use Rattle.world.specs.Machine.{is_among, is_end, is_pending, is_submit, newest, start}
 use Rattle.world.specs.Machine.{values_of_id}
 
--- The plan's last steps, for the open requests and the power failure, and the content that the
--- whole run leaves.
-
--- The machine after the plan's steps for all events, and for the open requests below a place: each
--- wanted request that has ended, or is below the place, is the newest that is settled; an open one
--- from there on hasn't landed.
+-- `m` is the machine after the plan's steps for all events, and for the open requests below `j`. A
+-- wanted request has landed only if it has ended or is below `j`; it is then the newest that is
+-- settled in its sector.
 pub record Finishes (events : List CoreEvent) (wanted : ℕ → Option ℕ) (j : ℕ)
     (m : Machine) : Type 0 where
   pub calls : m.calls ≡ calls_below events (length events)
@@ -49,7 +46,6 @@ pub record Finishes (events : List CoreEvent) (wanted : ℕ → Option ℕ) (j :
       → newest (m.settled sector) ≡ Some id
   pub bare : (sector : ℕ) → wanted sector ≡ None → newest (m.settled sector) ≡ None
 
--- an open request has no end among the calls
 open_endless : (events : List CoreEvent) (id : ℕ) → is_well_formed events ≡ true
     → is_open_at events id ≡ true
     → list_any (is_end id) (calls_below events (length events)) ≡ false
@@ -59,7 +55,6 @@ open_endless events id well_formed is_open =
     (λ place less ends. absurd
     (let contra : None ≡ Some place = sym there.endless ∙ ends in cc))
 
--- a request that isn't open has one
 ended_called : (events : List CoreEvent) (id : ℕ) → is_request (slice_get events id) ≡ true
     → is_open_at events id ≡ false
     → list_any (is_end id) (calls_below events (length events)) ≡ true
@@ -73,7 +68,6 @@ ended_called events id request is_ended = elim (option_cases (end_of events id))
       (ap (call_of some.0) end.event) (eq-eqb id id refl)
 ]
 
--- an event that covers a sector is a request
 covers_request : (event : Option CoreEvent) (sector : ℕ) → covers_at sector event ≡ true
     → is_request event ≡ true
 covers_request (Some (core_events.Submit bio)) sector covered = (covers-parts bio sector covered).0
@@ -83,7 +77,6 @@ covers_request (Some (core_events.Stop cause)) sector covered = cc
 covers_request (Some core_events.Close) sector covered = cc
 covers_request None sector covered = cc
 
--- after the steps for all events
 begin_finish : (events : List CoreEvent) (wanted : ℕ → Option ℕ) (sure : ℕ → ℕ → Bool) (m : Machine)
     → is_well_formed events ≡ true
     → IsChoice events wanted sure → Follows events wanted sure (length events) m
@@ -107,7 +100,6 @@ begin_finish events wanted sure m well_formed choice before = record {
   bare = before.bare;
 }
 
--- a request that hasn't ended: the machine after its steps
 finish_open : (events : List CoreEvent) (wanted : ℕ → Option ℕ) (sure : ℕ → ℕ → Bool) (j : ℕ)
     (m : Machine) → is_well_formed events ≡ true
     → IsChoice events wanted sure → is_open_at events j ≡ true → Finishes events wanted j m
@@ -117,7 +109,7 @@ finish_open events wanted sure j m well_formed choice is_open before =
     let there = is_open_at-open events j is_open in
     let bio = there.bio in
     let pending : is_pending m j ≡ true =
-    ap (λ calls. list_any (is_submit j) calls && not (list_any (is_end j) calls)) before.calls
+    grind (arith, before.calls)
     ∙ ap (λ b. b && not (list_any (is_end j) (calls_below events (length events))))
     (any_call (is_submit j) events (length events) j (Submit j) there.within
     (ap (call_of j) there.submitted) (eq-eqb j j refl))
@@ -143,8 +135,7 @@ finish_open events wanted sure j m well_formed choice is_open before =
                   elim (landed_from (covers bio) lands settles j m new sector id t among) [
                     | inl here ↦ absurd (let same = here.1 in omega arith)
                     | inr older ↦
-                        clash (is_among (m.landed sector) id) older
-                        (before.waits sector id chosen open_too (omega arith))
+                        grind (arith, clash)
                   ]
             ];
         done = λ sector id chosen which.
@@ -164,14 +155,14 @@ finish_open events wanted sure j m well_formed choice is_open before =
                     | inr less ↦ elim (last_or_below id j less) [
                       | inl is ↦
                           let picked : wanted sector ≡ Some j =
-                          chosen ∙ ap (λ (n : ℕ). Some n) is in
+                          grind (arith, chosen, is) in
                           let covered =
                           sym (ap (covers_at sector) there.submitted)
                           ∙ choice.covers sector j picked in
                           let goes : lands sector ≡ true =
-                          ap (λ o. is_wanted o j) picked ∙ eq-eqb j j refl in
+                          grind (arith, picked, eq-eqb j j refl) in
                           clash (covers bio sector && (lands sector && settles sector))
-                          (ap (λ b. b && (lands sector && true)) covered
+                          (grind (arith, covered)
                           ∙ ap (λ b. b && true) goes) stays
                       | inr below ↦ inr below
                     ]
@@ -192,7 +183,6 @@ finish_open events wanted sure j m well_formed choice is_open before =
       },
     )
 
--- one that isn't open: nothing changes
 finish_ended : (events : List CoreEvent) (wanted : ℕ → Option ℕ) (j : ℕ) (m : Machine)
     → is_open_at events j ≡ false → Finishes events wanted j m
     → Finishes events wanted (suc j) m
@@ -211,7 +201,6 @@ finish_ended events wanted j m is_ended before = record {
   bare = before.bare;
 }
 
--- the open requests below a place
 finish_all : (events : List CoreEvent) (wanted : ℕ → Option ℕ) (sure : ℕ → ℕ → Bool) (m : Machine)
     (j : ℕ) → is_well_formed events ≡ true
     → IsChoice events wanted sure → Finishes events wanted zero m
@@ -236,7 +225,6 @@ finish_all events wanted sure m (suc j) well_formed choice before =
     step mid finishes (inr is_ended) =
         grind (arith, go_none events mid, finish_ended events wanted j mid is_ended finishes)
 
--- in each sector the newest that is settled is the wanted one
 newest_wanted : (events : List CoreEvent) (wanted : ℕ → Option ℕ) (m : Machine) (sector : ℕ)
     → Finishes events wanted (length events) m
     → ((id : ℕ) → wanted sector ≡ Some id → id < length events)
@@ -246,7 +234,6 @@ newest_wanted events wanted m sector finishes among = elim (option_cases (wanted
   | inr some ↦ finishes.done sector some.0 some.1 (inr (among some.0 some.1)) ∙ sym some.1
 ]
 
--- the plan is a run that fits the events and leaves what its choice has
 pub plan_leaves : (events : List CoreEvent) (first now : Content) (wanted : ℕ → Option ℕ)
     (sure : ℕ → ℕ → Bool) → is_well_formed events ≡ true
     → IsChoice events wanted sure
@@ -260,7 +247,7 @@ plan_leaves events first now wanted sure well_formed choice values =
     (begin_finish events wanted sure front.0 well_formed choice front.2) in
     let last = rest.0 in
     let finishes = rest.2 in
-    let power : has_step events last Power ≡ true = ap (λ b. not b && true) finishes.on in
+    let power : has_step events last Power ≡ true = grind (arith, finishes.on) in
     let all =
     go_on events start front.0 (after last Power)
     (collect (λ place. steps_of events wanted sure place (slice_get events place))
@@ -271,8 +258,8 @@ plan_leaves events first now wanted sure well_formed choice values =
     (go_one events last Power power)) in
     record {
       runs = all.runs;
-      fits = ap (λ (m : Machine). m.calls) all.ends ∙ finishes.calls;
-      off = ap (λ (m : Machine). m.off) all.ends;
+      fits = grind (arith, all.ends, finishes.calls);
+      off = grind (arith, all.ends);
       left = λ sector.
           ap (λ (m : Machine). unwrap_or (values_of_id events (newest (m.settled sector)) sector)
           (first sector)) all.ends
@@ -285,9 +272,6 @@ plan_leaves events first now wanted sure well_formed choice values =
           ∙ values sector;
     }
 
--- If the device could hold an image, the judge's account of it is a choice that a run can follow.
-
--- each event of a lawful list is within the device
 pub each_within : (sectors : ℕ) (events : List CoreEvent) (id : ℕ) → is_lawful sectors events ≡ true
     → id < length events → is_within sectors (slice_get events id) ≡ true
 each_within sectors events id lawful within =
@@ -295,7 +279,6 @@ each_within sectors events id lawful within =
     all_below-each test (length events)
     (and_parts (is_well_formed events) (all_below test (length events)) lawful).1 id within
 
--- so no request of it ends past the device
 pub lawful_ends : (sectors : ℕ) (events : List CoreEvent) → is_lawful sectors events ≡ true
     → sectors < 2 ^ 64 → EndsFit events
 lawful_ends sectors events lawful small = λ id bio is.
@@ -305,7 +288,6 @@ lawful_ends sectors events lawful small = λ id bio is.
     let most = submits_within bio sectors (ap (is_within sectors) (sym is) ∙ within) in
     omega arith
 
--- a list keeps no place past its end
 past_end : (places : List (Option ℕ)) (index : ℕ) → length places ≤ index
     → place_at places index ≡ None
 past_end [] zero h = refl
@@ -313,12 +295,10 @@ past_end [] (suc index) h = refl
 past_end (place ∷ places) zero h = absurd (omega arith)
 past_end (place ∷ places) (suc index) h = past_end places index (omega arith)
 
--- an index with a place is within the list
 place_within : (places : List (Option ℕ)) (index place : ℕ) → place_at places index ≡ Some place
     → index < length places
 place_within places index place is = grind (arith, cases_lt, past_end)
 
--- what a sector holds by an account, it holds
 held_is : (sectors : ℕ) (events : List CoreEvent) (now : Content) (account : Account)
     (sector id : ℕ) → IsAccount events now sectors account
     → place_at account.held.items sector ≡ Some id
@@ -327,7 +307,6 @@ held_is : (sectors : ℕ) (events : List CoreEvent) (now : Content) (account : A
 held_is sectors events now account sector id told is =
     grind (arith, place_within, last_below-found, held-parts)
 
--- a sector that holds no request's value has its first one, and no durable request covers it
 none_held : (sectors : ℕ) (events : List CoreEvent) (first now : Content) (account : Account)
     (sector : ℕ) → is_lawful sectors events ≡ true
     → Possible events first now → IsAccount events now sectors account
@@ -351,7 +330,6 @@ none_held sectors events first now account sector lawful possible told none =
       ]
     ]
 
--- a durable request isn't past the last one
 kept_upto : (sectors : ℕ) (events : List CoreEvent) (now : Content) (account : Account)
     (sector id : ℕ) → is_lawful sectors events ≡ true
     → IsAccount events now sectors account → is_kept events sector id ≡ true
@@ -377,7 +355,6 @@ kept_upto sectors events now account sector id lawful told kept =
       ]
     ]
 
--- and what isn't past the last one has a durable one from there on
 upto_kept : (sectors : ℕ) (events : List CoreEvent) (now : Content) (account : Account)
     (sector id : ℕ) → IsAccount events now sectors account
     → sure_by account.last.items id sector ≡ true
@@ -394,7 +371,6 @@ upto_kept sectors events now account sector id told needs =
           (some.0, leb-true id some.0 (sym (ap (is_upto id) some.1) ∙ needs), found.here)
     ]
 
--- the account is a choice
 account_choice : (sectors : ℕ) (events : List CoreEvent) (first now : Content) (account : Account)
     → is_lawful sectors events ≡ true
     → Possible events first now → IsAccount events now sectors account
@@ -411,7 +387,6 @@ account_choice sectors events first now account lawful possible told = record {
   before = λ sector id needs. upto_kept sectors events now account sector id told needs;
 }
 
--- and its values are the image's
 account_values : (sectors : ℕ) (events : List CoreEvent) (first now : Content) (account : Account)
     (sector : ℕ) → is_lawful sectors events ≡ true
     → Possible events first now → IsAccount events now sectors account
@@ -420,14 +395,11 @@ account_values : (sectors : ℕ) (events : List CoreEvent) (first now : Content)
 account_values sectors events first now account sector lawful possible told =
     elim (option_cases (place_at account.held.items sector)) [
       | inl none ↦
-          rw none (sym (none_held sectors events first now account sector lawful possible told
-          none).0)
+          grind (arith, none_held sectors events first now account sector lawful possible told none)
       | inr some ↦
-          rw some.1 (ap (λ (o : Option (List ℕ)). unwrap_or o (first sector)) (held_is sectors
-          events now account sector some.0 told some.1).0)
+          grind (arith, held_is sectors events now account sector some.0 told some.1)
     ]
 
--- so the plan by an account leaves the image
 pub account_leaves : (sectors : ℕ) (events : List CoreEvent) (first now : Content)
     (account : Account) (run : List Step) → is_lawful sectors events ≡ true
     → Possible events first now → IsAccount events now sectors account
@@ -441,9 +413,7 @@ account_leaves sectors events first now account run lawful possible told is =
     (account_choice sectors events first now account lawful possible told)
     (λ sector. account_values sectors events first now account sector lawful possible told))
 
--- Each content that the device could hold is left by some run.
-
--- the request whose value a sector has, by the reason why it could hold it
+-- the request that the proof of `PossibleAt` gives for the sector; none for the first value
 abbrev pub chosen : (events : List CoreEvent) (first now : Content) (sector : ℕ)
     → PossibleAt events first now sector → Option ℕ
 chosen events first now sector (inl same) = None
@@ -476,7 +446,6 @@ chosen_value : (events : List CoreEvent) (first now : Content) (sector : ℕ)
 chosen_value events first now sector (inl same) = sym same.0
 chosen_value events first now sector (inr from) = grind arith
 
--- a possible content is left by a run
 pub possible_reachable : (events : List CoreEvent) (first now : Content)
     → is_well_formed events ≡ true → Possible events first now → IsReachable events first now
 possible_reachable events first now well_formed possible =

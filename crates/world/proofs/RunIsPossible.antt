@@ -1,8 +1,7 @@
--- An invariant of each machine that took steps, and that a run leaves only contents that the device
--- could hold.
+-- A machine is sound after any steps, and so a run leaves only contents that the device could hold.
 use Rattle.std.proofs.Common.{List, [], ◌∷◌, length, refl, ap, sym, ◌∙◌, inl, inr, arith, ◌≡◌, ℕ}
 use Rattle.std.proofs.Common.{◌==◌, ◌<◌, Bool, true, false, not, ◌&&◌, ◌||◌, Option, Some, None}
-use Rattle.std.specs.Prelude.{◌⊎◌, slice_get, if◌then◌else◌, unwrap_or}
+use Rattle.std.specs.Prelude.{◌⊎◌, slice_get}
 use Rattle.std.proofs.lemmas.Bool.{and_parts, eq-eqb, eqb-true, ltb-true}
 use Rattle.std.specs.List.{list_all, list_any}
 use Rattle.bio.specs.Content.{Content}
@@ -15,7 +14,7 @@ use Rattle.bio.specs.PlaceLaws.{any_below-none, any_below-some, bool_cases, diff
 use Rattle.bio.specs.PlaceLaws.{first_below-found, option_cases, or_cases, or_second}
 use Rattle.bio.specs.PlaceLaws.{slice_get-within}
 use Rattle.bio.specs.Possible.{Possible, PossibleAt, covers_at, ended_ok, has_kept, is_durable}
-use Rattle.bio.specs.Possible.{is_flushed, is_kept, is_replaced, is_success, is_success_at}
+use Rattle.bio.specs.Possible.{is_flushed, is_kept, is_replaced, is_success_at}
 use Rattle.bio.specs.RequestLaws.{covered_value}
 use Rattle.bio.specs.Requests.{covers, has_fua}
 use Rattle.world.proofs.Calls.{among_cases, among_more, among_new, any_call, any_weaker}
@@ -28,16 +27,13 @@ use Rattle.world.specs.Machine.{durable, has_landed, has_settled, has_step, is_a
 use Rattle.world.specs.Machine.{is_pending, is_run, is_submit, may_succeed, may_take, newest}
 use Rattle.world.specs.Machine.{settled_if_ended, start, taken}
 
--- An invariant of each machine that took steps, whatever the steps were.
-
--- the request isn't the newest of these
 abbrev pub is_not_newest : ℕ → List ℕ → Bool
 is_not_newest id [] = true
 is_not_newest id (other ∷ ids) = not (other == id)
 
--- only requests that were submitted end and land, on sectors that they cover; what is settled has
--- landed; what ended durably is settled; and once a request that was submitted after another one's
--- end stands in a sector, that one isn't the newest there
+-- Only submitted requests end or land, and they land only on sectors that they cover. What is
+-- settled has landed, and what ended durably is settled (`fua`, `flushed`). If `later` was
+-- submitted after the end of `id` and is in a sector's list, `id` isn't the newest there.
 pub record IsSound (events : List CoreEvent) (m : Machine) : Type 0 where
   pub ended : (id : ℕ) → list_any (is_end id) m.calls ≡ true
       → list_any (is_submit id) m.calls ≡ true
@@ -62,7 +58,6 @@ pub record IsSound (events : List CoreEvent) (m : Machine) : Type 0 where
       → came_before (is_end id) (is_submit later) m.calls ≡ true
       → is_among (m.settled sector) later ≡ true → is_not_newest id (m.settled sector) ≡ true
 
--- a machine before its first step
 pub start_sound : (events : List CoreEvent) → IsSound events start
 start_sound events = record {
   ended = λ id h. h;
@@ -75,7 +70,6 @@ start_sound events = record {
   settled_later = λ sector id later came h. refl;
 }
 
--- a request that was submitted before now stands nowhere
 came_new : (early : Step → Bool) (later id : ℕ) (calls : List Step)
     → list_any (is_submit later) calls ≡ true → not (list_any (is_submit id) calls) ≡ true
     → came_before early (is_submit later) (Submit id ∷ calls) ≡ true
@@ -84,14 +78,10 @@ came_new early later id calls known new h =
     elim (or_cases (id == later && list_any early calls)
     (came_before early (is_submit later) calls) h) [
       | inl here ↦
-          let same = eqb-true id later (and_parts (id == later) (list_any early calls) here).0 in
-          clash (list_any (is_submit id) calls)
-          (rw same known)
-          (not_true (list_any (is_submit id) calls) new)
+          grind (arith, eqb-true, and_parts, clash, not_true)
       | inr there ↦ there
     ]
 
--- a submission keeps what holds
 submit_keeps : (events : List CoreEvent) (m : Machine) (id : ℕ) → IsSound events m
     → not (list_any (is_submit id) m.calls) ≡ true
     → IsSound events (after m (Submit id))
@@ -99,8 +89,7 @@ submit_keeps events m id sound new = record {
   ended =
       λ other h. or_second (id == other) (list_any (is_submit other) m.calls) (sound.ended other h);
   submitted =
-      λ sector other h. or_second (id == other) (list_any (is_submit other) m.calls)
-      (sound.submitted sector other h);
+      λ sector other h. grind (arith, or_second);
   covers = sound.covers;
   settled = sound.settled;
   fua = sound.fua;
@@ -111,16 +100,11 @@ submit_keeps events m id sound new = record {
       sound.flushed sector other flush good is_flush
       (came_new (is_good_end other) flush id m.calls known new came) covers;
   landed_later = λ sector other later came among.
-      sound.landed_later sector other later
-      (came_new (is_end other) later id m.calls
-      (sound.submitted sector later among) new came) among;
+      grind (arith, came_new);
   settled_later = λ sector other later came among.
-      let known = sound.submitted sector later (sound.settled sector later among) in
-      sound.settled_later sector other later
-      (came_new (is_end other) later id m.calls known new came) among;
+      grind (arith, came_new);
 }
 
--- a landing does
 land_keeps : (events : List CoreEvent) (m : Machine) (id sector : ℕ) → IsSound events m
     → is_pending m id ≡ true
     → covers_at sector (slice_get events id) ≡ true → IsSound events (after m (Land id sector))
@@ -131,43 +115,26 @@ land_keeps events m id sector sound pending covered =
     record {
       ended = sound.ended;
       submitted =
-          λ at other h. with_cases
-          (λ ids. is_among ids other ≡ true → list_any (is_submit other) m.calls ≡ true) sector
-          (id ∷ m.landed sector) m.landed at
-          (λ same among. elim (among_cases id other (m.landed sector) among) [
-            | inl is ↦ rw (← is) parts.0
-            | inr older ↦ sound.submitted sector other older
-          ]) (sound.submitted at other) h;
+          λ at other h. grind (arith, with_cases, true, among_cases);
       covers =
-          λ at other h. with_cases
-          (λ ids. is_among ids other ≡ true → covers_at at (slice_get events other) ≡ true) sector
-          (id ∷ m.landed sector) m.landed at
-          (λ same among. elim (among_cases id other (m.landed sector) among) [
-            | inl is ↦
-                rw (← is, same) covered
-            | inr older ↦
-                rw same (sound.covers sector other older)
-          ]) (sound.covers at other) h;
+          λ at other h. grind (arith, with_cases, true, among_cases);
       settled =
-          λ at other h. with_cases (λ ids. is_among ids other ≡ true) sector
-          (id ∷ m.landed sector) m.landed at
-          (λ same. among_more id other (m.landed sector)
-          (rw (← same) (sound.settled at other h)))
-          (sound.settled at other h);
+          λ at other h. grind (arith, with_cases, true, among_more);
       fua = sound.fua;
       flushed = sound.flushed;
       landed_later =
-          λ at other later came h. with_cases
-          (λ ids. is_among ids later ≡ true → is_not_newest other ids ≡ true) sector
-          (id ∷ m.landed sector) m.landed at
-          (λ same among. ap not (differ-eqb id other (λ is.
-          clash (list_any (is_end id) m.calls)
-          (rw is (came_early (is_end other) (is_submit later) m.calls came)) open_yet)))
-          (sound.landed_later at other later came) h;
+          λ at other later came h. grind (
+            arith,
+            with_cases,
+            true,
+            not,
+            differ-eqb,
+            clash,
+            came_early,
+          );
       settled_later = sound.settled_later;
     }
 
--- a destage does
 destage_keeps : (events : List CoreEvent) (m : Machine) (sector : ℕ) → IsSound events m
     → IsSound events (after m (Destage sector))
 destage_keeps events m sector sound = record {
@@ -175,48 +142,27 @@ destage_keeps events m sector sound = record {
   submitted = sound.submitted;
   covers = sound.covers;
   settled =
-      λ at id h. with_cases (λ ids. is_among ids id ≡ true
-      → is_among (m.landed at) id ≡ true) sector (m.landed sector) m.settled at
-      (λ same among. ap (λ s. is_among (m.landed s) id) same ∙ among) (sound.settled at id) h;
+      λ at id h. grind (arith, with_cases, true);
   fua =
-      λ at id good fua covered. with_cases (λ ids. is_among ids id ≡ true) sector
-      (m.landed sector) m.settled at
-      (λ same. ap (λ s. is_among (m.landed s) id) (sym same)
-      ∙ sound.settled at id (sound.fua at id good fua covered))
-      (sound.fua at id good fua covered);
+      λ at id good fua covered. grind (arith, with_cases, true);
   flushed =
-      λ at id flush good is_flush came covered. with_cases (λ ids. is_among ids id ≡ true) sector
-      (m.landed sector) m.settled at
-      (λ same. ap (λ s. is_among (m.landed s) id) (sym same)
-      ∙ sound.settled at id (sound.flushed at id flush good is_flush came covered))
-      (sound.flushed at id flush good is_flush came covered);
+      λ at id flush good is_flush came covered. grind (arith, with_cases, true);
   landed_later = sound.landed_later;
   settled_later =
-      λ at id later came h. with_cases
-      (λ ids. is_among ids later ≡ true → is_not_newest id ids ≡ true) sector
-      (m.landed sector) m.settled at
-      (λ same among. sound.landed_later sector id later came among)
-      (sound.settled_later at id later came) h;
+      λ at id later came h. grind (arith, with_cases, true);
 }
 
--- what came before some submission of a request came before the newest of them
+-- `before_submit` takes the newest submission of `id`, so it has the calls before older ones too
 came_submit : (early : Step → Bool) (id : ℕ) (calls : List Step)
     → came_before early (is_submit id) calls ≡ true → list_any early (before_submit id calls) ≡ true
 came_submit early id [] h = cc
 came_submit early id (call ∷ calls) h = elim (bool_cases (is_submit id call)) [
   | inl here ↦
-      ap (λ b. list_any early (if b then calls else before_submit id calls)) here
-      ∙ elim (or_cases (is_submit id call && list_any early calls)
-      (came_before early (is_submit id) calls) h) [
-        | inl one ↦ (and_parts (is_submit id call) (list_any early calls) one).1
-        | inr older ↦ came_early early (is_submit id) calls older
-      ]
+      grind (arith, or_cases, and_parts, came_early)
   | inr other ↦
-      rw other (came_submit early id calls (sym (ap (λ b. (b && list_any early calls) ||
-      came_before early (is_submit id) calls) other) ∙ h))
+      rw other (came_submit early id calls (sym (grind (arith, other)) ∙ h))
 ]
 
--- of steps that pass a test for ends, an end with success has its request settled
 good_settled : (events : List CoreEvent) (m : Machine) (id : ℕ) (steps : List Step)
     → list_all (settled_if_ended events m) steps ≡ true
     → list_any (is_good_end id) steps ≡ true → has_settled events m id ≡ true
@@ -244,12 +190,10 @@ good_settled events m id (step ∷ steps) all good =
     of_step (Destage sector) passes good = cc
     of_step Power passes good = cc
 
--- where one of two holds and the first is the other way round of what holds, the second does
 other_way : (a b : Bool) → (not a || b) ≡ true → a ≡ true → b ≡ true
 other_way true b h is = h
 other_way false b h is = cc
 
--- an end does
 end_keeps : (events : List CoreEvent) (m : Machine) (id : ℕ) (ok : Bool) → IsSound events m
     → is_pending m id ≡ true
     → (not ok || may_succeed events m id) ≡ true → IsSound events (after m (End id ok))
@@ -267,12 +211,11 @@ end_keeps events m id ok sound pending may =
     (and_parts (landed && fua) flush
     (other_way ok (landed && fua && flush) may good)).0).1 in
     let of_flush : ok ≡ true → flush ≡ true =
-    λ good. (and_parts (landed && fua) flush
-    (other_way ok (landed && fua && flush) may good)).1 in
+    λ good. grind (arith, and_parts, other_way) in
     record {
       ended = λ other h. elim (or_cases (id == other) (list_any (is_end other) m.calls) h) [
         | inl same ↦
-            ap (λ i. list_any (is_submit i) m.calls) (sym (eqb-true id other same)) ∙ parts.0
+            grind (arith, eqb-true id other same, parts.0)
         | inr older ↦ sound.ended other older
       ];
       submitted = sound.submitted;
@@ -312,7 +255,6 @@ end_keeps events m id ok sound pending may =
       settled_later = sound.settled_later;
     }
 
--- power does
 power_keeps : (events : List CoreEvent) (m : Machine) → IsSound events m
     → IsSound events (after m Power)
 power_keeps events m sound = record {
@@ -326,7 +268,6 @@ power_keeps events m sound = record {
   settled_later = sound.settled_later;
 }
 
--- each step that may be taken does
 pub keeps : (events : List CoreEvent) (m : Machine) (step : Step) → IsSound events m
     → may_take events m step ≡ true → IsSound events (after m step)
 keeps events m (Submit id) sound may =
@@ -344,7 +285,6 @@ keeps events m (End id ok) sound may =
     end_keeps events m id ok sound both.0 both.1
 keeps events m Power sound may = power_keeps events m sound
 
--- and so does a run
 pub run_sound : (events : List CoreEvent) (m : Machine) (run : List Step) → IsSound events m
     → is_run events m run ≡ true → IsSound events (taken m run)
 run_sound events m [] sound runs = sound
@@ -353,9 +293,6 @@ run_sound events m (step ∷ run) sound runs =
     let may = and_parts (not m.off) (may_take events m step) parts.0 in
     run_sound events (after m step) run (keeps events m step sound may.1) parts.1
 
--- A run leaves only contents that the device could hold.
-
--- an event is the end of a request where the test says so
 end_is : (id : ℕ) (event : Option CoreEvent) → is_end_of id event ≡ true
     → (ok : Bool) × (event ≡ Some (core_events.Complete id ok))
 end_is id (Some (core_events.Submit bio)) h = cc
@@ -366,7 +303,6 @@ end_is id (Some (core_events.Stop cause)) h = cc
 end_is id (Some core_events.Close) h = cc
 end_is id None h = cc
 
--- the end of a request that is found stands there, after its submission
 pub record Ends (events : List CoreEvent) (id place : ℕ) : Type 0 where
   pub within : place < length events
   pub later : id < place
@@ -378,30 +314,23 @@ pub end_found : (events : List CoreEvent) (id place : ℕ) → end_of events id 
 end_found events id place is =
     grind (arith, first_below-found, and_parts, end_is, ltb-true)
 
--- a request that ended with success has such an end
 pub good_found : (events : List CoreEvent) (id : ℕ) → ended_ok events id ≡ true
     → (place : ℕ) × (end_of events id ≡ Some place)
     × (slice_get events place ≡ Some (core_events.Complete id true))
 good_found events id good = elim (option_cases (end_of events id)) [
   | inl none ↦ clash (ended_ok events id) good (ap (is_success_at events) none)
   | inr some ↦
-      let end = end_found events id some.0 some.1 in
-      let is_ok : end.ok ≡ true =
-      sym (ap is_success end.event) ∙ (sym (ap (is_success_at events) some.1) ∙ good) in
-      (some.0, some.1, end.event ∙ rw is_ok)
+      grind (arith, end_found events id some.0 some.1, true)
 ]
 
--- a found end is below a place just where it is less
 below_found : (found : Option ℕ) (limit place : ℕ) → found ≡ Some place
     → is_below found limit ≡ true → place < limit
 below_found found limit place is below = grind (arith, ltb-true)
 
--- one request that is before another has an end below its place
 before_found : (events : List CoreEvent) (id later : ℕ) → is_before events id later ≡ true
     → (place : ℕ) × (end_of events id ≡ Some place) × (place < later)
 before_found events id later before = grind (arith, option_cases, below_found)
 
--- the call of a submission, and that of an end
 submit_call : (events : List CoreEvent) (place : ℕ) (bio : Bio)
     → slice_get events place ≡ Some (core_events.Submit bio)
     → call_of place (slice_get events place) ≡ Submit place ∷ []
@@ -412,7 +341,6 @@ end_call : (events : List CoreEvent) (place id : ℕ) (ok : Bool)
     → call_of place (slice_get events place) ≡ End id ok ∷ []
 end_call events place id ok is = ap (call_of place) is
 
--- a test of requests that holds has a submission
 pub submits_some : (test : Bio → Bool) (event : Option CoreEvent) → submits test event ≡ true
     → (bio : Bio) × (event ≡ Some (core_events.Submit bio))
 submits_some test (Some (core_events.Submit bio)) h = (bio, refl)
@@ -431,11 +359,9 @@ flush_some (Some (core_events.Stop cause)) h = cc
 flush_some (Some core_events.Close) h = cc
 flush_some None h = cc
 
--- a good end's step is one
 good_step : (id : ℕ) → is_good_end id (End id true) ≡ true
 good_step id = grind (arith, eq-eqb)
 
--- a request that ended with success ended among the calls of all events
 good_called : (events : List CoreEvent) (id : ℕ) → ended_ok events id ≡ true
     → list_any (is_good_end id) (calls_below events (length events)) ≡ true
 good_called events id good =
@@ -449,7 +375,6 @@ good_called events id good =
       end_call,
     )
 
--- a durable request is settled in each sector that it covers
 kept_settled : (events : List CoreEvent) (m : Machine) (sector id : ℕ) → IsSound events m
     → m.calls ≡ calls_below events (length events)
     → is_kept events sector id ≡ true → is_among (m.settled sector) id ≡ true
@@ -474,7 +399,7 @@ kept_settled events m sector id sound fits kept =
           let before = before_found events id flush ended.1 in
           let end = good_found events id both.0 in
           let same : end.0 ≡ before.0 = let one = sym end.1 ∙ before.1 in
-          ap (λ o. unwrap_or o 0) one in
+          grind (arith, one) in
           let less = before.2 in
           let bio = flush_some (slice_get events flush) is_flush.0 in
           let came =
@@ -487,7 +412,6 @@ kept_settled events m sector id sound fits kept =
           (ap (came_before (is_good_end id) (is_submit flush)) fits ∙ came) parts.1
     ]
 
--- the newest request that is settled in a sector is replaced by none
 newest_stays : (events : List CoreEvent) (m : Machine) (sector id : ℕ) → IsSound events m
     → m.calls ≡ calls_below events (length events)
     → is_not_newest id (m.settled sector) ≡ false → is_replaced events sector id ≡ false
@@ -516,27 +440,23 @@ newest_stays events m sector id sound fits is_newest =
       | inr other ↦ other
     ])
 
--- no durable request covers a sector where none is settled
 none_kept : (events : List CoreEvent) (m : Machine) (sector : ℕ) → IsSound events m
     → m.calls ≡ calls_below events (length events)
     → m.settled sector ≡ [] → has_kept events sector ≡ false
 none_kept events m sector sound fits none = grind (arith, any_below-none, bool_cases, kept_settled)
 
--- a list has a newest or is empty
 newest_cases : (ids : List ℕ)
     → (ids ≡ []) ⊎ ((id : ℕ) × (newest ids ≡ Some id) × (is_among ids id ≡ true)
     × (is_not_newest id ids ≡ false))
 newest_cases [] = inl refl
 newest_cases (id ∷ ids) = inr (id, refl, among_new id ids, ap not (eq-eqb id id refl))
 
--- what a sound machine leaves in a sector, the device could hold there
 possible_at : (events : List CoreEvent) (m : Machine) (first now : Content) (sector : ℕ)
     → IsSound events m → m.calls ≡ calls_below events (length events)
     → durable events first m sector ≡ now sector → PossibleAt events first now sector
 possible_at events m first now sector sound fits left =
     grind (arith, newest_cases (m.settled sector), none_kept, covered_value, newest_stays)
 
--- a content that a run leaves is possible
 pub reachable_possible : (events : List CoreEvent) (first now : Content)
     → IsReachable events first now → Possible events first now
 reachable_possible events first now reached =

@@ -1,9 +1,8 @@
--- The effect of one request's steps for its sectors, sector by sector.
-use Rattle.std.proofs.Common.{◌≡◌, ℕ, zero, suc, ◌+◌, ◌<◌, ◌≤◌, ◌==◌, Bool, true, false, not, ◌&&◌}
-use Rattle.std.proofs.Common.{Some, List, [], ◌∷◌, ◌++◌, refl, ap, sym, ◌∙◌, inl, inr, arith}
+-- The effect of one request's steps on the machine, sector by sector.
+use Rattle.std.proofs.Common.{◌≡◌, ℕ, zero, suc, ◌+◌, ◌<◌, ◌≤◌, ◌==◌, Bool, true, false, ◌&&◌, Some}
+use Rattle.std.proofs.Common.{List, [], ◌∷◌, ◌++◌, refl, ap, sym, ◌∙◌, inl, inr, arith}
 use Rattle.std.proofs.lemmas.Bool.{and_parts, cases_lt, le-leb, le-ltb, leb-true, lt-ltb, ltb-true}
 use Rattle.std.proofs.lemmas.Bool.Decides.{eqb_tells}
-use Rattle.std.specs.List.{list_any}
 use Rattle.std.specs.Prelude.{◌⊎◌, nat_le, nat_lt, slice_get, if◌then◌else◌}
 use Rattle.bio.specs.Places.{collect}
 use Rattle.bio.specs.PlaceLaws.{bool_cases}
@@ -14,12 +13,12 @@ use Rattle.bio.specs.Possible.{covers_at}
 use Rattle.bio.specs.RequestLaws.{covers-within}
 use Rattle.bio.specs.Requests.{covers, first_sector, is_tracked, sector_count}
 use Rattle.world.specs.declared.step.Step.{Step}
-use Rattle.world.specs.Machine.{Machine, after, has_step, is_among, is_end, is_pending, is_run}
-use Rattle.world.specs.Machine.{is_submit, taken, with_sector}
+use Rattle.world.specs.Machine.{Machine, after, has_step, is_among, is_pending, is_run, taken}
+use Rattle.world.specs.Machine.{with_sector}
 use Rattle.world.specs.inside.{by_sector, touch}
 use Rattle.world.proofs.Calls.{among_cases, among_more, clash, with_here}
 
--- the steps are a run from the one machine to the other
+-- `steps` is a run from `old` to `new`
 pub record StepsFrame (events : List CoreEvent) (old : Machine) (steps : List Step)
     (new : Machine) : Type 0 where
   pub runs : is_run events old steps ≡ true
@@ -41,33 +40,28 @@ taken_append : (m : Machine) (xs ys : List Step) → taken m (xs ++ ys) ≡ take
 taken_append m [] ys = refl
 taken_append m (step ∷ xs) ys = taken_append (after m step) xs ys
 
--- two runs, one after the other, are one
 pub go_on : (events : List CoreEvent) (a b c : Machine) (xs ys : List Step)
     → StepsFrame events a xs b → StepsFrame events b ys c → StepsFrame events a (xs ++ ys) c
 go_on events a b c xs ys front back = grind (arith, run_append, taken_append)
 
--- no steps are a run
 pub go_none : (events : List CoreEvent) (m : Machine) → StepsFrame events m [] m
 go_none events m = record { runs = refl; ends = refl }
 
--- one step is, where the machine has it
 pub go_one : (events : List CoreEvent) (m : Machine) (step : Step) → has_step events m step ≡ true
     → StepsFrame events m (step ∷ []) (after m step)
 go_one events m step has = grind arith
 
--- the request on top of the one list, where the test holds, and else the other list
 abbrev pub by_test : Bool → ℕ → List ℕ → List ℕ → List ℕ
 by_test test id landed other = if test then id ∷ landed else other
 
--- what holds of both holds by the test
 pub by_cases : (P : List ℕ → Type 0) (test : Bool) (id : ℕ) (landed other : List ℕ)
     → (test ≡ true → P (id ∷ landed)) → (test ≡ false → P other)
     → P (by_test test id landed other)
 by_cases P true id landed other yes_so not_so = yes_so refl
 by_cases P false id landed other yes_so not_so = not_so refl
 
--- in the sectors that are done the request has landed where it lands, and they were destaged where
--- it settles; all else is as it was
+-- In each sector of `done`, the request `id` has landed if `lands` holds, and the sector was then
+-- destaged if `settles` holds too. Nothing else has changed.
 pub record Touched (done lands settles : ℕ → Bool) (id : ℕ) (old new : Machine) : Type 0 where
   pub landed : (sector : ℕ)
       → new.landed sector ≡ by_test (done sector && lands sector) id (old.landed sector)
@@ -78,20 +72,17 @@ pub record Touched (done lands settles : ℕ → Bool) (id : ℕ) (old new : Mac
   pub calls : new.calls ≡ old.calls
   pub off : new.off ≡ old.off
 
--- a list with another one for a sector where the test holds
 with_is : (test : ℕ → Bool) (sector id : ℕ) (landed other : ℕ → List ℕ) (at : ℕ)
     → test sector ≡ true
     → with_sector sector (id ∷ landed sector) other at
     ≡ by_test (at == sector && test at) id (landed at) (other at)
 with_is test sector id landed other at holds = grind (arith, eqb_tells)
 
--- and as it is where the test fails
 with_not : (test : ℕ → Bool) (sector id : ℕ) (landed other : ℕ → List ℕ) (at : ℕ)
     → test sector ≡ false
     → other at ≡ by_test (at == sector && test at) id (landed at) (other at)
 with_not test sector id landed other at fails = grind (arith, eqb_tells)
 
--- what one request does in one sector
 touch_one : (events : List CoreEvent) (m : Machine) (lands settles : ℕ → Bool) (id sector : ℕ)
     → m.off ≡ false → is_pending m id ≡ true
     → covers_at sector (slice_get events id) ≡ true
@@ -101,7 +92,6 @@ touch_one : (events : List CoreEvent) (m : Machine) (lands settles : ℕ → Boo
 touch_one events m lands settles id sector on pending covered fresh =
     grind (arith, bool_cases, go_none, with_not, go_one, with_is, with_here, go_on)
 
--- two parts of the sectors, one after the other
 touched_both : (first second both lands settles : ℕ → Bool) (id : ℕ) (old mid new : Machine)
     → ((at : ℕ) → first at ≡ true → (second at ≡ false) × (both at ≡ true))
     → ((at : ℕ) → first at ≡ false → both at ≡ second at)
@@ -110,7 +100,6 @@ touched_both : (first second both lands settles : ℕ → Bool) (id : ℕ) (old 
 touched_both first second both lands settles id old mid new yes_so not_so a b =
     grind (arith, bool_cases)
 
--- the sectors of a range
 abbrev pub is_in : ℕ → ℕ → ℕ → Bool
 is_in first count at = nat_le first at && nat_lt at (first + count)
 
@@ -125,7 +114,6 @@ past_range first n at h =
 in_range : (first n at : ℕ) → first ≤ at → at < first + n → is_in first n at ≡ true
 in_range first n at low high = grind (arith, le-leb, lt-ltb)
 
--- a sector of a range that is one longer is in the range before, or is the one more
 longer_in : (first n at : ℕ) → is_in first n at ≡ true
     → ((at == first + n) ≡ false) × (is_in first (suc n) at ≡ true)
 longer_in first n at within = elim (cases_lt at (first + n)) [
@@ -133,8 +121,7 @@ longer_in first n at within = elim (cases_lt at (first + n)) [
     | inl same ↦ absurd (let is = same.1 in omega arith)
     | inr differ ↦ elim (cases_lt at first) [
       | inl before ↦
-          clash (is_in first n at) within
-          (rw (below first at before))
+          grind (arith, clash)
       | inr from ↦ (differ.0, in_range first (suc n) at from (omega arith))
     ]
   ]
@@ -149,7 +136,6 @@ longer_not : (first n at : ℕ) → is_in first n at ≡ false
 longer_not first n at out =
     grind (arith, eqb_tells, in_range, bool_cases, and_parts, leb-true, ltb-true)
 
--- what one request does in a range of sectors
 touch_range : (events : List CoreEvent) (m : Machine) (lands settles : ℕ → Bool) (id first n : ℕ)
     → m.off ≡ false → is_pending m id ≡ true
     → ((k : ℕ) → k < n → covers_at (first + k) (slice_get events id) ≡ true)
@@ -161,10 +147,9 @@ touch_range events m lands settles id first zero on pending covered fresh = (
   m,
   go_none events m,
   record {
-    landed = λ at. sym (ap (λ t. by_test (t && lands at) id (m.landed at) (m.landed at)) (none at));
+    landed = λ at. sym (grind (arith, none at));
     settled =
-        λ at. sym (ap (λ t. by_test (t && (lands at && settles at)) id (m.landed at) (m.settled at))
-        (none at));
+        λ at. grind arith;
     calls = refl;
     off = refl;
   },
@@ -183,7 +168,7 @@ touch_range events m lands settles id first (suc n) on pending covered fresh =
     ∙ ap (λ t. by_test (t && lands (first + n)) id (m.landed (first + n)) (m.landed (first + n)))
     (past_range first n (first + n) (omega arith)) in
     let last = touch_one events mid lands settles id (first + n) (touched.off ∙ on)
-    (ap (λ calls. list_any (is_submit id) calls && not (list_any (is_end id) calls)) touched.calls
+    (grind (arith, touched.calls)
     ∙ pending)
     (covered n (omega arith))
     (λ goes. ap (λ ids. is_among ids id) same ∙ fresh n (omega arith) goes) in (
@@ -196,7 +181,6 @@ touch_range events m lands settles id first (suc n) on pending covered fresh =
           (longer_not first n) touched last.2,
     )
 
--- what one request does in all its sectors
 pub touch_all : (events : List CoreEvent) (m : Machine) (lands settles : ℕ → Bool) (id : ℕ)
     (bio : Bio) → slice_get events id ≡ Some (core_events.Submit bio)
     → is_tracked bio ≡ true → m.off ≡ false → is_pending m id ≡ true
@@ -217,30 +201,25 @@ touch_all events m lands settles id bio is tracked on pending fresh =
     (λ k h. fresh (first + k) (within k h)) in
     let touched = range.2 in
     let same : (at : ℕ) → is_in first n at ≡ covers bio at =
-    λ at. sym (ap (λ t. (t && nat_le first at) && nat_lt at (first + n)) tracked) in (
+    λ at. sym (grind (arith, tracked)) in (
       range.0,
       range.1,
       record {
         landed =
-            λ at. touched.landed at ∙ ap
-            (λ t. by_test (t && lands at) id (m.landed at) (m.landed at)) (same at);
+            λ at. grind arith;
         settled =
-            λ at. touched.settled at
-            ∙ ap (λ t. by_test (t && (lands at && settles at)) id (m.landed at) (m.settled at))
-            (same at);
+            λ at. grind arith;
         calls = touched.calls;
         off = touched.off;
       },
     )
 
--- what stood in a sector stands there afterwards
 pub more_landed : (done lands settles : ℕ → Bool) (id : ℕ) (old new : Machine) (sector other : ℕ)
     → Touched done lands settles id old new
     → is_among (old.landed sector) other ≡ true → is_among (new.landed sector) other ≡ true
 more_landed done lands settles id old new sector other touched among =
     grind (arith, by_cases, among_more)
 
--- what stands there stood there, or is the request itself, where it lands
 pub landed_from : (done lands settles : ℕ → Bool) (id : ℕ) (old new : Machine) (sector other : ℕ)
     → Touched done lands settles id old new
     → is_among (new.landed sector) other ≡ true
@@ -249,7 +228,6 @@ pub landed_from : (done lands settles : ℕ → Bool) (id : ℕ) (old new : Mach
 landed_from done lands settles id old new sector other touched among =
     grind (arith, by_cases, among_cases)
 
--- what was settled, and had landed, is settled afterwards
 pub more_settled : (done lands settles : ℕ → Bool) (id : ℕ) (old new : Machine) (sector other : ℕ)
     → Touched done lands settles id old new
     → is_among (old.landed sector) other ≡ true → is_among (old.settled sector) other ≡ true
@@ -257,7 +235,6 @@ pub more_settled : (done lands settles : ℕ → Bool) (id : ℕ) (old new : Mac
 more_settled done lands settles id old new sector other touched landed among =
     grind (arith, by_cases, among_more)
 
--- what is settled has landed
 pub still_within : (done lands settles : ℕ → Bool) (id : ℕ) (old new : Machine) (sector other : ℕ)
     → Touched done lands settles id old new
     → (is_among (old.settled sector) other ≡ true → is_among (old.landed sector) other ≡ true)
@@ -265,13 +242,11 @@ pub still_within : (done lands settles : ℕ → Bool) (id : ℕ) (old new : Mac
 still_within done lands settles id old new sector other touched within among =
     grind (arith, by_cases, and_parts, more_landed)
 
--- where the request lands in a sector that is done it stands there
 pub lands_there : (done lands settles : ℕ → Bool) (id : ℕ) (old new : Machine) (sector : ℕ)
     → Touched done lands settles id old new
     → done sector ≡ true → lands sector ≡ true → new.landed sector ≡ id ∷ old.landed sector
 lands_there done lands settles id old new sector touched is goes = grind arith
 
--- and where it settles it is the newest that is settled
 pub settles_there : (done lands settles : ℕ → Bool) (id : ℕ) (old new : Machine) (sector : ℕ)
     → Touched done lands settles id old new
     → done sector ≡ true → lands sector ≡ true → settles sector ≡ true

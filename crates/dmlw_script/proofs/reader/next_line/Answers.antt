@@ -1,8 +1,8 @@
-use Rattle.std.proofs.Common.{◌≡◌, ◌<◌, [], length, arith, sym, ap, ◌∙◌}
-use Rattle.std.specs.Prelude.{unwrap_or, option_copied}
+use Rattle.std.proofs.Common.{[], length, arith, sym, ◌≡◌, ◌<◌, ap, ◌∙◌}
 use Rattle.std.proofs.lemmas.Bool.{eqb-false}
-use Rattle.dmlw_script.proofs.WordLaws.{after_line, first_line_of}
+use Rattle.dmlw_script.proofs.WordLaws.{first_line_of, after_line}
 use Rattle.dmlw_script.proofs.reader.next_line.Goals as goal
+use Rattle.std.specs.Prelude.{unwrap_or, option_copied}
 
 pub returns-in-Some : goal.returns-in-Some
 returns-in-Some c =

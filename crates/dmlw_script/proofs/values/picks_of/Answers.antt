@@ -1,19 +1,11 @@
-use Rattle.std.proofs.Common.{List, ℕ, refl, ap, sym, ◌∙◌, arith}
+use Rattle.std.proofs.Common.{List, ℕ, ap, sym, ◌∙◌, arith}
 use Rattle.std.specs.Prelude.{option_copied}
-use Rattle.dmlw_script.specs.inside.LineParser.{picks_of as the_picks}
 use Rattle.refusals.specs.Words.{number_of as the_number}
-use Rattle.dmlw_script.proofs.WordLaws.{left_behind, no_pick, pick_read, picks_after}
+use Rattle.dmlw_script.proofs.WordLaws.{left_behind, no_pick, pick_read}
 use Rattle.dmlw_script.proofs.values.picks_of.Goals as goal
 
 pub returns-in-None-clause-none : goal.returns-in-None-clause-none
-returns-in-None-clause-none c =
-    let front = c.loop-rest.picks.items in (
-      refl,
-      no_pick front c.in-Some.words.now _
-          (ap the_number (sym c.cut.ensures.before_byte) ∙ sym c.number_of.ensures ∙ c.in-None.is)
-          (ap (λ o. picks_after front (the_picks (option_copied o))) (sym c.in-Some.is)
-          ∙ c.loop-rest.invariant),
-    )
+returns-in-None-clause-none c = grind (arith, no_pick)
 
 pub loop-rest-smaller : goal.loop-rest-smaller
 loop-rest-smaller c = grind (arith, left_behind)
@@ -21,11 +13,10 @@ loop-rest-smaller c = grind (arith, left_behind)
 pub loop-rest-preserved : goal.loop-rest-preserved
 loop-rest-preserved c =
     let front = c.loop-rest.picks.items in
-    ap (λ (items : List ℕ). picks_after items
-    (the_picks (option_copied c.cut.result.1))) c.in_ok-push-in-Some-number_of.ensures.items
+    grind (arith, c.in_ok-push-in-Some-number_of.ensures.items)
     ∙ pick_read front c.in-Some.words.now c.in-Some-number_of.pick (option_copied c.cut.result.1) _
     (sym c.cut.ensures.after_byte)
     (ap the_number (sym c.cut.ensures.before_byte) ∙ sym c.number_of.ensures
     ∙ c.in-Some-number_of.is)
-    (ap (λ o. picks_after front (the_picks (option_copied o))) (sym c.in-Some.is)
+    (grind (arith, c.in-Some.is)
     ∙ c.loop-rest.invariant)

@@ -2,7 +2,6 @@ use Rattle.dust_layer.specs.Walk.{call_of, fua_of, listed}
 use Rattle.dust_layer.proofs.BlockWalk.{Changes}
 use Rattle.dust_layer.proofs.blocks.change_blocks.Given as goal
 
--- the parts of the blocks so far are done
 abbrev pub invariant-loop-done : goal.invariant-loop-done
 invariant-loop-done g l =
     Changes g.D.BlockDev.does g.D.BlockDev.shown l.fn.block

@@ -3,7 +3,6 @@ use Rattle.dust_layer.specs.Walk.{listed}
 use Rattle.dust_layer.proofs.ReadParts.{Reading}
 use Rattle.dust_layer.proofs.blocks.read_blocks.Given as goal
 
--- the parts of the blocks so far are read
 abbrev pub invariant-loop-done : goal.invariant-loop-done
 invariant-loop-done g l =
     Reading g.D.BlockDev.does g.D.BlockDev.shown l.fn.block l.fn.first l.fn.buffer l.buffer

@@ -7,7 +7,7 @@ use Rattle.log_format.specs.EntryLaws.{sector_size_bounds}
 use Rattle.pending.specs.Plain.{HasLog}
 use Rattle.headline.proofs.laws.crashed_logs_are_held.Goals as goal
 
--- a log ends within its disk: what holds the same there has it too
+-- a log ends within its disk, so only the disk's sectors matter
 log_within : (S : ℕ) (events : List CoreEvent) (ids : List ℕ) (disk : ℕ) (old new : Content)
     → IsTrue (is_sector_size S) → AgreeBelow disk old new → HasLog S events ids disk old
     → HasLog S events ids disk new

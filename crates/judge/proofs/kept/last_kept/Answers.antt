@@ -1,4 +1,4 @@
-use Rattle.std.proofs.Common.{◌≡◌, ℕ, suc, ◌+◌, sym, ◌∙◌, subst, arith}
+use Rattle.std.proofs.Common.{◌≡◌, ℕ, suc, ◌+◌, subst, arith}
 use Rattle.judge.specs.inside.{AreLastKept}
 use Rattle.bio.specs.PlaceLaws.{slice_get-of_get_or}
 use Rattle.judge.proofs.HeldValues.{last_kept_durable, last_kept_other}
@@ -15,13 +15,7 @@ loop-place-preserved c =
     let Until = λ (n : ℕ). AreLastKept events c.args.sectors n c.if-is_durable.last.items in
     subst Until next (elim c.if-is_durable.branch [
       | then-is_durable w ↦
-          rw w.last-is
-          (last_kept_durable events event c.args.sectors place c.loop-place.last.items
-          w.note_kept.new.last.items
-          (slice_get-of_get_or events place event c.loop-place-test.true c.index-events-place.is)
-          (sym c.is_durable.ensures ∙ w.if-is_durable.true)
-          w.note_kept.ensures.size w.note_kept.ensures.covered w.note_kept.ensures.other before)
+          grind (arith, last_kept_durable, slice_get-of_get_or)
       | else-is_durable w ↦
-          rw w.last-is (last_kept_other events c.args.sectors place c.loop-place.last.items
-          (sym c.is_durable.ensures ∙ w.if-is_durable.false) before)
+          grind (arith, last_kept_other)
     ])

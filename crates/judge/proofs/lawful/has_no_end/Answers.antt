@@ -1,9 +1,8 @@
 use Rattle.std.proofs.Common.{ℕ, ◌&&◌, length, ap, sym, ◌∙◌, arith}
 use Rattle.std.proofs.lemmas.Bool.{lt-ltb, le-ltb}
 use Rattle.std.specs.Prelude.{nat_lt, slice_get}
-use Rattle.bio.specs.PlaceLaws.{none_first_below, none_next, not_none}
+use Rattle.bio.specs.PlaceLaws.{none_first_below, none_next, not_none, slice_get-of_get_or}
 use Rattle.bio.specs.Events.{is_end_of}
-use Rattle.bio.specs.PlaceLaws.{slice_get-of_get_or}
 use Rattle.judge.proofs.lawful.has_no_end.Goals as goal
 
 pub loop-place-init : goal.loop-place-init
@@ -17,7 +16,7 @@ returns-then-is_end_of c =
     let low = c.loop-place.auto.place in
     not_none (λ (k : ℕ). nat_lt id k && is_end_of id (slice_get events k))
     (length events) place c.loop-place-test.true
-    (ap (λ b. b && is_end_of id (slice_get events place)) (lt-ltb id place (omega arith))
+    (grind (arith, lt-ltb id place (omega arith))
     ∙ (ap (is_end_of id) (slice_get-of_get_or events place c.index-events-place.result
     c.loop-place-test.true c.index-events-place.is)
     ∙ (sym c.is_end_of.ensures ∙ c.if-is_end_of.true)))

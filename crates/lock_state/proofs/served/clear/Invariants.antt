@@ -3,7 +3,7 @@ use Rattle.lock_state.specs.declared.served.Seen.{Seen}
 use Rattle.lock_state.specs.declared.served.Seen.TheVariants.{Never}
 use Rattle.lock_state.proofs.served.clear.Given as goal
 
--- So many notes are cleared.
+-- The first `n` notes are cleared.
 pub record Cleared (before notes : List Seen) (n : ℕ) : Type 0 where
   pub size : length notes ≡ length before
   pub none : (k : ℕ) (seen : Seen) → k < n → slice_get notes k ≡ Some seen → seen ≡ Never

@@ -32,18 +32,15 @@ returns-in_err-played-clause-faults c =
     on_error c.from_residual.result c.from_residual.ensures.1
     (λ fault is. subst (FailsRehearsal _ _) (sym is) (inl c.in_err-played.ensures.faults))
 
--- what was kept has what the made has, where it was kept
 of_kept : {A E : Type 0} (r : Result A E) (P : A → Type 0) (made : A) (ample : Bool)
     → IfOk r (λ it. (it ≡ made) × (ample ≡ true)) → (ample ≡ true → P made) → IfOk r P
 of_kept (Ok it) P made ample is gives = subst P (sym is.0) (gives is.1)
 of_kept (Err error) P made ample is gives = tt
 
--- a test whose opposite holds doesn't
 is_off : (b : Bool) → not b ≡ true → b ≡ false
 is_off false is = refl
 is_off true is = absurd (cc)
 
--- what isn't ample came short in one of three ways
 ran_out : (short asked stopped : Bool) → ((not short && asked) && not stopped) ≡ false
     → (short ≡ true) ⊎ ((asked ≡ false) ⊎ (stopped ≡ true))
 ran_out true asked stopped is = inl refl
@@ -51,7 +48,6 @@ ran_out false false stopped is = inr (inl refl)
 ran_out false true true is = inr (inr refl)
 ran_out false true false is = absurd (cc)
 
--- and where it wasn't, the fault is this
 of_refused : {A E : Type 0} (r : Result A E) (P Q : E → Type 0) → IfErr r P
     → ((error : E) → P error → Q error) → IfErr r Q
 of_refused (Ok it) P Q is gives = tt

@@ -4,7 +4,6 @@ use Rattle.shared.specs.declared.closing.Unclosed.{Unclosed}
 use Rattle.shared.specs.declared.closing.Unclosed.TheVariants.{Foreign}
 use Rattle.script_runner.proofs.seat_run.close.Goals as goal
 
--- what holds of what a foreign close hands back
 of_foreign : {A B : Type 0} (unclosed : Unclosed A B) (back : B) (P : B → Type 0)
     → unclosed ≡ Foreign back → IfForeign unclosed P → P back
 of_foreign unclosed back P is told = subst (λ u. IfForeign u P) is told

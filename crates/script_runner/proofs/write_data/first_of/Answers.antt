@@ -5,7 +5,6 @@ use Rattle.std.proofs.lemmas.Option.{get_or_from_slice_get, slice_get-get_or}
 use Rattle.std.proofs.lemmas.Result.{IfOk-weaker}
 use Rattle.script_runner.proofs.write_data.first_of.Goals as goal
 
--- the first bytes of a row of one byte
 prefix : (row : List ℕ) (count byte : ℕ) → row ≡ replicate (length row) byte → count ≤ length row
     → take count row ≡ replicate count byte
 prefix row count byte filled long =

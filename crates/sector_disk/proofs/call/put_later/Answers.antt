@@ -1,5 +1,5 @@
 use Rattle.std.proofs.Common.{◌≡◌, ◌+◌, ◌*◌, ◌∙◌, ◌-◌, ap, arith, drop, length, sym, take}
-use Rattle.sector_disk.specs.inside.Storage.{place_of, put_over, value_at}
+use Rattle.sector_disk.specs.inside.Storage.{place_of, put_over}
 use Rattle.sector_disk.proofs.ImageBack.{gather-kept, gather-next, left_first, left_later}
 use Rattle.sector_disk.proofs.ImageBack.{length-value_at, rest-next, rest-put}
 use Rattle.sector_disk.proofs.call.put_later.Goals as goal
@@ -21,7 +21,7 @@ loop-sector-preserved c =
       | then-place-gt0 w ↦
           let later_is = w.if-place-gt0.true in
           let value = w.read_place.new.buffer in
-          let read = w.read_place.ensures ∙ ap (λ p. value_at later (p - 1) sector) place
+          let read = grind (arith, w.read_place.ensures, place)
           ∙ sym (left_later later first (place_of places sector) sector (omega arith))
           ∙ ap content from in
           let size = ap length w.read_place.ensures ∙ length-value_at later _ sector in (
@@ -31,12 +31,5 @@ loop-sector-preserved c =
                 ∙ rest-put sector c.loop-sector.image first value (omega arith) size earlier.1,
           )
       | else-place-gt0 w ↦
-          let first_is = w.if-place-gt0.false in (
-            ap (take (512 * (sector + 1))) w.image-is
-                ∙ gather-kept content sector c.loop-sector.image first earlier.1
-                (left_first later first (place_of places sector) sector
-                (λ some. absurd (omega arith))) earlier.0,
-            ap (drop (512 * (sector + 1))) w.image-is
-                ∙ rest-next sector c.loop-sector.image first earlier.1,
-          )
+          grind (arith, take, gather-kept, left_first, drop, rest-next)
     ]

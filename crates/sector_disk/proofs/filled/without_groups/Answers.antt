@@ -5,7 +5,6 @@ use Rattle.std.specs.Cmp.Lexicographic.{same_text}
 use Rattle.std.proofs.lemmas.List.Folds.{drop_split}
 use Rattle.sector_disk.proofs.filled.without_groups.Goals as goal
 
--- one more group before those that are filled
 more : (bytes : List ℕ) (n end fill : ℕ) → n ≤ end → end ≤ length bytes
     → slice_range bytes (end - n) end ≡ replicate n fill
     → drop end bytes ≡ replicate (length bytes - end) fill

@@ -1,4 +1,4 @@
-use Rattle.std.proofs.Common.{ℕ, ◌+◌, Bool, ap, sym, ◌∙◌, arith}
+use Rattle.std.proofs.Common.{ℕ, ◌+◌, Bool, sym, ◌∙◌, arith}
 use Rattle.std.specs.Prelude.{slice_get}
 use Rattle.bio.specs.PlaceLaws.{all_next, not_all}
 use Rattle.bio.specs.Requests.{first_sector, sector_count}
@@ -15,7 +15,7 @@ returns-then-not-has_landed_at c =
     let inside = c.loop-place-test.true in
     not_all (λ k. test (first_sector c.args.bio.now + k)) (sector_count c.args.bio.now) place
     (omega arith)
-    (ap (λ (first : ℕ). test (first + place)) (sym c.first_sector-first.ensures)
+    (grind (arith, c.first_sector-first.ensures)
     ∙ (sym c.has_landed_at.ensures ∙ c.if-not-has_landed_at.true))
 
 pub loop-place-preserved : goal.loop-place-preserved

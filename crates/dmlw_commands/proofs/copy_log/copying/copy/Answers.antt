@@ -2,8 +2,7 @@ use Rattle.std.proofs.Common.{◌∙◌, None}
 use Rattle.dmlw_commands.specs.EndLaws.{ends_told}
 use Rattle.dmlw_commands.specs.Ends.{exit_by}
 use Rattle.dmlw_commands.specs.LogCopies.{FailsCopy}
-use Rattle.dmlw_commands.proofs.CommandEnds.{keeping_steady}
-use Rattle.dmlw_commands.proofs.CommandEnds.{done_or_refused, fault_told, makes_end}
+use Rattle.dmlw_commands.proofs.CommandEnds.{keeping_steady, done_or_refused, fault_told, makes_end}
 use Rattle.dmlw_commands.proofs.CopyOnDisks.{file_stop_refused}
 use Rattle.dmlw_commands.proofs.copy_log.copying.copy.Goals as goal
 

@@ -4,8 +4,8 @@ use Rattle.headline.specs.ReopenedLog.{IsRefused, IsReplayed as IsReopened}
 use Rattle.script_runner.specs.CallLaws.{on_error}
 use Rattle.sector_disk.specs.DiskView.{shown_of}
 use Rattle.dmlw_commands.proofs.ReplayOnDisk.{fails_on, fails_to_open, honest, image_left}
-use Rattle.dmlw_commands.proofs.ImageLog.{never_failed}
 use Rattle.dmlw_commands.proofs.ReplayOnDisk.{replayed_on}
+use Rattle.dmlw_commands.proofs.ImageLog.{never_failed}
 use Rattle.dmlw_commands.proofs.replay_log.images.replay_images.Goals as goal
 
 pub returns-in_err-log-clause-fails : goal.returns-in_err-log-clause-fails

@@ -1,7 +1,6 @@
 use Rattle.std.proofs.Common.{ap, ◌∙◌}
 use Rattle.layer_table.proofs.StackLayers.{all_under, first_asked, none_refused, none_under}
-use Rattle.layer_table.proofs.StackLayers.{of_error}
-use Rattle.layer_table.proofs.StackLayers.{one_under, partly_under}
+use Rattle.layer_table.proofs.StackLayers.{of_error, one_under, partly_under}
 use Rattle.layer_table.proofs.stack.Stack.under.Goals as goal
 
 pub loop-spec-init : goal.loop-spec-init

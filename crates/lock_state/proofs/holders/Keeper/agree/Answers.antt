@@ -34,15 +34,4 @@ load-requires g c =
     (j.0 ∙ i.1 ∙ sym i.0, omega arith, agrees _ _ _ _ _ _ _ both)
 
 pub split_seat-requires : goal.split_seat-requires
-split_seat-requires g c =
-    let i = c.self.invariant in
-    let m = c.mine.invariant in
-    let s = c.split_seat-lent.ensures in
-    let part = lent_is c.mine.inside.pass.me c.split_seat-lent.result.me _ _ m.1 s.4 in
-    let j = c.join_seat.ensures in
-    let both =
-    joined c.self.inside.pass.me c.join_seat.new.seat.me c.split_seat-lent.result.me _ _ _
-    i.3 part j.2 in
-    let t = c.load.ensures in
-    let now = same_is c.join_seat.new.seat.me c.load.new.seat.me _ _ _ both t.2 in
-    (t.0 ∙ j.0 ∙ i.1 ∙ sym i.0, omega arith, splits _ _ (rw now.1))
+split_seat-requires g c = grind (arith, lent_is, joined, same_is, splits)

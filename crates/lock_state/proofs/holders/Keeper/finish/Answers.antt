@@ -34,15 +34,4 @@ store-requires g c =
     (j.0 ∙ i.1 ∙ sym i.0, omega arith, sets _ _ _ (λ _. 0) _ _ _ _ _ both)
 
 pub split_seat-requires : goal.split_seat-requires
-split_seat-requires g c =
-    let i = c.self.invariant in
-    let m = c.mine.invariant in
-    let s = c.split_seat-lent.ensures in
-    let part = lent_is c.mine.inside.pass.me c.split_seat-lent.result.me _ _ m.1 s.4 in
-    let j = c.join_seat.ensures in
-    let both =
-    joined c.self.inside.pass.me c.join_seat.new.seat.me c.split_seat-lent.result.me _ _ _
-    i.3 part j.2 in
-    let t = c.store.ensures in
-    let now = set_is c.join_seat.new.seat.me c.store.new.seat.me _ _ _ _ both t.2 in
-    (t.0 ∙ j.0 ∙ i.1 ∙ sym i.0, omega arith, splits _ _ (rw now.1))
+split_seat-requires g c = grind (arith, lent_is, joined, set_is, splits)

@@ -29,7 +29,7 @@ unreachable-requires g c =
       same,
       past,
       c.place.ensures,
-      ap (λ (es : List CoreEvent). length es) c.events.ensures.events,
+      ap length c.events.ensures.events,
     )
 
 pub returns : goal.returns

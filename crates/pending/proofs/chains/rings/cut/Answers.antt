@@ -1,6 +1,7 @@
 use Rattle.std.proofs.Common.{set, Some, refl, ap, sym, ◌∙◌, arith}
 use Rattle.pending.specs.inside.Tables.{after}
-use Rattle.pending.proofs.HoldsLaws.{holds-cut, holds-emptied, first-is-row, last-is-row, holds-same}
+use Rattle.pending.proofs.HoldsLaws.{holds-cut, holds-emptied, first-is-row, last-is-row}
+use Rattle.pending.proofs.HoldsLaws.{holds-same}
 use Rattle.pending.proofs.chains.rings.cut.Goals as goal
 
 pub next-first-requires : goal.next-first-requires
@@ -23,5 +24,5 @@ returns-clause-holds c = λ lasts loose chains chain h there.
     let second = c.next-second.ensures ∙ rw c.next-first.ensures in
     holds-same (set next last (after next (after next last))) c.write.new.self.next.items
     (set lasts chain (Some last))
-    (c.write.ensures.next ∙ ap (λ row. set next last row) second) refl
+    (c.write.ensures.next ∙ ap (set next last) second) refl
     (holds-cut h chain last there (λ e. c.if-first-last.false (c.next-first.ensures ∙ e)))

@@ -1,4 +1,4 @@
-use Rattle.std.proofs.Common.{[], length, set, None, ap, sym, ◌∙◌, arith, length-set}
+use Rattle.std.proofs.Common.{[], length, set, sym, ◌∙◌, arith, length-set}
 use Rattle.pending.specs.ChainsView.{chain_in}
 use Rattle.pending.proofs.HoldsLaws.{holds-fronted, ring-at, holds-same, ring-same, holds-loosened}
 use Rattle.pending.proofs.chains.rings.put_before.Goals as goal
@@ -18,12 +18,9 @@ put_ring-requires c =
           c.write.ensures.next c.write.ensures.lasts
           (holds-loosened h c.args.from c.requires.from);
       ring =
-          ring-same next c.write.new.self.next.items c.in-Some.moved
-          (chain_in c.requires.kept.chains c.args.from) c.write.ensures.next
-          (ring-at h c.args.from c.in-Some.moved noted);
+          grind (arith, ring-same, ring-at);
       there =
-          let e = ap length c.write.ensures.lasts in
-          let onto = c.requires.onto in omega (arith, length-set lasts c.args.from None);
+          grind (arith, length, length-set);
     }
 
 pub returns-clause-holds : goal.returns-clause-holds

@@ -39,12 +39,11 @@ returns-in-Some-clause-holds c = λ lasts loose chains h within same.
     let last = c.in-Some.last in
     let row = c.args.row in
     let noted = sym c.last.ensures ∙ c.in-Some.is in
-    let first = ap (λ r. set next row r) c.next-first.ensures in
+    let first = ap (set next row) c.next-first.ensures in
     holds-same (set (set next row (after next last)) last row) c.write-in-Some.new.self.next.items
     (set lasts chain (last_in c.write-in-Some.new.self.lasts.items chain))
-    (c.write-in-Some.ensures.next ∙ ap (λ n. set n last row) (c.write.ensures.next ∙ first))
-    (ap (λ l. set lasts chain l)
-    (ap (λ ls. last_in ls chain) (c.write-in-Some.ensures.lasts ∙ c.write.ensures.lasts)
+    (grind (arith, c.write-in-Some.ensures.next, c.write.ensures.next ∙ first))
+    (ap (set lasts chain) (grind (arith, c.write-in-Some.ensures.lasts ∙ c.write.ensures.lasts)
     ∙ noted))
     (holds-preceded h chain last (same ∙ noted))
 
@@ -61,7 +60,6 @@ returns-in-None-clause-holds c = λ lasts loose chains h within same.
     holds-same (set next row row) c.write-in-None-2.new.self.next.items
     (set lasts chain (last_in c.write-in-None-2.new.self.lasts.items chain))
     (c.write-in-None-2.ensures.next ∙ c.write-in-None.ensures.next)
-    (ap (λ l. set lasts chain l)
-    (ap (λ ls. last_in ls chain) written
+    (ap (set lasts chain) (grind (arith, written)
     ∙ get_or-set_same noted chain (Some row) None c.requires.there))
     (holds-begun h chain within (same ∙ empty))

@@ -27,8 +27,8 @@ returns-in-Some-clause-holds c = λ rows loose chains h ring.
     let one = c.in-Some.kept in
     let two = c.args.moved in
     let noted = sym c.last.ensures ∙ c.in-Some.is in
-    let first = ap (λ r. set next one r) c.next-second.ensures in
-    let second = ap (λ r. set (set next one (after next two)) two r) c.next-first.ensures in
+    let first = ap (set next one) c.next-second.ensures in
+    let second = ap (set (set next one (after next two)) two) c.next-first.ensures in
     holds-same (set (set next one (after next two)) two
     (after next one)) c.write-in-Some.new.self.next.items c.write-in-Some.new.self.lasts.items
     (c.write-in-Some.ensures.next

@@ -1,5 +1,4 @@
-use Rattle.std.proofs.Common.{ℕ, List, ◌∷◌, set, Some, None, refl, ap, sym, ◌∙◌, subst}
-use Rattle.std.proofs.Common.{arith, length-set}
+use Rattle.std.proofs.Common.{ℕ, List, ◌∷◌, set, Some, refl, ap, sym, ◌∙◌, subst, arith, length-set}
 use Rattle.pending.proofs.RingLaws.{none-of, some-of}
 use Rattle.pending.specs.ChainsView.{shortened}
 use Rattle.pending.specs.inside.Tables.{Holds}
@@ -23,8 +22,8 @@ returns-then-is_none-clause-holds c = λ loose chains h.
     (shortened chains c.args.chain) in
     subst P (sym row) (holds-same c.cut.new.links.next.items c.write.new.self.next.items
     c.write.new.self.lasts.items c.write.ensures.next
-    (c.write.ensures.lasts ∙ ap (λ ls. set ls c.args.chain None) c.cut.ensures.lasts
-    ∙ ap (λ l. set noted c.args.chain l) (sym none))
+    (grind (arith, c.write.ensures.lasts, c.cut.ensures.lasts)
+    ∙ ap (set noted c.args.chain) (sym none))
     (c.cut.ensures.holds noted loose chains c.args.chain h there))
 
 pub returns-else-is_none-clause-holds : goal.returns-else-is_none-clause-holds
@@ -39,6 +38,6 @@ returns-else-is_none-clause-holds c = λ loose chains h.
     subst P (sym row) (holds-same c.cut.new.links.next.items c.cut.new.links.next.items
     c.cut.new.links.lasts.items refl
     (c.cut.ensures.lasts ∙ sym
-    (ap (λ l. set noted c.args.chain l) some
+    (grind (arith, some)
     ∙ last-again noted c.args.chain (Some c.in_ok-last.last) there))
     (c.cut.ensures.holds noted loose chains c.args.chain h there))

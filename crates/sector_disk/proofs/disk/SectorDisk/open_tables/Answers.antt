@@ -1,4 +1,4 @@
-use Rattle.std.proofs.Common.{ℕ, length, refl, ap, sym, ◌∙◌, arith}
+use Rattle.std.proofs.Common.{ℕ, length, refl, sym, ◌∙◌, arith}
 use Rattle.std.proofs.lemmas.List.{length-replicate}
 use Rattle.std.proofs.lemmas.Bool.{eqb-true}
 use Rattle.sector_disk.proofs.FieldsKept.{kept_opened, start_opened}
@@ -17,9 +17,7 @@ invariant_of-self c =
           (c.in_ok-newest.ensures.items_if_clones_equal (λ y same. same))
           c.in_ok-self.ensures.items;
       room =
-          let size = ap length (c.in_ok-newest.ensures.items_if_clones_equal (λ y same. same)) in
-          let exact = c.in_ok-self.ensures.exact in
-          omega (arith, length-replicate {A = ℕ} old.sectors 0);
+          grind (arith, length, length-replicate);
     }
 
 pub returns-clause-same : goal.returns-clause-same

@@ -1,26 +1,23 @@
-use Rattle.std.proofs.Common.{◌≡◌, ℕ, suc, zero, ◌+◌, ◌-◌, ◌≤◌, List, [], ◌∷◌, ◌++◌, ◌∙◌, take, drop, length, ap}
-use Rattle.std.proofs.Common.{replicate, refl, sym, arith, inl, inr}
+use Rattle.std.proofs.Common.{◌≡◌, ℕ, suc, zero, ◌+◌, ◌-◌, ◌≤◌, List, [], ◌∷◌, ◌++◌, ◌∙◌, take}
+use Rattle.std.proofs.Common.{drop, length, ap, replicate, refl, sym, arith, inl, inr}
+use Rattle.std.proofs.Common.{length-append, length-drop}
 use Rattle.std.specs.Prelude.{min}
 use native.Mathlib.Numerals.{unary_clauses}
 use Rattle.std.proofs.Math.Seq.{drop-append-add}
-use Rattle.std.proofs.Common.{length-append, length-drop}
-use Rattle.std.proofs.lemmas.List.{length-replicate}
+use Rattle.std.proofs.lemmas.List.{length-replicate, drop-append-le, drop-replicate, take-replicate}
 use Rattle.std.proofs.lemmas.Bool.{cases_lt}
-use Rattle.std.proofs.lemmas.List.{drop-append-le, drop-replicate, take-replicate}
 use Rattle.sector_disk.proofs.filled.FilledBytes.read.Goals as goal
 
--- a part of the bytes that begins behind those that are held
 behind : (bytes : List ℕ) (count fill from n : ℕ) → length bytes ≤ from
     → from + n ≤ length bytes + count
     → take n (drop from (bytes ++ replicate count fill)) ≡ replicate n fill
 behind bytes count fill from n past within =
     let place : from ≡ length bytes + (from - length bytes) = omega arith in
-    ap (λ (k : ℕ). take n (drop k (bytes ++ replicate count fill))) place
+    grind (arith, place)
     ∙ ap (take n) (drop-append-add bytes (replicate count fill) (from - length bytes)
     ∙ drop-replicate (from - length bytes) count fill)
     ∙ take-replicate n (count - (from - length bytes)) fill (omega arith)
 
--- the first of some bytes that are held, and then the byte that fills
 front : (bytes : List ℕ) (count fill n : ℕ) → n ≤ length bytes + count
     → take n (bytes ++ replicate count fill)
     ≡ take (min (length bytes) n) bytes ++ replicate (n - min (length bytes) n) fill
@@ -29,7 +26,6 @@ front (x ∷ xs) count fill zero within = simp unary_clauses
 front (x ∷ xs) count fill (suc n) within =
     grind (arith, front xs count fill n (omega arith), unary_clauses)
 
--- a part of the bytes: those that are held, and then the byte that fills
 part : (bytes : List ℕ) (count fill from n start held : ℕ) → start ≡ min from (length bytes)
     → held ≡ min (length bytes - start) n → from + n ≤ length bytes + count
     → take n (drop from (bytes ++ replicate count fill))

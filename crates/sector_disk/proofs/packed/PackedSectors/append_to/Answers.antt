@@ -3,7 +3,6 @@ use Rattle.std.proofs.Math.Seq.{take-add}
 use Rattle.std.proofs.lemmas.List.{take_all}
 use Rattle.sector_disk.proofs.packed.PackedSectors.append_to.Goals as goal
 
--- one more sector after those that were appended
 more : (old now all : List ℕ) (sector : ℕ) → now ≡ old ++ take (512 * sector) all
     → now ++ take 512 (drop (sector * 512) all) ≡ old ++ take (512 * (sector + 1)) all
 more old now all sector earlier =

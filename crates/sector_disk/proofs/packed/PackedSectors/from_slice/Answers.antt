@@ -1,5 +1,5 @@
-use Rattle.std.proofs.Common.{ℕ, List, ◌≡◌, ◌+◌, ◌-◌, ◌*◌, ◌∙◌, ap, arith, drop, length, length-append}
-use Rattle.std.proofs.Common.{take}
+use Rattle.std.proofs.Common.{ℕ, List, ◌≡◌, ◌+◌, ◌-◌, ◌*◌, ◌∙◌, ap, arith, drop, length}
+use Rattle.std.proofs.Common.{length-append, take}
 use Rattle.std.proofs.lemmas.List.{length-take}
 use Rattle.bio.specs.Content.{sector_of}
 use Rattle.sector_disk.proofs.PackedParts.{packed_all, packed_more}

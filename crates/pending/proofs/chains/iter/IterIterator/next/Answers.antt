@@ -29,7 +29,6 @@ bounds-rows-row g c =
     look.sized way c.next-row.ensures refl in
     let small = step.0 in omega arith
 
--- the step of the look
 step : (g : given.Over) (c : goal.After-self-1 g)
     → (c.next-row.result < length c.self.inside.rows.now)
     × ((value : g.row.T.Denot) × (value_at c.self.inside.rows.now c.next-row.result ≡ Some value)
@@ -49,7 +48,6 @@ step g c =
 pub invariant_of-self : goal.invariant_of-self
 invariant_of-self g c = (step g c).2
 
--- the value that is handed out
 found : (g : given.Over) (c : goal.After-self-1 g)
     → (reference : Bor g.row.T.Denot) × (c.as_ref-value.result ≡ Some reference)
     × (reference.now ≡ (step g c).1.0)
@@ -61,7 +59,6 @@ found g c =
     copied-some c.as_ref-value.result (step g c).1.0
     (c.as_ref-value.ensures.value ∙ read ∙ (step g c).1.1)
 
--- what was left is the value and what is left then
 parts : (g : given.Over) (c : goal.After-self-1 g)
     → c.args.self.now ≡ (found g c).0.now ∷ values_left c.self.inside.links.now.next.items
     c.self.inside.rows.now c.self.inside.last c.unless_last-self-inside.result

@@ -28,18 +28,15 @@ put_last-requires g c =
     loose-open (c.open_row-row.ensures.opened
     (seen_chains c.self.inside.links c.self.inside.walk) t) c.args.chain (omega arith)
 
--- nothing is walked
 rests : (g : given.Over) (c : goal.After-put_last g) → walked_in c.self.inside.walk ≡ None
 rests g c = rw (← c.self.view_is) at c.requires.rests
 
--- the table with the row loose
 loose : (g : given.Over) (c : goal.After-put_last g)
     → IsOpen c.open_row-row.new.links.next.items c.open_row-row.new.links.lasts.items
     c.open_row-row.new.rows.items c.open_row-row.result
     (shortened (seen_chains c.self.inside.links c.self.inside.walk) 0)
 loose g c = grind (arith, table-rest)
 
--- the table after the call
 table : (g : given.Over) (c : goal.After-put_last g)
     → IsTable c.put_last.new.links.next.items
     (seen_lasts c.put_last.new.links.lasts.items c.self.inside.walk) c.put_value.new.rows.items
@@ -74,8 +71,7 @@ returns-clause-chains g c =
       there.1,
     ) in
     rw (← c.self.view_is)
-    (ap (λ cs. map (values_of c.put_value.new.rows.items) cs)
-    (seen-of c.put_last.new.links c.put_value.new.rows.items c.self.inside.walk _ (table g c))
+    (ap (map (values_of c.put_value.new.rows.items)) (seen-of c.put_last.new.links c.put_value.new.rows.items c.self.inside.walk _ (table g c))
     ∙ ap (λ rs. map (values_of rs)
     (lengthened cut c.args.chain c.open_row-row.result)) c.put_value.ensures.put
     ∙ shown-filled (loose g c) c.args.chain c.args.value within

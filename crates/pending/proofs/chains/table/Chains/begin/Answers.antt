@@ -6,7 +6,6 @@ use Rattle.pending.proofs.CallLaws.{begun-table}
 use Rattle.pending.proofs.chains.table.Chains.begin.Given as given
 use Rattle.pending.proofs.chains.table.Chains.begin.Goals as goal
 
--- the table after the call
 table : (g : given.Over) (c : goal.After-begin g)
     → IsTable c.begin.new.self.next.items
     (seen_lasts c.begin.new.self.lasts.items c.self.inside.walk) c.self.inside.rows.items
@@ -35,6 +34,5 @@ pub returns-clause-chains : goal.returns-clause-chains
 returns-clause-chains g c =
     let rows = c.self.inside.rows.items in
     rw (← c.self.view_is)
-    (ap (λ cs. map (values_of rows) cs)
-    (seen-of c.begin.new.self rows c.self.inside.walk _ (table g c))
+    (ap (map (values_of rows)) (seen-of c.begin.new.self rows c.self.inside.walk _ (table g c))
     ∙ map-append (values_of rows) (seen_chains c.self.inside.links c.self.inside.walk) ([] ∷ []))

@@ -11,13 +11,11 @@ next-requires g c =
 
 pub index-requires : goal.index-requires
 index-requires g c =
-    let t = (c.self.invariant).table in
-    let small =
-    first-is-row t.holds c.args.chain c.in_ok-last.last
-    (sym c.seen_last.ensures ∙ c.in_ok-last.was) in
-    let sized = t.sized in
-    let is = c.next.ensures in
-    omega (arith, c.self.inside.rows.ok)
+    grind (
+      arith,
+      first-is-row ((c.self.invariant).table).holds c.args.chain c.in_ok-last.last
+          (sym c.seen_last.ensures ∙ c.in_ok-last.was),
+    )
 
 pub returns : goal.returns
 returns g c =

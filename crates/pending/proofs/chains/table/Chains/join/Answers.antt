@@ -7,11 +7,9 @@ use Rattle.pending.proofs.TableLaws.{walk-rest}
 use Rattle.pending.proofs.chains.table.Chains.join.Given as given
 use Rattle.pending.proofs.chains.table.Chains.join.Goals as goal
 
--- nothing is walked
 rests : (g : given.Over) (c : goal.After-join g) → walked_in c.self.inside.walk ≡ None
 rests g c = rw (← c.self.view_is) at c.requires.rests
 
--- the table after the call
 table : (g : given.Over) (c : goal.After-join g)
     → IsTable c.join.new.links.next.items
     (seen_lasts c.join.new.links.lasts.items c.self.inside.walk) c.self.inside.rows.items
@@ -34,8 +32,7 @@ pub returns-clause-chains : goal.returns-clause-chains
 returns-clause-chains g c =
     let rows = c.self.inside.rows.items in
     rw (← c.self.view_is)
-    (ap (λ cs. map (values_of rows) cs)
-    (seen-of c.join.new.links rows c.self.inside.walk _ (table g c))
+    (ap (map (values_of rows)) (seen-of c.join.new.links rows c.self.inside.walk _ (table g c))
     ∙ map-joined rows (seen_chains c.self.inside.links c.self.inside.walk) c.args.from c.args.onto)
 
 pub returns-clause-room : goal.returns-clause-room

@@ -1,5 +1,4 @@
-use Rattle.std.proofs.Common.{[], ◌++◌, map, drop, take, Some, ap, sym, ◌∙◌, arith}
-use Rattle.std.proofs.Common.{vec_capacity}
+use Rattle.std.proofs.Common.{[], ◌++◌, map, drop, take, Some, ap, sym, ◌∙◌, arith, vec_capacity}
 use Rattle.pending.specs.ChainsView.{chain_in, lifted}
 use Rattle.pending.specs.inside.Tables.{seen_chains, seen_lasts, values_of, walked_in, IsTable}
 use Rattle.pending.proofs.HoldsLaws.{last-is-row, none-at}
@@ -47,7 +46,6 @@ put_first-requires g c =
     (λ e. apart (ap walked_in c.in-Some.is ∙ rw (← e)))
     (lift-within c.self.invariant c.args.onto onto.1)
 
--- the table after the call
 table : (g : given.Over) (c : goal.After-self-1 g)
     → IsTable c.put_first.new.links.next.items
     (seen_lasts c.put_first.new.links.lasts.items
@@ -62,7 +60,7 @@ table g c =
     c.self.inside.rows.items c.self.inside.walk c.in-Some.walk c.in-Some-at.at
     c.next-row.result c.args.onto c.cut-left.result c.self.invariant c.in-Some.is c.in-Some-at.is
     c.next-row.ensures onto.0
-    (λ e. apart (ap walked_in c.in-Some.is ∙ ap (λ k. Some k) (sym e)))
+    (λ e. apart (ap walked_in c.in-Some.is ∙ ap Some (sym e)))
     (lift-within c.self.invariant c.args.onto onto.1)
     c.cut-left.ensures.changes c.put_first.ensures.changes c.cut-left.ensures.lasts
     c.put_first.ensures.lasts
@@ -90,8 +88,7 @@ returns-clause-chains g c = λ chain walked.
     let rows = c.self.inside.rows.items in
     let chains = seen_chains c.self.inside.links c.self.inside.walk in
     rw (← c.self.view_is)
-    (ap (λ cs. map (values_of rows) cs)
-    (seen-of c.put_first.new.links rows
+    (ap (map (values_of rows)) (seen-of c.put_first.new.links rows
     (Some (record { chain = c.in-Some.walk.chain; at = c.cut-left.result })) _ (table g c))
     ∙ ap (λ k. map (values_of rows) (lifted chains k c.args.onto)) same
     ∙ shown-lifted (c.self.invariant).table chain c.args.onto last.0)

@@ -20,7 +20,6 @@ put_value-requires g c =
     (sym c.seen_last.ensures ∙ c.in_ok-last.was) c.next-row.ensures in
     row-within t c.args.chain c.next-row.result rest.0 rest.1
 
--- the row is the first of its chain
 first-rest : (g : given.Over) (c : goal.After-put_value g)
     → (rest : List ℕ) × (chain_in (seen_chains c.self.inside.links c.self.inside.walk) c.args.chain
     ≡ c.next-row.result ∷ rest)

@@ -36,11 +36,9 @@ put_first-requires g c =
     (seen_chains c.self.inside.links c.self.inside.walk) h) in
     loose-open o 0 o.free
 
--- nothing is walked
 rests : (g : given.Over) (c : goal.After-put_first g) → walked_in c.self.inside.walk ≡ None
 rests g c = rw (← c.self.view_is) at c.requires.rests
 
--- the row is the first of its chain
 first-rest : (g : given.Over) (c : goal.After-put_first g)
     → (rest : List ℕ) × (chain_in (seen_chains c.self.inside.links c.self.inside.walk) c.args.chain
     ≡ c.in_ok-row.row ∷ rest)
@@ -49,7 +47,6 @@ first-rest g c =
     first-row (table-rest c.self.invariant
     (rests g c)).holds c.args.chain first.0 c.in_ok-row.row first.1 first.2
 
--- the table with the row loose
 taken : (g : given.Over) (c : goal.After-put_first g)
     → IsOpen c.take_first.new.links.next.items c.take_first.new.links.lasts.items
     c.take_value-value.new.rows.items c.in_ok-row.row
@@ -63,7 +60,6 @@ taken g c =
     c.take_first.ensures.changes
     (λ h. c.in_ok-row.ensures.holds [] (seen_chains c.self.inside.links c.self.inside.walk) h))
 
--- the table after the call
 table : (g : given.Over) (c : goal.After-put_first g)
     → IsTable c.put_first.new.links.next.items
     (seen_lasts c.put_first.new.links.lasts.items c.self.inside.walk)
@@ -99,8 +95,7 @@ returns-clause-chains g c =
     let chains = seen_chains c.self.inside.links c.self.inside.walk in
     let rest = first-rest g c in
     rw (← c.self.view_is)
-    (ap (λ cs. map (values_of c.take_value-value.new.rows.items) cs)
-    (seen-of c.put_first.new.links c.take_value-value.new.rows.items c.self.inside.walk _
+    (ap (map (values_of c.take_value-value.new.rows.items)) (seen-of c.put_first.new.links c.take_value-value.new.rows.items c.self.inside.walk _
     (table g c))
     ∙ shown-closed (taken g c)
     ∙ ap (λ rs. map (values_of rs) (shortened chains c.args.chain)) c.take_value-value.ensures.left

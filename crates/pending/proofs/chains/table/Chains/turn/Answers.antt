@@ -19,8 +19,7 @@ returns-in_default-at-clause-chains g c = λ chain walked.
     rw (← c.self.view_is)
     (sym (nothing-turned (map (values_of rows) chains) chain
     (chain-map (values_of rows) chains chain refl
-    ∙ ap (λ rs. values_of rows rs)
-    (none-at (c.self.invariant).table.holds chain (last.1 ∙ c.in_default-at.is)))))
+    ∙ ap (values_of rows) (none-at (c.self.invariant).table.holds chain (last.1 ∙ c.in_default-at.is)))))
 
 pub next-first-requires : goal.next-first-requires
 next-first-requires g c =
@@ -28,7 +27,6 @@ next-first-requires g c =
     last-is-row s.table.holds c.in-Some.walk.chain c.in-Some-at.at
     (walk-last c.in-Some.walk s ∙ c.in-Some-at.is)
 
--- the table seen from the next row
 table : (g : given.Over) (c : goal.After-self-1 g)
     → IsTable c.self.inside.links.next.items
     (seen_lasts c.self.inside.links.lasts.items
@@ -54,8 +52,7 @@ returns-clause-chains g c = λ chain walked.
     let rows = c.self.inside.rows.items in
     let chains = seen_chains c.self.inside.links c.self.inside.walk in
     rw (← c.self.view_is)
-    (ap (λ cs. map (values_of rows) cs)
-    (seen-of c.self.inside.links rows
+    (ap (map (values_of rows)) (seen-of c.self.inside.links rows
     (Some (record { chain = c.in-Some.walk.chain; at = Some c.next-first.result })) _
     (table g c))
     ∙ ap (λ k. map (values_of rows) (turned chains k)) same

@@ -50,11 +50,9 @@ returns-clause-chains g c = λ chain walked.
       s.walks.1,
     ) in
     rw (← c.self.view_is)
-    (ap (λ cs. map (values_of rows) cs)
-    (sym (back-turned chains at back.0 within back.1))
+    (ap (map (values_of rows)) (sym (back-turned chains at back.0 within back.1))
     ∙ shown-turned back.2 at s.walks.0
     ∙ ap (λ cs. turned (map (values_of rows) cs) at)
     (sym (seen-of links rows (Some (record { chain = at; at = Some c.before-before.result })) _
     back.2))
-    ∙ ap (λ k. turned (map (values_of rows) (seen_chains links
-    (Some (record { chain = at; at = Some c.before-before.result })))) k) same)
+    ∙ ap (turned (map (values_of rows) (seen_chains links (Some (record { chain = at; at = Some c.before-before.result }))))) same)

@@ -1,4 +1,5 @@
-//! Laws of the grammar only, not of the code. Each function does nothing; its clauses are the law.
+//! Laws of the grammar, and what always holds for a script. Each function does nothing; its clauses
+//! are the law.
 ghost use Rattle.std.specs.Prelude.{◌≡◌, ◌≢◌, ◌<◌, ◌≤◌, ◌+◌, ◌++◌, ◌∷◌, ◌⊎◌, [], None, Some};
 ghost use Rattle.std.specs.Prelude.{true, ℕ, List};
 ghost use Rattle.std.specs.List.{AllByRecursion};
@@ -15,6 +16,8 @@ ghost use Rattle.dmlw_script.specs.Plans.{head_count, top_of};
 ghost use Rattle.dmlw_script.specs.FirstFault.{IsFirstFault};
 ghost use Rattle.dmlw_script.specs.RunPlans.{IsRunPlan, RunPlan};
 ghost use Rattle.dmlw_script.specs.RunFirstFault.{IsFirstRunFault};
+
+use crate::script::Script;
 
 /// If no line has a line feed, the text with a line feed after each line has exactly these lines.
 /// So has the text without the last line feed, if the last line isn't empty.
@@ -129,3 +132,10 @@ pub fn run_texts_have_one_first_fault()
     ensures none { (lines : List (List ℕ)) (plan : RunPlan) (m : ℕ) (r : Refusal) →
         AreRunLines lines plan → IsFirstRunFault lines m r → ⊥ }
 {}
+
+/// Each recorder's script satisfies `IsPlan`.
+pub fn scripts_are_plans(script: &Script)
+    ensures { IsPlan script.now }
+{
+    script.commands();
+}

@@ -12,7 +12,7 @@ use bio::Status;
 use blockdev::BlockDev;
 use dmlw_script::Script;
 use layer_table::Stack;
-use recorder::laws::crashed_logs_replay_to_what_could_be;
+use recorder::laws::{crashed_logs_replay_to_what_could_be, recorders_are_sound};
 use refusals::RunError;
 use sector_disk::SectorDisk;
 use std::alloc::Global;
@@ -66,8 +66,8 @@ pub fn record<O: Write>(
     lines_go_as_one_call::<Stack, Stack>();
     closed_runs_leave_whole_logs::<Stack, Stack>();
     let played = play_on_disks(alloc, text, script, out)?;
-    // For the prover: this shows what always holds for the recorder and its core.
-    let _events = played.recorder.events();
+    // For the prover: what always holds for the recorder and its core.
+    recorders_are_sound(&played.recorder);
     let status = played.recorder.status();
     let data_lies = played.data_lies;
     let log = played.recorder.into_device();

@@ -11,6 +11,7 @@ use crate::laws::lines_go_as_one_call;
 use crate::playing::play_on_disks;
 use bio::{CoreEvent, End};
 use dmlw_script::Script;
+use dmlw_script::laws::scripts_are_plans;
 use layer_table::Stack;
 use recorder::Recorder;
 use refusals::{Refusal, RunError};
@@ -61,10 +62,10 @@ pub fn events_of_run(alloc: Global, text: &[u8], script: &Script) -> Result<Rehe
         (λ events. all_aligned (bytes_of script.now.log_size) events ≡ true) }
     ensures faults { IfErr result (FailsRehearsal text.now script.now) }
 {
-    // For the prover: the lines change the recorder as its calls do.
+    // For the prover: the lines change the recorder as its calls do, and the script satisfies
+    // `IsPlan`, as every script does.
     lines_go_as_one_call::<Stack, Stack>();
-    // For the prover: the script satisfies `IsPlan`, as every script does.
-    let _commands = script.commands();
+    scripts_are_plans(script);
     let played = play_on_disks(alloc, text, script, &mut io::sink())?;
     let ample = had_memory(played.ample, played.recorder.events());
     kept_if(

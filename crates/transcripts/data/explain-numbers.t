@@ -368,11 +368,11 @@ Numbers of a log and of images.
   $ image odd 700
   $ dmlw --explain list odd
   ! dmlw: 32 File
-  !   odd has 700 bytes, 188 more than a multiple of 512
+  !   odd has 700 bytes, 188 more than a multiple of 512: truncate -s /512 odd leaves whole sectors
   [1]
   $ dmlw --explain replay log odd out flush
   ! dmlw: 32 File
-  !   odd has 700 bytes, 188 more than a multiple of 512
+  !   odd has 700 bytes, 188 more than a multiple of 512: truncate -s /512 odd leaves whole sectors
   [1]
 
 A log that is cut, one that is no log, an image that is longer than the entry's sectors.

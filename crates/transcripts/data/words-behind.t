@@ -257,7 +257,7 @@ A script without a close leaves an empty log, and that is no fault. Where all is
   $ dmlw --explain record script log
   a ok
   0 0
-  !   script has no line `close`: requests and marks that still wait aren't written to the log
+  !   script has no line `close`: only what its lines `turn` placed is in the log
   $ write script
   > data 16
   > log 32
@@ -298,13 +298,13 @@ A script without a close leaves an empty log, and that is no fault. Where all is
   $ image image 100
   $ dmlw --explain judge script 0 image
   ! dmlw: 32 File
-  !   image has 100 bytes, 100 more than a multiple of 512
+  !   image has 100 bytes, less than a sector of 512
   [1]
   $ escaped image
   > a text\
   $ dmlw --explain list image
   ! dmlw: 32 File
-  !   image has 6 bytes, 6 more than a multiple of 512
+  !   image has 6 bytes, less than a sector of 512
   [1]
   $ write script
   > data 16

@@ -366,6 +366,6 @@ fn write_unclosed<F: Files, W: Write>(
     }
     writeln!(
         to,
-        "  {script} has no line `close`: requests and marks that still wait aren't written to the log"
+        "  {script} has no line `close`: only what its lines `turn` placed is in the log"
     )
 }

@@ -171,10 +171,15 @@ fn write_length<W: Write>(image: &str, length: u64, to: &mut W) -> Result<bool, 
             to,
             "  {image} is empty: a log or an image has at least {SECTOR_BYTES} bytes"
         )?;
+    } else if length < SECTOR_BYTES {
+        writeln!(
+            to,
+            "  {image} has {length} bytes, less than a sector of {SECTOR_BYTES}"
+        )?;
     } else if over != 0 {
         writeln!(
             to,
-            "  {image} has {length} bytes, {over} more than a multiple of {SECTOR_BYTES}"
+            "  {image} has {length} bytes, {over} more than a multiple of {SECTOR_BYTES}: truncate -s /{SECTOR_BYTES} {image} leaves whole sectors"
         )?;
     }
     Ok(length == 0 || over != 0)

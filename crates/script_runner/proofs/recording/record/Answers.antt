@@ -43,7 +43,7 @@ returns-clause-recorded g c =
     left honest may in
     let sound =
     subst (λ (r : DiskRecorder). IsSound
-    (core_of r)) played.left c.events-events.ensures.core in
+    (core_of r)) played.left c.recorders_are_sound.ensures.core in
     let same = c.into_device-log.ensures ∙ ap (λ (r : DiskRecorder). r.store.device) played.left in
     let lied =
     same_lies (record {

@@ -105,7 +105,7 @@ returns-clause-lawful c =
     of_kept c.kept_if.result _ _ _ c.kept_if.ensures.kept (λ found.
     subst (λ (r : DiskRecorder). is_lawful (top_of script.data_disk) (core_of r).events ≡ true)
     (sym played.left)
-    (run_lawful script played.text played.start played.last c.commands-commands.ensures.script
+    (run_lawful script played.text played.start played.last c.scripts_are_plans.ensures
     played.starts played.ran well_formed))
 
 pub returns-clause-aligned : goal.returns-clause-aligned

@@ -9,10 +9,10 @@ use Rattle.std.specs.List.{join_with_byte, AllByRecursion}
 use Rattle.bio.specs.declared.request.SectorSize.{SectorSize}
 use Rattle.bio.specs.declared.request.SectorSize.TheVariants as sizes
 use Rattle.bio.specs.Requests.{bytes_of}
-use Rattle.fault_layers.specs.declared.target.Feature.{Feature}
-use Rattle.fault_layers.specs.declared.target.Feature.TheVariants as features
-use Rattle.fault_layers.specs.declared.target.Target.{Target}
-use Rattle.fault_layers.specs.declared.target.Target.TheVariants as targets
+use Rattle.fault_layers.specs.declared.gate.Feature.{Feature}
+use Rattle.fault_layers.specs.declared.gate.Feature.TheVariants as features
+use Rattle.fault_layers.specs.declared.gate.Target.{Target}
+use Rattle.fault_layers.specs.declared.gate.Target.TheVariants as targets
 use Rattle.layer_table.specs.declared.layer_spec.LayerSpec.{LayerSpec}
 use Rattle.layer_table.specs.LineLaws.{printed_again}
 use Rattle.layer_table.specs.TableLines.{IsLayerSpec, IsTargetInRange, feature_words, set_words}

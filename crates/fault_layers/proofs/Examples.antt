@@ -8,10 +8,10 @@ use Rattle.fault_layers.specs.Decision.{IsDecided}
 use Rattle.fault_layers.specs.declared.gate.Kind.TheVariants.{Discard, Flush, Read, Write}
 use Rattle.fault_layers.specs.declared.gate.Verdict.TheVariants.{Delay, Drop, Fail, Pass}
 use Rattle.fault_layers.specs.declared.gated.Gated.{Gated}
-use Rattle.fault_layers.specs.declared.target.Feature.TheVariants as features
-use Rattle.fault_layers.specs.declared.target.Target.{Target}
-use Rattle.fault_layers.specs.declared.target.Target.TheVariants.{Linear}
-use Rattle.fault_layers.specs.declared.target.Target.TheVariants as targets
+use Rattle.fault_layers.specs.declared.gate.Feature.TheVariants as features
+use Rattle.fault_layers.specs.declared.gate.Target.{Target}
+use Rattle.fault_layers.specs.declared.gate.Target.TheVariants.{Linear}
+use Rattle.fault_layers.specs.declared.gate.Target.TheVariants as targets
 use Rattle.fault_layers.specs.Verdicts.{delay_of, delay_verdict, Delays, is_up, loaded_after}
 use Rattle.fault_layers.specs.Verdicts.{verdict_of, Cycle, Loaded, drops_writes, flakey_verdict}
 use Rattle.fault_layers.specs.Verdicts.{fuse_after, fuse_verdict}

@@ -9,4 +9,4 @@ pub mod Verdicts
 pub mod Window
 pub mod WindowLaws
 pub mod Decision
-pub mod VerdictLaws
+pub mod DelayLaws

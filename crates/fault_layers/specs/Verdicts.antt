@@ -1,13 +1,15 @@
--- The verdict about a call by a layer's target, and the target after the call.
+-- The verdict about a call by a layer's target, the target after the call, and which calls a gate
+-- never drops.
 use Rattle.std.specs.Prelude.{ℕ, zero, suc, ◌+◌, ◌-◌, ◌*◌, ◌%◌, ◌≤◌, Bool, true, false, nat_lt}
+use Rattle.std.proofs.Common.{◌≡◌, ◌∙◌, true≢false, refl, sym}
 use Rattle.fault_layers.specs.declared.gate.Kind.{Kind}
 use Rattle.fault_layers.specs.declared.gate.Kind.TheVariants.{Discard, Flush, Read, Write}
 use Rattle.fault_layers.specs.declared.gate.Verdict.{Verdict}
 use Rattle.fault_layers.specs.declared.gate.Verdict.TheVariants.{Delay, Drop, Fail, Pass}
-use Rattle.fault_layers.specs.declared.target.Feature.{Feature}
-use Rattle.fault_layers.specs.declared.target.Feature.TheVariants as features
-use Rattle.fault_layers.specs.declared.target.Target.{Target}
-use Rattle.fault_layers.specs.declared.target.Target.TheVariants as targets
+use Rattle.fault_layers.specs.declared.gate.Feature.{Feature}
+use Rattle.fault_layers.specs.declared.gate.Feature.TheVariants as features
+use Rattle.fault_layers.specs.declared.gate.Target.{Target}
+use Rattle.fault_layers.specs.declared.gate.Target.TheVariants as targets
 
 -- ---- flakey
 
@@ -141,3 +143,77 @@ drops_writes target = false
 abbrev pub HasCycle : Target → Type 0
 HasCycle (targets.Flakey up down feature) = IsCycle up down
 HasCycle target = Unit {0}
+
+-- ---- laws: which calls are never dropped
+
+-- If a flakey target that is down drops a call, its feature is DropWrites, and the call isn't a
+-- read.
+down_drops : (feature : Feature) (kind : Kind) → down_verdict feature kind ≡ Drop
+    → (is_drop_writes feature ≡ true) × (kind ≡ Read → ⊥)
+down_drops features.None kind is = absurd (cc)
+down_drops features.ErrorReads Read is = absurd (cc)
+down_drops features.ErrorReads Write is = absurd (cc)
+down_drops features.ErrorReads Discard is = absurd (cc)
+down_drops features.ErrorReads Flush is = absurd (cc)
+down_drops features.ErrorWrites Read is = absurd (cc)
+down_drops features.ErrorWrites Write is = absurd (cc)
+down_drops features.ErrorWrites Discard is = absurd (cc)
+down_drops features.ErrorWrites Flush is = absurd (cc)
+down_drops features.DropWrites Read is = absurd (cc)
+down_drops features.DropWrites Write is = (refl, λ read. cc)
+down_drops features.DropWrites Discard is = (refl, λ read. cc)
+down_drops features.DropWrites Flush is = (refl, λ read. cc)
+
+flakey_drops : (up : Bool) (feature : Feature) (kind : Kind) → verdict_if up feature kind ≡ Drop
+    → (is_drop_writes feature ≡ true) × (kind ≡ Read → ⊥)
+flakey_drops true feature kind is = absurd (cc)
+flakey_drops false feature kind is = down_drops feature kind is
+
+-- A fuse drops no call.
+while_drops : (calls : ℕ) → while_left calls ≡ Drop → ⊥
+while_drops zero is = cc
+while_drops (suc calls) is = cc
+
+fuse_drops : (calls : ℕ) (kind : Kind) (now : ℕ) → fuse_verdict calls kind now ≡ Drop → ⊥
+fuse_drops calls Read now is = cc
+fuse_drops calls Write now is = while_drops calls is
+fuse_drops calls Discard now is = while_drops calls is
+fuse_drops calls Flush now is = while_drops calls is
+
+-- If a target drops a call, it may drop writes (`drops_writes`), and the call isn't a read.
+target_drops : (target : Target) (load : ℕ) (kind : Kind) (now : ℕ)
+    → target_verdict target load kind now ≡ Drop
+    → (drops_writes target ≡ true) × (kind ≡ Read → ⊥)
+target_drops targets.Linear load kind now is = absurd (cc)
+target_drops targets.Error load kind now is = absurd (cc)
+target_drops (targets.Flakey up down feature) load kind now is =
+    flakey_drops (is_up (record { up = up; down = down; feature = feature; load = load }) now)
+    feature kind is
+target_drops (targets.Fuse calls) load kind now is = absurd (fuse_drops calls kind now is)
+target_drops (targets.Dust bytes) load kind now is = absurd (cc)
+target_drops (targets.Delay read write flush) load kind now is = absurd (cc)
+
+-- If a gate's target may not drop writes, the gate drops no call.
+pub gate_honest : (loaded : Loaded) (kind : Kind) (now : ℕ) → drops_writes loaded.target ≡ false
+    → verdict_of loaded kind now ≡ Drop → ⊥
+gate_honest loaded kind now none is =
+    true≢false (sym (target_drops loaded.target loaded.load kind now is).0 ∙ none)
+
+-- No gate drops a read.
+pub gate_keeps_reads : (loaded : Loaded) (now : ℕ) → verdict_of loaded Read now ≡ Drop → ⊥
+gate_keeps_reads loaded now is = (target_drops loaded.target loaded.load Read now is).1 refl
+
+-- A decision doesn't change whether a target may drop writes.
+target_stays : (target : Target) (load : ℕ) (kind : Kind) (now : ℕ)
+    → drops_writes (loaded_after (record { target = target; load = load }) kind now).target
+    ≡ drops_writes target
+target_stays targets.Linear load kind now = refl
+target_stays targets.Error load kind now = refl
+target_stays (targets.Flakey up down feature) load kind now = refl
+target_stays (targets.Fuse calls) load kind now = refl
+target_stays (targets.Dust bytes) load kind now = refl
+target_stays (targets.Delay read write flush) load kind now = refl
+
+pub gate_stays : (loaded : Loaded) (kind : Kind) (now : ℕ)
+    → drops_writes (loaded_after loaded kind now).target ≡ drops_writes loaded.target
+gate_stays loaded kind now = target_stays loaded.target loaded.load kind now

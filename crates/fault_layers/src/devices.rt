@@ -1,10 +1,9 @@
 //! The error, flakey, fuse and delay layers. Each is a `Gated` over any block device, and its gate
 //! holds the layer's target.
-ghost use Rattle.fault_layers.specs.declared.target.Target.TheVariants as targets;
+ghost use Rattle.fault_layers.specs.declared.gate.Target.TheVariants as targets;
 
-use crate::gate::Gate;
+use crate::gate::{Feature, Gate, Target};
 use crate::gated::Gated;
-use crate::target::{Feature, Target};
 use bio::Ms;
 use blockdev::BlockDev;
 

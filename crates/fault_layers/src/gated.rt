@@ -70,7 +70,7 @@ impl<D: BlockDev + Drop, K: Drop> Gated<D, K> {
     }
 }
 
-#[tactic(auto, using(crate::specs::VerdictLaws::gate_honest, crate::specs::VerdictLaws::gate_stays, crate::specs::VerdictLaws::gate_keeps_reads))]
+#[tactic(auto, using(crate::specs::Verdicts::gate_honest, crate::specs::Verdicts::gate_stays, crate::specs::Verdicts::gate_keeps_reads))]
 impl<D: BlockDev + Drop, K: Drop> BlockDev for Gated<D, K> {
     ghost use Rattle.blockdev.specs.OwnCounts.{counted, lawful_counted};
     ghost use Rattle.std.specs.Prelude.{◌≡◌};

@@ -25,7 +25,7 @@ pub fn gates_drop_only_writes()
 
 /// Let a call of a delay layer over a disk in memory end Ok. Then it ends at `now` plus its delay,
 /// at most 2^64 - 1. The disk itself ends each call at once.
-#[tactic(auto, using(crate::specs::VerdictLaws::ends_later))]
+#[tactic(auto, using(crate::specs::DelayLaws::ends_later))]
 pub fn delayed_calls_of_a_disk_end_just_later()
     ensures { (old new : Gated SectorDisk AsDelay) (delays : Delays) (call : Call) (now end : ℕ)
         → IsDecided (delay_verdict delays (kind_of call) now)

@@ -5,14 +5,12 @@
 #![tactic(auto)]
 
 pub use devices::{AsDelay, AsError, AsFlakey, AsFuse, Delay, ErrorDev, Flakey, Fuse};
-pub use gate::{Gate, Kind, Verdict};
+pub use gate::{Feature, Gate, Kind, Target, Verdict};
 pub use gated::Gated;
 pub use linear::Linear;
-pub use target::{Feature, Target};
 
 mod devices;
 mod gate;
 mod gated;
 pub mod laws;
 mod linear;
-mod target;

@@ -5,10 +5,10 @@ use Rattle.std.specs.Prelude.{codes}
 use Rattle.refusals.specs.Words.{words_of}
 use Rattle.bio.specs.Content.{Content}
 use Rattle.blockdev.specs.View.{Flushes, View}
-use Rattle.fault_layers.specs.declared.target.Feature.TheVariants as features
+use Rattle.fault_layers.specs.declared.gate.Feature.TheVariants as features
 use Rattle.fault_layers.specs.declared.gate.Verdict.TheVariants.{Drop}
-use Rattle.fault_layers.specs.declared.target.Target.{Target}
-use Rattle.fault_layers.specs.declared.target.Target.TheVariants as targets
+use Rattle.fault_layers.specs.declared.gate.Target.{Target}
+use Rattle.fault_layers.specs.declared.gate.Target.TheVariants as targets
 use Rattle.fault_layers.specs.Verdicts.{IsCycle, Loaded}
 use Rattle.dust_layer.specs.Orders.{IsBlockSize}
 use Rattle.layer_table.specs.declared.layer_spec.LayerSpec.{LayerSpec}

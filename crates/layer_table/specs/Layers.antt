@@ -15,8 +15,8 @@ use Rattle.sector_disk.specs.DiskView.{Does}
 use Rattle.fault_layers.specs.Decision.{kind_of, KeepsBuffer}
 use Rattle.fault_layers.specs.declared.gate.Verdict.{Verdict}
 use Rattle.fault_layers.specs.declared.gate.Verdict.TheVariants.{Delay, Drop, Fail, Pass}
-use Rattle.fault_layers.specs.declared.target.Target.{Target}
-use Rattle.fault_layers.specs.declared.target.Target.TheVariants as targets
+use Rattle.fault_layers.specs.declared.gate.Target.{Target}
+use Rattle.fault_layers.specs.declared.gate.Target.TheVariants as targets
 use Rattle.fault_layers.specs.Verdicts.{drops_writes, loaded_after, verdict_of, Loaded}
 use Rattle.fault_layers.specs.Window.{call_from, window, SeenFrom}
 use Rattle.dust_layer.specs.Walk.{Bad, listed}

@@ -10,11 +10,11 @@ use Rattle.std.proofs.lemmas.List.{append-nil}
 use Rattle.refusals.specs.Words.{is_word, number_of, words_of}
 use Rattle.refusals.specs.WordLaws.{decimal_number, number_again, number_low, number_read}
 use Rattle.refusals.specs.WordLaws.{number_word, words_of_joined}
-use Rattle.fault_layers.specs.declared.target.Feature.{Feature}
-use Rattle.fault_layers.specs.declared.target.Feature.TheVariants as features
+use Rattle.fault_layers.specs.declared.gate.Feature.{Feature}
+use Rattle.fault_layers.specs.declared.gate.Feature.TheVariants as features
 use Rattle.layer_table.specs.declared.layer_spec.LayerSpec.{LayerSpec}
-use Rattle.fault_layers.specs.declared.target.Target.{Target}
-use Rattle.fault_layers.specs.declared.target.Target.TheVariants as targets
+use Rattle.fault_layers.specs.declared.gate.Target.{Target}
+use Rattle.fault_layers.specs.declared.gate.Target.TheVariants as targets
 use Rattle.layer_table.specs.declared.parsing.Name.{Name}
 use Rattle.layer_table.specs.declared.parsing.Name.TheVariants as names
 use Rattle.layer_table.specs.declared.table_error.TableError.{TableError}

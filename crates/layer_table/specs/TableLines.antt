@@ -11,10 +11,10 @@ use Rattle.std.specs.Str.{bytes_eq}
 use Rattle.refusals.specs.declared.refusal.Refusal.{Refusal}
 use Rattle.refusals.specs.declared.refusal.Refusal.TheVariants as refusals
 use Rattle.refusals.specs.Words.{number_of}
-use Rattle.fault_layers.specs.declared.target.Feature.{Feature}
-use Rattle.fault_layers.specs.declared.target.Feature.TheVariants as features
-use Rattle.fault_layers.specs.declared.target.Target.{Target}
-use Rattle.fault_layers.specs.declared.target.Target.TheVariants as targets
+use Rattle.fault_layers.specs.declared.gate.Feature.{Feature}
+use Rattle.fault_layers.specs.declared.gate.Feature.TheVariants as features
+use Rattle.fault_layers.specs.declared.gate.Target.{Target}
+use Rattle.fault_layers.specs.declared.gate.Target.TheVariants as targets
 use Rattle.fault_layers.specs.Verdicts.{HasCycle, IsCycle}
 use Rattle.dust_layer.specs.Orders.{IsBlockSize}
 use Rattle.layer_table.specs.declared.layer_spec.LayerSpec.{LayerSpec}

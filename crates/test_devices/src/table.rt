@@ -1,7 +1,7 @@
 //! Tests of stacks of layers, each made from a table line.
 ghost use Rattle.std.specs.Prelude.{◌≡◌};
 ghost use Rattle.std.specs.List.{AllByRecursion};
-ghost use Rattle.fault_layers.specs.declared.target.Target.TheVariants.{Linear};
+ghost use Rattle.fault_layers.specs.declared.gate.Target.TheVariants.{Linear};
 ghost use Rattle.layer_table.specs.TableLines.{IsLayerSpec};
 
 use crate::calls::{Call, ask, asked};

@@ -1,4 +1,4 @@
-use Rattle.fault_layers.specs.VerdictLaws.{gate_honest, gate_keeps_reads, gate_stays}
+use Rattle.fault_layers.specs.Verdicts.{gate_honest, gate_keeps_reads, gate_stays}
 use Rattle.fault_layers.proofs.laws.gates_drop_only_writes.Goals as goal
 
 pub returns-clause-reads : goal.returns-clause-reads

@@ -15,8 +15,8 @@ use Rattle.fault_layers.specs.declared.gate.Feature.TheVariants as features
 use Rattle.layer_table.specs.declared.layer_spec.LayerSpec.{LayerSpec}
 use Rattle.fault_layers.specs.declared.gate.Target.{Target}
 use Rattle.fault_layers.specs.declared.gate.Target.TheVariants as targets
-use Rattle.layer_table.specs.declared.parsing.Name.{Name}
-use Rattle.layer_table.specs.declared.parsing.Name.TheVariants as names
+use Rattle.layer_table.specs.declared.layer_spec.Name.{Name}
+use Rattle.layer_table.specs.declared.layer_spec.Name.TheVariants as names
 use Rattle.layer_table.specs.declared.table_error.TableError.{TableError}
 use Rattle.layer_table.specs.declared.table_error.TableError.TheVariants as errors
 use Rattle.layer_table.specs.TableLines.{feature_in, line_answer, named, offset_in, row, has_count}

@@ -18,8 +18,8 @@ use Rattle.fault_layers.specs.declared.gate.Target.TheVariants as targets
 use Rattle.fault_layers.specs.Verdicts.{HasCycle, IsCycle}
 use Rattle.dust_layer.specs.Orders.{IsBlockSize}
 use Rattle.layer_table.specs.declared.layer_spec.LayerSpec.{LayerSpec}
-use Rattle.layer_table.specs.declared.parsing.Name.{Name}
-use Rattle.layer_table.specs.declared.parsing.Name.TheVariants as names
+use Rattle.layer_table.specs.declared.layer_spec.Name.{Name}
+use Rattle.layer_table.specs.declared.layer_spec.Name.TheVariants as names
 use Rattle.layer_table.specs.declared.table_error.TableError.{TableError}
 use Rattle.layer_table.specs.declared.table_error.TableError.TheVariants as errors
 

@@ -11,9 +11,7 @@
 #![tactic(auto)]
 
 pub use fault_layers::{Feature, Target};
-pub use layer_spec::LayerSpec;
-pub use parsing::parse_line;
-pub use printing::push_line;
+pub use layer_spec::{LayerSpec, parse_line, push_line};
 pub use slot::Slot;
 pub use stack::Stack;
 pub use table_error::TableError;
@@ -22,8 +20,6 @@ pub mod laws;
 mod layer_spec;
 mod levels;
 pub mod line_laws;
-mod parsing;
-mod printing;
 mod slot;
 mod stack;
 mod table_error;

@@ -14,7 +14,7 @@ use Rattle.fault_layers.specs.declared.gate.Feature.TheVariants as features
 use Rattle.fault_layers.specs.declared.gate.Target.{Target}
 use Rattle.fault_layers.specs.declared.gate.Target.TheVariants as targets
 use Rattle.layer_table.specs.declared.layer_spec.LayerSpec.{LayerSpec}
-use Rattle.layer_table.specs.LineLaws.{printed_again}
+use Rattle.layer_table.specs.TableLines.{printed_again}
 use Rattle.layer_table.specs.TableLines.{IsLayerSpec, IsTargetInRange, feature_words, set_words}
 use Rattle.layer_table.specs.TableLines.{target_words}
 use Rattle.layer_table.specs.TableLines as table_texts

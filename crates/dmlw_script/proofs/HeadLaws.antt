@@ -15,7 +15,7 @@ use Rattle.bio.specs.Requests.{bytes_of}
 use Rattle.layer_table.specs.declared.layer_spec.LayerSpec.{LayerSpec}
 use Rattle.layer_table.specs.declared.table_error.TableError.{TableError}
 use Rattle.layer_table.specs.Layers.{top_sectors, IsAllowed}
-use Rattle.layer_table.specs.LineLaws.{asked_in_range}
+use Rattle.layer_table.specs.TableLines.{asked_in_range}
 use Rattle.layer_table.specs.TableLines.{IsLayerSpec, table_refusal}
 use Rattle.dmlw_script.proofs.ReaderLaws.{bind_at, fold, fold_append, made_err, made_ok}
 use Rattle.dmlw_script.specs.declared.command.DiskName.{DiskName}

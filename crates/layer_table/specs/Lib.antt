@@ -12,7 +12,6 @@ pub use Rattle.bio.specs.Content
 pub use Rattle.dust_layer.specs.Orders
 pub use Rattle.refusals.specs.Words
 pub mod TableLines
-pub mod LineLaws
 pub mod Slots
 pub mod SlotLaws
 pub mod OneLevel

@@ -1,16 +1,25 @@
 -- What the words of a table line ask for: `row` has a row for each target, and `line_answer` tests
--- the words by these rows.
--- The ranges of a layer's values.
-use Rattle.std.specs.Prelude.{Option, Some, nat_le, ℕ, ◌+◌, ◌<◌, ◌≤◌, ◌^◌, ◌≡◌, Bool, true, false}
-use Rattle.std.specs.Prelude.{◌&&◌, ◌||◌, List, [], ◌∷◌, ◌++◌, Ok, Err, codes, decimal, flat_map}
+-- the words by these rows. The ranges of a layer's values, and the canonical text of a layer. Laws:
+-- a layer that words ask for is in its ranges, and a layer's canonical text asks for that layer.
+use Rattle.std.specs.Prelude.{Option, Some, nat_le, nat_lt, ℕ, ◌+◌, ◌<◌, ◌≤◌, ◌^◌, ◌≡◌, Bool, true}
+use Rattle.std.specs.Prelude.{false, ◌&&◌, ◌||◌, List, [], ◌∷◌, ◌++◌, Ok, Err, codes, decimal}
 use Rattle.std.specs.Prelude.{is_none, is_some, length, nat_eq, ok_or, option_map, slice_get}
-use Rattle.std.specs.Prelude.{unwrap_or, if◌then◌else◌, None, Result}
+use Rattle.std.specs.Prelude.{unwrap_or, if◌then◌else◌, None, Result, flat_map, IfOk}
+use Rattle.std.proofs.Common.{cond, refl, ap, sym, ◌∙◌, append_assoc, arith, rules}
+use Rattle.std.proofs.lemmas.Bool.{and_from, and_parts, eq-eqb, eqb-true, le-leb}
+use Rattle.std.proofs.lemmas.Bool.Decides.{nat_tests}
+use Rattle.std.proofs.lemmas.Fmt.{digits_decimal}
+use Rattle.std.proofs.lemmas.List.{append-nil}
+use Rattle.std.proofs.lemmas.List.Folds.{list_all-append}
+use Rattle.std.specs.Char.{is_ascii_digit}
 use Rattle.std.specs.Int.{is_power_of_two}
-use Rattle.std.specs.List.{join_with_byte, list_all, list_any}
+use Rattle.std.specs.List.{join_with_byte, list_all, list_any, AllByRecursion}
 use Rattle.std.specs.Str.{bytes_eq}
 use Rattle.refusals.specs.declared.refusal.Refusal.{Refusal}
 use Rattle.refusals.specs.declared.refusal.Refusal.TheVariants as refusals
-use Rattle.refusals.specs.Words.{number_of}
+use Rattle.refusals.specs.Words.{is_word, number_of, words_of}
+use Rattle.refusals.specs.WordLaws.{decimal_number, number_again, number_low, number_model}
+use Rattle.refusals.specs.WordLaws.{number_read, number_word, words_of_joined}
 use Rattle.fault_layers.specs.declared.gate.Feature.{Feature}
 use Rattle.fault_layers.specs.declared.gate.Feature.TheVariants as features
 use Rattle.fault_layers.specs.declared.gate.Target.{Target}
@@ -22,6 +31,8 @@ use Rattle.layer_table.specs.declared.layer_spec.Name.{Name}
 use Rattle.layer_table.specs.declared.layer_spec.Name.TheVariants as names
 use Rattle.layer_table.specs.declared.table_error.TableError.{TableError}
 use Rattle.layer_table.specs.declared.table_error.TableError.TheVariants as errors
+
+-- ---- ranges
 
 -- the delays of a delay target, in milliseconds: each is at most 4294967295
 pub record AreDelays (read write flush : ℕ) : Type 0 where
@@ -271,7 +282,7 @@ table_refusal errors.BadNumber = refusals.BadNumber
 table_refusal errors.OutOfRange = refusals.OutOfRange
 table_refusal errors.BadFeature = refusals.BadFeature
 
--- The canonical text of a layer.
+-- ---- the canonical text of a layer
 
 -- the words of a feature: the count 1 and a name, or nothing if there is no feature
 abbrev pub feature_words : Feature → List (List ℕ)
@@ -316,3 +327,256 @@ line_text spec = join_with_byte 32 (line_words spec)
 -- the words, each after a space
 abbrev pub behind_spaces : List (List ℕ) → List ℕ
 behind_spaces words = flat_map (λ word. 32 ∷ word) words
+
+-- ---- laws: what is asked for is in its ranges
+
+-- a value is below 2 ^ 64
+value_low : (words : List (List ℕ)) (place : ℕ) → value_in words place < 2 ^ 64
+value_low words place = at (number_of (word_in words place)) refl
+  where
+    at : (number : Option ℕ) → number_of (word_in words place) ≡ number
+        → value_in words place < 2 ^ 64
+    at None is = rw is (omega arith)
+    at (Some n) is = grind (arith, number_low, number_read)
+
+-- If values pass the range tests, they are in their ranges.
+length_read : (length : ℕ) → is_length length ≡ true → IsLength length
+length_read length is = search rules
+
+delays_read : (read write flush : ℕ) → are_delays read write flush ≡ true
+    → AreDelays read write flush
+delays_read read write flush is = search rules
+
+-- the last test
+abbrev ranged : Name → List (List ℕ) → Target → Result LayerSpec TableError
+ranged name words target =
+    if_holds (has_ranges name words (layer_of name words target)) errors.OutOfRange
+    >>= λ _. Ok (layer_of name words target)
+
+last_test : (name : Name) (words : List (List ℕ)) (target : Target)
+    → offset_in name words < 2 ^ 64
+    → (is_target target ≡ true → IsTargetInRange (offset_in name words) target)
+    → IfOk (ranged name words target) IsLayerSpec
+last_test name words target low has =
+    at (has_ranges name words (layer_of name words target)) refl
+  where
+    at : (t : Bool) → has_ranges name words (layer_of name words target) ≡ t
+        → IfOk (if_holds t errors.OutOfRange >>= λ _. Ok (layer_of name words target)) IsLayerSpec
+    at true is =
+        grind (arith, and_parts, length_read)
+    at false is = tt
+
+-- If `next` gives only layers in their ranges, so does `first >>= next`.
+bound : {A : Type 0} (first : Result A TableError) (next : A → Result LayerSpec TableError)
+    → ((x : A) → IfOk (next x) IsLayerSpec) → IfOk (first >>= next) IsLayerSpec
+bound (Ok x) next is = is x
+bound (Err error) next is = tt
+
+-- the target of a line with this name
+flakey_in_range : (words : List (List ℕ)) (up down : ℕ) (feature : Option Feature)
+    → IfOk (ok_or (option_map (targets.Flakey up down) feature) errors.BadFeature
+    >>= ranged names.Flakey words) IsLayerSpec
+flakey_in_range words up down None = tt
+flakey_in_range words up down (Some feature) =
+    last_test names.Flakey words (targets.Flakey up down feature) (value_low words 4)
+    (λ is. search rules)
+
+target_in_range : (name : Name) (words : List (List ℕ))
+    → IfOk (ok_or ((row name).target words) errors.BadFeature >>= ranged name words) IsLayerSpec
+target_in_range names.Linear words =
+    last_test names.Linear words targets.Linear (value_low words 4) (λ is. tt)
+target_in_range names.Error words =
+    last_test names.Error words targets.Error (omega arith) (λ is. refl)
+target_in_range names.Flakey words =
+    flakey_in_range words (value_in words 5) (value_in words 6) (feature_in words)
+target_in_range names.Fuse words =
+    last_test names.Fuse words (targets.Fuse (value_in words 5)) (value_low words 4)
+    (λ is. value_low words 5)
+target_in_range names.Dust words =
+    last_test names.Dust words (targets.Dust (value_in words 5)) (value_low words 4)
+    (λ is. search rules)
+target_in_range names.Delay words =
+    last_test names.Delay words (delay_in words) (value_low words 4) (delays_read _ _ _)
+
+pub answer_in_range : (words : List (List ℕ)) → IfOk (line_answer words) IsLayerSpec
+answer_in_range words =
+    bound (if_holds (nat_le 3 (length words)) errors.WrongCount) _ (λ _.
+    bound (ok_or (named (word_in words 2)) errors.UnknownTarget) _ (λ name.
+    bound (if_holds (has_count name words) errors.WrongCount) _ (λ _.
+    bound (if_holds (has_numbers name words) errors.BadNumber) _ (λ _.
+    target_in_range name words))))
+
+pub asked_in_range : (words : List (List ℕ)) (spec : LayerSpec) → line_answer words ≡ Ok spec
+    → IsLayerSpec spec
+asked_in_range words spec is =
+    rw is at (answer_in_range words)
+
+-- ---- laws: what is printed
+
+-- the joined words are the first word, and the others after a space each
+pub joined_behind : (word : List ℕ) (words : List (List ℕ))
+    → join_with_byte 32 (word ∷ words) ≡ word ++ behind_spaces words
+joined_behind word [] = sym (append-nil word)
+joined_behind word (next ∷ words) = grind (arith, joined_behind next words)
+
+-- so a line can be printed piece by piece
+pub line_joined : (old sectors : List ℕ) (words : List (List ℕ)) →
+    ((old ++ 48 ∷ []) ++ behind_spaces (sectors ∷ [])) ++ behind_spaces words
+    ≡ old ++ 48 ∷ 32 ∷ join_with_byte 32 (sectors ∷ words)
+line_joined old sectors words = grind (arith, append_assoc, joined_behind)
+
+-- the byte is a printable one of ASCII
+abbrev pub is_printable : ℕ → Bool
+is_printable byte = nat_lt 31 byte && nat_lt byte 127
+
+-- each of these is a word of printable bytes
+abbrev ArePlain : List (List ℕ) → Type 0
+ArePlain words =
+    AllByRecursion (λ word. (is_word word && list_all is_printable word) ≡ true) words
+
+digit_printable : (byte : ℕ) → is_ascii_digit byte ≡ true → is_printable byte ≡ true
+digit_printable byte digit = grind (arith, nat_tests)
+
+digits_printable : (word : List ℕ) → list_all is_ascii_digit word ≡ true
+    → list_all is_printable word ≡ true
+digits_printable [] all = refl
+digits_printable (byte ∷ word) all =
+    let parts = and_parts (is_ascii_digit byte) (list_all is_ascii_digit word) all in
+    and_from _ _ (digit_printable byte parts.0) (digits_printable word parts.1)
+
+-- the decimal digits of a number are such a word
+decimal_plain : (n : ℕ) → n < 2 ^ 64
+    → (is_word (decimal n) && list_all is_printable (decimal n)) ≡ true
+decimal_plain n low =
+    and_from _ _ (number_word (decimal n) n (decimal_number n low))
+    (digits_printable (decimal n) (digits_decimal number_model n low))
+
+plain_words : (words : List (List ℕ)) → ArePlain words
+    → AllByRecursion (λ word. is_word word ≡ true) words
+plain_words [] plain = tt
+plain_words (word ∷ words) plain = ((and_parts _ _ plain.0).0, plain_words words plain.1)
+
+joined_printable : (words : List (List ℕ)) → ArePlain words
+    → list_all is_printable (join_with_byte 32 words) ≡ true
+joined_printable [] plain = refl
+joined_printable (word ∷ []) plain = (and_parts (is_word word) _ plain.0).1
+joined_printable (word ∷ next ∷ words) plain =
+    list_all-append is_printable word (32 ∷ join_with_byte 32 (next ∷ words))
+    ∙ and_from _ _ (and_parts (is_word word) _ plain.0).1
+    (joined_printable (next ∷ words) plain.1)
+
+-- the decimal digits of `n` are read as `n`
+abbrev IsRead : ℕ → Type 0
+IsRead n = number_of (decimal n) ≡ Some n
+
+digits_read : (n : ℕ) → n < 2 ^ 64 → IsRead n
+digits_read n low = number_again (decimal n) n (decimal_number n low)
+
+feature_plain : (feature : Feature) → ArePlain (feature_words feature)
+feature_plain features.None = tt
+feature_plain features.ErrorReads = (refl, (refl, tt))
+feature_plain features.ErrorWrites = (refl, (refl, tt))
+feature_plain features.DropWrites = (refl, (refl, tt))
+
+-- the words of a delay target after its name
+sets_plain : (offset read write flush : ℕ) (t u : Bool) → offset < 2 ^ 64
+    → AreDelays read write flush
+    → ArePlain (set_words offset read
+    ++ cond (t && u) [] (set_words offset write ++ cond u [] (set_words offset flush)))
+sets_plain offset read write flush true true low are = search (rules, decimal_plain)
+sets_plain offset read write flush false true low are = search (rules, decimal_plain)
+sets_plain offset read write flush true false low are = search (rules, decimal_plain)
+sets_plain offset read write flush false false low are = search (rules, decimal_plain) depth 12
+
+-- the words of a target
+target_plain : (offset : ℕ) (target : Target) → offset < 2 ^ 64 → IsTargetInRange offset target
+    → ArePlain (target_words offset target)
+target_plain offset targets.Linear low has = search (rules, decimal_plain)
+target_plain offset targets.Error low has = search (rules, decimal_plain)
+target_plain offset (targets.Flakey up down feature) low has =
+    search (rules, decimal_plain, feature_plain)
+target_plain offset (targets.Fuse calls) low has = search (rules, decimal_plain)
+target_plain offset (targets.Dust bytes) low has = search (rules, decimal_plain)
+target_plain offset (targets.Delay read write flush) low has =
+    (refl, sets_plain offset read write flush (nat_eq read write) (nat_eq write flush) low has)
+
+-- If values are in their ranges, they pass the range tests.
+length_passes : (length : ℕ) → IsLength length → is_length length ≡ true
+length_passes length is = search rules
+
+target_passes : (offset : ℕ) (target : Target) → IsTargetInRange offset target
+    → is_target target ≡ true
+target_passes offset targets.Linear is = refl
+target_passes offset targets.Error is = refl
+target_passes offset (targets.Flakey up down feature) is = search rules
+target_passes offset (targets.Fuse calls) is = refl
+target_passes offset (targets.Dust bytes) is = search rules
+target_passes offset (targets.Delay read write flush) is = search rules
+
+-- the words ask for the layer
+abbrev Asks : ℕ → ℕ → Target → List (List ℕ) → Type 0
+Asks sectors offset target words =
+    line_answer (codes "0" ∷ decimal sectors ∷ words)
+    ≡ Ok (record { length = sectors; offset = offset; target = target })
+
+flakey_asked : (sectors offset up down : ℕ) (feature : Feature) → IsRead sectors → IsRead offset
+    → IsRead up → IsRead down → is_length sectors ≡ true
+    → is_target (targets.Flakey up down feature) ≡ true
+    → Asks sectors offset (targets.Flakey up down feature)
+    (target_words offset (targets.Flakey up down feature))
+flakey_asked sectors offset up down features.None a b c d e f = rw (a, b, c, d, e, f) refl
+flakey_asked sectors offset up down features.ErrorReads a b c d e f = rw (a, b, c, d, e, f) refl
+flakey_asked sectors offset up down features.ErrorWrites a b c d e f = rw (a, b, c, d, e, f) refl
+flakey_asked sectors offset up down features.DropWrites a b c d e f = rw (a, b, c, d, e, f) refl
+
+-- The words of a delay target ask for it. If `t` is true, the read and write delays are equal. If
+-- `u` is true, the write and flush delays are equal.
+delay_asked : (sectors offset read write flush : ℕ) (t u : Bool) → IsRead sectors → IsRead offset
+    → IsRead read → IsRead write → IsRead flush → is_length sectors ≡ true
+    → AreDelays read write flush → (t ≡ true → read ≡ write) → (u ≡ true → write ≡ flush)
+    → Asks sectors offset (targets.Delay read write flush) (codes "delay" ∷ set_words offset read
+    ++ cond (t && u) [] (set_words offset write ++ cond u [] (set_words offset flush)))
+delay_asked sectors offset read write flush true true a b c d e f has one two =
+    grind (arith, le-leb)
+delay_asked sectors offset read write flush false true a b c d e f has one two =
+    grind (arith, le-leb, eq-eqb)
+delay_asked sectors offset read write flush true false a b c d e f has one two =
+    grind (arith, target_passes, eq-eqb)
+delay_asked sectors offset read write flush false false a b c d e f has one two =
+    grind (arith, target_passes, eq-eqb)
+
+target_asked : (sectors offset : ℕ) (target : Target) → IsRead sectors → IsRead offset
+    → is_length sectors ≡ true → is_target target ≡ true → IsTargetInRange offset target
+    → Asks sectors offset target (target_words offset target)
+target_asked sectors offset targets.Linear a b e f has = rw (a, b, e) refl
+target_asked sectors offset targets.Error a b e f has = rw (a, e) (let zero = has in cc)
+target_asked sectors offset (targets.Flakey up down feature) a b e f has =
+    grind (arith, flakey_asked, digits_read)
+target_asked sectors offset (targets.Fuse calls) a b e f has = grind (arith, digits_read)
+target_asked sectors offset (targets.Dust bytes) a b e f has = grind (arith, digits_read)
+target_asked sectors offset (targets.Delay read write flush) a b e f has =
+    grind (arith, delay_asked, digits_read, eqb-true)
+
+-- If a layer's values are in their ranges, its words are plain.
+line_plain : (spec : LayerSpec) → IsLayerSpec spec → ArePlain (line_words spec)
+line_plain spec is =
+    let sectors = is.sectors in
+    let low : spec.length < 2 ^ 64 = (let few = sectors.few in omega arith) in
+    (refl, (decimal_plain spec.length low, target_plain spec.offset spec.target is.place is.has))
+
+-- Then the bytes of its canonical text are printable.
+pub printed_plain : (spec : LayerSpec) → IsLayerSpec spec
+    → list_all is_printable (line_text spec) ≡ true
+printed_plain spec is = joined_printable (line_words spec) (line_plain spec is)
+
+-- If a layer's values are in their ranges, its canonical text asks for that layer.
+pub printed_again : (spec : LayerSpec) → IsLayerSpec spec
+    → line_answer (words_of (line_text spec)) ≡ Ok spec
+printed_again spec is =
+    let sectors = is.sectors in
+    let low : spec.length < 2 ^ 64 = (let few = sectors.few in omega arith) in
+    ap line_answer (words_of_joined (line_words spec)
+    (plain_words (line_words spec) (line_plain spec is)))
+    ∙ target_asked spec.length spec.offset spec.target (digits_read spec.length low)
+    (digits_read spec.offset is.place) (length_passes spec.length sectors)
+    (target_passes spec.offset spec.target is.has) is.has

@@ -1,6 +1,6 @@
 use Rattle.std.proofs.Common.{◌++◌, ◌∷◌, [], decimal, ap, ◌∙◌}
 use Rattle.std.proofs.lemmas.Result.{IfOk-equal}
-use Rattle.layer_table.specs.LineLaws.{line_joined}
+use Rattle.layer_table.specs.TableLines.{line_joined}
 use Rattle.layer_table.specs.TableLines.{behind_spaces, target_words}
 use Rattle.layer_table.proofs.layer_spec.push_line.Goals as goal
 

@@ -1,4 +1,4 @@
-use Rattle.layer_table.specs.LineLaws.{asked_in_range}
+use Rattle.layer_table.specs.TableLines.{asked_in_range}
 use Rattle.layer_table.proofs.line_laws.layers_asked_for_are_in_range.Goals as goal
 
 pub returns : goal.returns

@@ -14,10 +14,8 @@ use Rattle.fault_layers.specs.declared.gate.Feature.TheVariants as features
 use Rattle.fault_layers.specs.declared.gate.Target.{Target}
 use Rattle.fault_layers.specs.declared.gate.Target.TheVariants as targets
 use Rattle.layer_table.specs.declared.layer_spec.LayerSpec.{LayerSpec}
-use Rattle.layer_table.specs.TableLines.{printed_again}
-use Rattle.layer_table.specs.TableLines.{IsLayerSpec, IsTargetInRange, feature_words, set_words}
-use Rattle.layer_table.specs.TableLines.{target_words}
-use Rattle.layer_table.specs.TableLines as table_texts
+use Rattle.layer_table.specs.TableLines.{is_printable, line_text, printed_again, printed_plain}
+use Rattle.layer_table.specs.TableLines.{IsLayerSpec}
 use Rattle.dmlw_script.proofs.BodyLaws.{count_after_command-is, submissions-cons, submissions-push}
 use Rattle.dmlw_script.proofs.HeadLaws.{disk_small, layer_specs, top_small}
 use Rattle.dmlw_script.proofs.Spelling.{line_text_append, text_good, text_has, Fits, FitsLine}
@@ -99,54 +97,18 @@ ending_written (Some picks) ss low lines =
       tt,
     )
 
-line_spaced : (words : List (List ℕ)) → AllByRecursion IsLineText words → IsLineText (join_with_byte 32 words)
-line_spaced [] good = refl
-line_spaced (word ∷ []) good = good.0
-line_spaced (word ∷ next ∷ words) good =
-    line_text_append word (32 ∷ join_with_byte 32 (next ∷ words)) good.0 (line_spaced (next ∷ words) good.1)
-
-line_feature : (feature : Feature) → AllByRecursion IsLineText (feature_words feature)
-line_feature features.None = tt
-line_feature features.ErrorReads = (refl, (refl, tt))
-line_feature features.ErrorWrites = (refl, (refl, tt))
-line_feature features.DropWrites = (refl, (refl, tt))
-
-line_sets : (one same : Bool) (offset write flush : ℕ) → offset < 2 ^ 64 → write < 2 ^ 64
-    → flush < 2 ^ 64
-    → AllByRecursion IsLineText
-    (cond one [] (set_words offset write ++ cond same [] (set_words offset flush)))
-line_sets true same offset write flush low write_low flush_low = tt
-line_sets false true offset write flush low write_low flush_low = grind (arith, line_number)
-line_sets false false offset write flush low write_low flush_low = grind (arith, line_number)
-
-line_target : (offset : ℕ) (target : Target) → offset < 2 ^ 64 → IsTargetInRange offset target
-    → AllByRecursion IsLineText (target_words offset target)
-line_target offset targets.Linear low has = (refl, (refl, (line_number offset low, tt)))
-line_target offset targets.Error low has = (refl, tt)
-line_target offset (targets.Flakey up down feature) low has =
-    grind (arith, line_number, line_feature)
-line_target offset (targets.Fuse calls) low has = grind (arith, line_number)
-line_target offset (targets.Dust bytes) low has = grind (arith, line_number)
-line_target offset (targets.Delay read write flush) low has = grind (arith, line_sets, line_number)
+line_printable : (b : ℕ) → is_printable b ≡ true → is_line_byte b ≡ true
+line_printable b good = grind (arith, nat_tests)
 
 pub layer_fits : (over : DiskName) (spec : LayerSpec) → IsLayerSpec spec
     → FitsLine (head_fields (head_lines.Layer over (Ok spec)))
-layer_fits over spec is =
-    let few : spec.length ≤ 1048576 = (let sectors = is.sectors in sectors.few) in
-    record {
-      first = fits_word over;
-      others = record {
-        good =
-            line_spaced (table_texts.line_words spec) (
-              refl,
-              (
-                line_number spec.length (omega (arith, few)),
-                line_target spec.offset spec.target is.place is.has,
-              ),
-            );
-        asks = printed_again spec is;
-      };
-    }
+layer_fits over spec is = record {
+  first = fits_word over;
+  others = record {
+    good = all_weaker _ _ line_printable (line_text spec) (printed_plain spec is);
+    asks = printed_again spec is;
+  };
+}
   where
     fits_word : (name : DiskName) → FitsWord (Given (layer_word name))
     fits_word disks.Data = (refl, refl)

@@ -10,7 +10,7 @@ use bio::Ms;
 use blockdev::BlockDev;
 use fault_layers::Kind;
 use layer_table::{LayerSpec, Stack, Target, parse_line};
-use plain::{Plain, counts, plain_call};
+use plain::{LOWER, Plain, UPPER, counts, plain_call};
 use refusals::Refusal;
 use sector_disk::SectorDisk;
 use std::alloc::Global;
@@ -19,27 +19,6 @@ use std::process::Abort;
 use std::test::Fail;
 
 mod plain;
-
-// Table lines for the lower layer, which lies over a disk of 16 sectors and is loaded at time 0.
-const LOWER: &str = "0 12 linear disk 2
-0 12 error
-0 12 flakey disk 1 10 5
-0 12 flakey disk 1 10 5 1 error_reads
-0 12 flakey disk 1 10 5 1 error_writes
-0 12 flakey disk 1 10 5 1 drop_writes
-0 12 fuse disk 3 9
-0 12 dust disk 2 1024";
-
-// Table lines for the upper layer, which is loaded at time 3,000.
-const UPPER: &str = "0 8 linear disk 4
-0 8 error
-0 8 flakey disk 4 10 5
-0 8 flakey disk 4 10 5 1 error_reads
-0 8 flakey disk 4 10 5 1 error_writes
-0 8 flakey disk 4 10 5 1 drop_writes
-0 8 fuse disk 1 6
-0 8 dust disk 2 512
-0 8 delay disk 3 1";
 
 // The times of the rounds, in milliseconds: before and at each change of the flakey layers, and the
 // last two times.

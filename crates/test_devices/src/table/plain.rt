@@ -1,8 +1,30 @@
-// A plain model of layers over a disk: a list of layers, and one byte for each sector of the disk.
+// The layers that are stacked, and a plain model of layers over a disk: a list of layers, and one
+// byte for each sector of the disk.
 use crate::calls::Call;
 use bio::Ms;
 use fault_layers::{Kind, Verdict};
 use layer_table::{Feature, LayerSpec, Target};
+
+// Table lines for the lower layer, which lies over a disk of 16 sectors and is loaded at time 0.
+pub(super) const LOWER: &str = "0 12 linear disk 2
+0 12 error
+0 12 flakey disk 1 10 5
+0 12 flakey disk 1 10 5 1 error_reads
+0 12 flakey disk 1 10 5 1 error_writes
+0 12 flakey disk 1 10 5 1 drop_writes
+0 12 fuse disk 3 9
+0 12 dust disk 2 1024";
+
+// Table lines for the upper layer, which is loaded at time 3,000.
+pub(super) const UPPER: &str = "0 8 linear disk 4
+0 8 error
+0 8 flakey disk 4 10 5
+0 8 flakey disk 4 10 5 1 error_reads
+0 8 flakey disk 4 10 5 1 error_writes
+0 8 flakey disk 4 10 5 1 drop_writes
+0 8 fuse disk 1 6
+0 8 dust disk 2 512
+0 8 delay disk 3 1";
 
 // A layer: its table line, and its load time in milliseconds. `passed` counts the writes, discards
 // and flushes that it passed; `faults` and `lies` count the calls that it failed and dropped.

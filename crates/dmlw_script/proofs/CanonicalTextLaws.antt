@@ -1,25 +1,20 @@
 -- Proves that a script's canonical text is a text of the script, for both kinds of scripts.
-use Rattle.std.proofs.Common.{refl, ◌∙◌, sym, subst, arith, append_assoc, not, ◌&&◌, cond, List, []}
+use Rattle.std.proofs.Common.{refl, ◌∙◌, sym, subst, arith, append_assoc, not, ◌&&◌, List, []}
 use Rattle.std.proofs.Common.{◌∷◌, ◌++◌, length, Option, Some, None, Ok, ◌≡◌, ◌≢◌, ℕ, ◌+◌, ◌^◌, ◌<◌}
-use Rattle.std.proofs.Common.{◌≤◌, Bool, true, false}
+use Rattle.std.proofs.Common.{◌≤◌, true, false}
 use Rattle.std.specs.Prelude.{◌==◌, flat_map, map, nat_lt}
 use Rattle.std.proofs.lemmas.Bool.Decides.{nat_tests}
 use Rattle.std.proofs.lemmas.List.Elements.{All-from_recursion}
-use Rattle.std.specs.List.{join_with_byte, AllByRecursion}
+use Rattle.std.specs.List.{AllByRecursion}
 use Rattle.bio.specs.declared.request.SectorSize.{SectorSize}
 use Rattle.bio.specs.declared.request.SectorSize.TheVariants as sizes
 use Rattle.bio.specs.Requests.{bytes_of}
-use Rattle.fault_layers.specs.declared.gate.Feature.{Feature}
-use Rattle.fault_layers.specs.declared.gate.Feature.TheVariants as features
-use Rattle.fault_layers.specs.declared.gate.Target.{Target}
-use Rattle.fault_layers.specs.declared.gate.Target.TheVariants as targets
 use Rattle.layer_table.specs.declared.layer_spec.LayerSpec.{LayerSpec}
 use Rattle.layer_table.specs.TableLines.{is_printable, line_text, printed_again, printed_plain}
 use Rattle.layer_table.specs.TableLines.{IsLayerSpec}
 use Rattle.dmlw_script.proofs.BodyLaws.{count_after_command-is, submissions-cons, submissions-push}
 use Rattle.dmlw_script.proofs.HeadLaws.{disk_small, layer_specs, top_small}
-use Rattle.dmlw_script.proofs.Spelling.{line_text_append, text_good, text_has, Fits, FitsLine}
-use Rattle.dmlw_script.proofs.Spelling.{FitsWord, IsLineText, line_number}
+use Rattle.dmlw_script.proofs.Spelling.{text_good, text_has, Fits, FitsLine, FitsWord, IsLineText}
 use Rattle.dmlw_script.proofs.ReaderLaws.{one_script, all_append, all_map, tells_said, Tells}
 use Rattle.dmlw_script.proofs.WordLaws.{all_weaker, cut_alone, cut_word, first_line, lacks}
 use Rattle.dmlw_script.proofs.LineParserLaws.{said_kept, step_fits, submission_fits}

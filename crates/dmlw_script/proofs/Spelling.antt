@@ -51,7 +51,7 @@ pub letters_id : (name : ScriptId) → IsName name → id_of_word (letters_of na
 letters_id name is =
     grind (arith, front_zeros, all_weaker, name_byte_not_zero, and_parts, cond-true)
 
-pub line_text_append : (a b : List ℕ) → IsLineText a → IsLineText b → IsLineText (a ++ b)
+line_text_append : (a b : List ℕ) → IsLineText a → IsLineText b → IsLineText (a ++ b)
 line_text_append a b first second =
     list_all-append is_line_byte a b ∙ and_from _ _ first second
 
@@ -64,7 +64,7 @@ line_name_byte b letter = grind (arith, nat_tests)
 line_hex : (half : ℕ) → half < 16 → is_line_byte (hex_digit half) ≡ true
 line_hex half low = grind (arith, nat_tests)
 
-pub line_number : (n : ℕ) → n < 2 ^ 64 → IsLineText (decimal n)
+line_number : (n : ℕ) → n < 2 ^ 64 → IsLineText (decimal n)
 line_number n low = all_weaker _ _ line_digit (decimal n) (digits_decimal number_model n low)
 
 read_decimal : (n : ℕ) → n < 2 ^ 64 → number_of (decimal n) ≡ Some n

@@ -28,7 +28,6 @@ use Rattle.dmlw_script.specs.Fields.{text_of}
 use Rattle.dmlw_script.specs.Grammar.{canonical_text, ended_line, ended_run_line, seats_line}
 use Rattle.dmlw_script.specs.Grammar.{ending_text}
 use Rattle.dmlw_script.specs.LineMeaning.{LineMeaning}
-use Rattle.dmlw_script.specs.LineMeaning as parsed_lines
 use Rattle.dmlw_script.specs.Words.{byte_text, hex_digit, id_of_word, is_id, is_line_byte}
 use Rattle.dmlw_script.specs.Words.{is_line_text, is_name_byte, letters_of, script_id}
 use Rattle.dmlw_script.specs.Plans.{IsName, lines_of_body, with_ending, Disk, data_line, layer_line}

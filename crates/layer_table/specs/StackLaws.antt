@@ -6,12 +6,11 @@ use Rattle.bio.specs.declared.outcome.DevError.{DevError}
 use Rattle.bio.specs.Moments.{later_by}
 use Rattle.blockdev.specs.View.{Call, IsLawful, IsRange, View}
 use Rattle.blockdev.specs.declared.device.BlockDev.{Ghosts}
-use Rattle.blockdev.specs.OwnCounts.{counted}
 use Rattle.sector_disk.specs.declared.disk.SectorDisk.{SectorDisk}
 use Rattle.sector_disk.specs.DiskView.{shown_of, Does}
 use Rattle.fault_layers.specs.Decision.{kind_of}
 use Rattle.fault_layers.specs.declared.linear.Linear.{Linear}
-use Rattle.fault_layers.specs.Verdicts.{loaded_after, drops_writes, verdict_of, Loaded}
+use Rattle.fault_layers.specs.Verdicts.{loaded_after, verdict_of, Loaded}
 use Rattle.fault_layers.specs.Window.{call_from, window}
 use Rattle.dust_layer.specs.Walk.{Bad, listed}
 use Rattle.dust_layer.specs.CarryLaws.{done_carried}

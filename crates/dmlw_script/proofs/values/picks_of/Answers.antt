@@ -1,4 +1,4 @@
-use Rattle.std.proofs.Common.{List, ℕ, ap, sym, ◌∙◌, arith}
+use Rattle.std.proofs.Common.{ap, sym, ◌∙◌, arith}
 use Rattle.std.specs.Prelude.{option_copied}
 use Rattle.refusals.specs.Words.{number_of as the_number}
 use Rattle.dmlw_script.proofs.WordLaws.{left_behind, no_pick, pick_read}

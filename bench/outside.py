@@ -415,17 +415,51 @@ def each_of_sample(room):
     trial("but not before mkfs has ended", ran.returncode == 1 and "entry 0 (flush): failed" in ran.stdout, ran)
 
 
+def commands():
+    return re.findall(r"^  (\w+)  ", run("--help").stdout.decode().partition("Commands:\n")[2].partition("\n\n")[0], re.M)
+
+
+def words_of(command):
+    usage = re.search(rf"^Usage: \S+ {command}(.*)$", run(command, "--help").stdout.decode(), re.M)
+    return re.findall(r"<(\w+)>", usage.group(1)) if usage else []
+
+
+def completions(room):
+    """The completions of bash, and of fish where it is installed, offer what the help lists, and nothing where no dmlw is in PATH."""
+    home, shown = room / "completions", commands()
+    home.mkdir()
+    (home / "dmlw").symlink_to(PROGRAM)
+    found, lost = (dict(os.environ, PATH=f"{it}{os.environ['PATH']}") for it in (f"{home}:", ""))
+    script = 'source "$0"; compopt() { :; }; COMP_WORDS=("$@"); COMP_CWORD=$(($# - 1)); _dmlw; printf "%s\\n" "${COMPREPLY[@]}"'
+
+    def offers(*words, env=found):
+        return subprocess.run(["bash", "-c", script, ROOT / "packaging/dmlw.bash", "dmlw", *words, ""], capture_output=True, text=True, env=env, cwd=home).stdout.split()
+
+    trial("bash completes the commands", shown and offers() == [*shown, "--explain", "--help", "--version"], offers())
+    trial("and those of help", offers("--explain", "help") == [it if it != "help" else "formats" for it in shown], offers("help"))
+    wanted = {"M": [], "SECTORS": [], "WHAT": ["entries:", "mark:", "flush"]}
+    for command in shown:
+        if command != "help":
+            words = words_of(command)
+            told = [offers(command, *words[:place]) for place in range(len(words) + 1)]
+            trial(f"and the words of {command}", words and told == [*(wanted.get(it, ["dmlw"]) for it in words), []], told)
+    if not shutil.which("dmlw", path=lost["PATH"]):
+        trial("and nothing without the program", not offers(env=lost) and not offers("record", env=lost), (offers(env=lost), offers("record", env=lost)))
+    if shutil.which("fish"):
+        ask = f"source {ROOT}/packaging/dmlw.fish; complete -C 'dmlw '; complete -C 'dmlw replay a b c '"
+        ran = subprocess.run(["fish", "--no-config", "-c", ask], capture_output=True, text=True, env=found, cwd=home)
+        told = [it.partition("\t")[0] for it in ran.stdout.splitlines()]
+        trial("fish completes the commands", sorted(told) == sorted([*shown, *wanted["WHAT"]]), ran)
+    else:
+        print("--   packaging/dmlw.fish: no fish")
+
+
 def installed(room):
     home, root = room / "home", room / "root"
     for it in ("Makefile", "README.md"):
         shutil.copy(ROOT / it, home)
     for it in ("packaging", "docs"):
         shutil.copytree(ROOT / it, home / it)
-    names = re.findall(r"^  (\w+)  ", run("--help").stdout.decode().partition("Commands:\n")[2].partition("\n\n")[0], re.M)
-    for it in ("dmlw.bash", "_dmlw", "dmlw.fish"):
-        text = (ROOT / "packaging" / it).read_text(encoding="utf-8")
-        missing = [name for name in names if not re.search(rf"\b{name}\b", text)]
-        trial(f"packaging/{it} has each command of the help", names and not missing, missing)
     if not shutil.which("make"):
         print("--   make install: no make")
         return
@@ -596,18 +630,17 @@ def on_devices(room, script, kept, held):
 
 def manual(_):
     page = (ROOT / "docs/dmlw.1").read_text(encoding="utf-8")
-    commands = page.partition(".SH COMMANDS\n")[2].partition("\n.SH ")[0]
-    stand = dict(re.findall(r'^\.TP\n\.BI "(\w+) " "([^"]*)"$', commands, re.M))
-    listed = re.findall(r"^  (\w+)  ", run("--help").stdout.decode().partition("Commands:\n")[2].partition("\n\n")[0], re.M)
+    section = page.partition(".SH COMMANDS\n")[2].partition("\n.SH ")[0]
+    stand = dict(re.findall(r'^\.TP\n\.BI "(\w+) " "([^"]*)"$', section, re.M))
+    listed = commands()
     abouts = dict(re.findall(r"^  (\w+)  +(\S.*)$", run("--help").stdout.decode(), re.M))
     trial("docs/dmlw.1 has the program's commands, and no other", listed and sorted(stand) == sorted(listed), (listed, list(stand)))
     for command in listed:
-        usage = re.search(rf"^Usage: \S+ {command}(.*)$", run(command, "--help").stdout.decode(), re.M)
-        words = re.findall(r"<(\w+)>", usage.group(1)) if usage else None
+        words = words_of(command)
         if command != "help":
             about = run(command, "--help").stdout.decode().split("\n")[0]
             trial(f"help lists what {command} does", abouts.get(command) == about, (abouts.get(command), about))
-            trial(f"docs/dmlw.1 has the words of {command}", words and stand.get(command) == " ".join(words), (usage, stand.get(command)))
+            trial(f"docs/dmlw.1 has the words of {command}", words and stand.get(command) == " ".join(words), (words, stand.get(command)))
     for show in (["man", "--warnings", "-l"], ["groff", "-man", "-Tutf8", "-ww"]):
         if shutil.which(show[0]):
             ran = subprocess.run([*show, ROOT / "docs/dmlw.1"], capture_output=True)
@@ -618,6 +651,6 @@ def manual(_):
 
 with tempfile.TemporaryDirectory() as at:
     make_home(pathlib.Path(at))
-    for part in (files, memory, replays, texts, terminal, shipped, each, each_of_sample, installed, checks, each_of_ext4, devices, manual, pipes, full_disk, killed):
+    for part in (files, memory, replays, texts, terminal, shipped, each, each_of_sample, completions, installed, checks, each_of_ext4, devices, manual, pipes, full_disk, killed):
         part(pathlib.Path(at))
 sys.exit(1 if failed else 0)

@@ -80,32 +80,6 @@ Command lines with `--explain`, behind two hyphens, and of words that are none.
   $ dmlw status -- -x
   ! dmlw: 32 File
   [1]
-  $ dmlw
-  ! Records block requests in a log, and reads logs back
-  ! 
-  ! Usage: dmlw [--explain] <COMMAND>
-  ! 
-  ! Commands:
-  !   record        Records the requests of a script in a new log
-  !   run           Runs the seats of a script in threads, and records them in a new log
-  !   list          Lists the entries of a log
-  !   status        Prints how many entries a log has, and how far they reach
-  !   replay        Replays a prefix of a log on an image
-  !   copy          Copies a log to one with sectors of 4096 bytes
-  !   judge         Judges whether an image could have been on the device
-  !   path          Prints how an image could have come to be on the device
-  !   help          Prints this page, or with a command's name that command's words
-  !   help formats  Prints the grammar of scripts, the faults and the limits
-  ! 
-  ! Options:
-  !       --explain  In any place: adds lines that help after a fault's line. DMLW_EXPLAIN=1 does the same
-  !       --rebuild  The only word, for the launcher ./dmlw: proves and builds the program again
-  !   -h, --help     Print help
-  !   -V, --version  Print version
-  ! 
-  ! Exit status: 0 done, 1 refused or ruled out, 2 usage, 3 logging ended before its time.
-  ! A status such as 3 4 says: 3 entries, of which the last uses sector 4.
-  [2]
 
 What says why a command is refused stands behind its line.
 

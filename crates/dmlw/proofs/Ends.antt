@@ -23,12 +23,12 @@ use Rattle.world.specs.declared.reaching.Finding.TheVariants as findings
 use Rattle.dmlw_commands.specs.Judgements.{Meaning, exit_answered, finding_meaning, verdict_meaning}
 use Rattle.judge.specs.declared.verdict.Verdict.{Verdict}
 use Rattle.judge.specs.declared.verdict.Verdict.TheVariants as verdicts
-use Rattle.dmlw.specs.Commands.{AsksForOneWrite, EndsCommand, EndsTask, EndsUntasked, IsFaultLine}
-use Rattle.dmlw.specs.Commands.{IsRead, IsReadAs, ReportsBy, ReportsOneLine, ReportsUntasked}
-use Rattle.dmlw.specs.Commands.{memory}
+use Rattle.dmlw.specs.CommandLine.{IsRead, IsReadAs, is_formats, memory}
+use Rattle.dmlw.specs.Commands.{EndsTask}
+use Rattle.dmlw.specs.Endings.{AsksForOneWrite, EndsCommand, EndsUntasked, IsFaultLine, ReportsBy}
+use Rattle.dmlw.specs.Endings.{ReportsOneLine, ReportsUntasked}
 use Rattle.clap.specs.Words.{Text, kind_of}
 use Rattle.clap.specs.declared.error.Error.{Error}
-use Rattle.dmlw.specs.CommandLine.{is_formats}
 use Rattle.clap.specs.declared.error.kind.ErrorKind.{ErrorKind}
 use Rattle.clap.specs.declared.error.kind.ErrorKind.TheVariants.{DisplayHelp, DisplayVersion}
 use Rattle.clap.specs.declared.error.kind.ErrorKind.TheVariants.{OutOfMemory}
@@ -134,20 +134,12 @@ ends_task (tasks.Replay files upto) explains old new ended ends =
 ends_task (tasks.Copy files sectors) explains old new ended ends =
     ends_making _ files.log.now files.out.now exit_by (λ count. inl refl) (λ fault. refl) old new
     ends.done ended.exit ends.did ends.tells.exits
-ends_task (tasks.List log) explains old new ended ends =
-    ends_keeping old new ended.exit ends.did.unwritten ends.did.kept
-ends_task (tasks.Status log) explains old new ended ends =
-    ends_keeping old new ended.exit ends.did.unwritten ends.did.kept
-ends_task (tasks.Judge script moment image) explains old new ended ends =
-    ends_keeping old new ended.exit ends.did.unwritten ends.did.kept
-ends_task (tasks.Path script moment image) explains old new ended ends =
-    ends_keeping old new ended.exit ends.did.unwritten ends.did.kept
-ends_task (tasks.Formats page) explains old new ended ends =
-    ends_keeping old new ended.exit ends.did.unwritten ends.did.kept
 ends_task (tasks.Show error) explains old new ended ends =
     ends_keeping old new ended.exit ends.unwritten ends.kept
 ends_task (tasks.HasBadWord flaw word) explains old new ended ends =
     ends_keeping old new ended.exit ends.unwritten ends.kept
+ends_task task explains old new ended ends =
+    ends_keeping old new ended.exit ends.did.unwritten ends.did.kept
 
 nothing_behind : (old new : Option (List ℕ)) (line more : List ℕ) → more ≡ []
     → Appends old new (line ++ more) → Appends old new line
@@ -242,26 +234,18 @@ task_tells (tasks.Record script log) explains old new ended ends off =
     told_recording (err_stream explains old.err new.err) ends.done ended off ends.tells
 task_tells (tasks.Run script log) explains old new ended ends off =
     told_recording (err_stream explains old.err new.err) ends.done ended off ends.tells
-task_tells (tasks.List log) explains old new ended ends off =
-    told_by (err_stream explains old.err new.err) ends.done ended off ends.tells
-task_tells (tasks.Status log) explains old new ended ends off =
-    told_by (err_stream explains old.err new.err) ends.done ended off ends.tells
-task_tells (tasks.Replay files upto) explains old new ended ends off =
-    told_by (err_stream explains old.err new.err) ends.done ended off ends.tells
-task_tells (tasks.Copy files sectors) explains old new ended ends off =
-    told_by (err_stream explains old.err new.err) ends.done ended off ends.tells
 task_tells (tasks.Judge script moment image) explains old new ended ends off =
     told_answer verdict_meaning verdict_ends (err_stream explains old.err new.err) ends.done ended
     off ends.tells
 task_tells (tasks.Path script moment image) explains old new ended ends off =
     told_answer finding_meaning finding_ends (err_stream explains old.err new.err) ends.done ended
     off ends.tells
-task_tells (tasks.Formats page) explains old new ended ends off =
-    told_by (err_stream explains old.err new.err) ends.done ended off ends.tells
 task_tells (tasks.Show error) explains old new ended ends off =
     text_tells (kind_of error) (err_stream explains old.err new.err) ended ends.ends ends.tells off
 task_tells (tasks.HasBadWord flaw word) explains old new ended ends off =
     subst (λ (e : Exit). ReportsBy e ended old.err new.err) (sym ends.usage) tt
+task_tells task explains old new ended ends off =
+    told_by (err_stream explains old.err new.err) ends.done ended off ends.tells
 
 pub memory_read : (words : List Text) (error : Error) → kind_of error ≡ OutOfMemory
     → IsRead words (tasks.Show error)

@@ -1,11 +1,9 @@
 -- Proves how clap parses a command's name and plain words, which don't begin with a hyphen.
-use Rattle.std.proofs.Common.{false, not, List, refl, subst, sym, ◌&&◌, ◌≡◌, ◌∙◌, Result, Ok, Err}
-use Rattle.std.proofs.Common.{IfOk, ◌==◌, ℕ, Bool, true, [], ◌∷◌, ◌++◌, Some, None, ap, cond, drop}
-use Rattle.std.proofs.Common.{map, arith, codes, fold, is_some, Option}
+use Rattle.std.proofs.Common.{false, not, List, refl, subst, sym, ◌&&◌, ◌≡◌, ◌∙◌}
+use Rattle.std.proofs.Common.{◌==◌, ℕ, Bool, true, [], ◌∷◌, ◌++◌, Some, None, ap, cond, drop}
+use Rattle.std.proofs.Common.{map, arith, fold, is_some, length, get_or, Option, ◌+◌, ◌<◌}
 use Rattle.clap.proofs.OnLiterals.{clap_on_literals}
 use Rattle.clap.proofs.WalkLemmas.{list_any-map}
-use Rattle.clap.specs.declared.builder.arg.Arg.{Arg}
-use Rattle.clap.specs.declared.builder.command.Command.{Command}
 use Rattle.clap.specs.declared.error.Error.{Error}
 use Rattle.clap.specs.declared.error.kind.ErrorKind.TheVariants.{OutOfMemory}
 use Rattle.clap.specs.Faults.{check_fault, defaults_fault, entered_fault, level_fault, settle_fault}
@@ -15,18 +13,20 @@ use Rattle.clap.specs.Simple.{Shape, built, built_leaf, entered, names_of}
 use Rattle.clap.specs.Walk.{Held, Names, Rule, Walk, arg_by_index, finished, idle, is_multiple}
 use Rattle.clap.specs.Walk.{next_position, nothing_held, positional_held, rows_after, settled}
 use Rattle.clap.specs.Walk.{to_positional, value, walk, walk_from, walked}
-use Rattle.clap.specs.Words.{AddsArg, AddsSubcommand, App, IsAmong, Row, Text, app_of, is_simple}
-use Rattle.clap.specs.Words.{is_simple_and_free, kind_of, rule_of, with_rule, with_subcommand}
+use Rattle.clap.specs.Words.{App, IsAmong, Row, Text, is_simple}
+use Rattle.clap.specs.Words.{is_simple_and_free, kind_of, new_app, with_rule}
 use Rattle.std.proofs.lemmas.Bool.{and_parts}
-use Rattle.std.proofs.lemmas.List.{append_assoc, append-nil}
+use Rattle.std.proofs.lemmas.List.{append_assoc, append-nil, drop_more}
 use Rattle.std.specs.Cmp.Lexicographic.{same_text}
 use Rattle.std.specs.List.{AllByRecursion, list_any}
-use Rattle.dmlw.specs.CommandLine.{Entered, Enters, IsCommandOf, command_app, command_words}
-use Rattle.dmlw.specs.CommandLine.{has_explain, is_explain, is_positional, is_same, name_of}
-use Rattle.dmlw.specs.CommandLine.{name_text, program_app}
-use Rattle.dmlw.specs.Commands.{Asks, AsksBy, IsComplete, IsReadByClap, fault, memory, missing}
-use Rattle.dmlw.specs.declared.name.Name.{Name}
-use Rattle.dmlw.specs.declared.name.Name.TheVariants as names
+use Rattle.dmlw.specs.CommandLine.{Asks, Entered, Enters, IsComplete, IsReadByClap}
+use Rattle.dmlw.specs.CommandLine.{command_app, command_words, fault, has_explain, is_explain}
+use Rattle.dmlw.specs.CommandLine.{is_positional, memory, missing, needed, program_app}
+use Rattle.dmlw.specs.CommandLine.{with_arguments}
+use Rattle.dmlw.specs.Commands.{AsksBy, all_names, arguments, first_named, is_same, name_of}
+use Rattle.dmlw.specs.Commands.{name_text}
+use Rattle.dmlw.specs.declared.program.Name.{Name}
+use Rattle.dmlw.specs.declared.program.Name.TheVariants as names
 use Rattle.dmlw.specs.declared.task.Task.{Task}
 use Rattle.dmlw.specs.declared.task.Task.TheVariants as tasks
 
@@ -213,25 +213,13 @@ meets : (name : Name) → walked top.rules (names_of (built program_app)) (walk_
     (name_text name) ≡ met name []
 unfolding clap_on_literals
 meets names.Record = refl
-meets names.Run = refl
-meets names.List = refl
-meets names.Status = refl
-meets names.Replay = refl
-meets names.Copy = refl
-meets names.Judge = refl
-meets names.Path = refl
+meets _ = refl
 
 name_faultless : (name : Name)
     → turn_fault top (names_of (built program_app)) (walk_from nothing_held) (name_text name) ≡ []
 unfolding clap_on_literals
 name_faultless names.Record = refl
-name_faultless names.Run = refl
-name_faultless names.List = refl
-name_faultless names.Status = refl
-name_faultless names.Replay = refl
-name_faultless names.Copy = refl
-name_faultless names.Judge = refl
-name_faultless names.Path = refl
+name_faultless _ = refl
 
 walk_met : (name : Name) (words : List Text)
     → program_walk (name_text name ∷ words) ≡ met name words
@@ -259,25 +247,13 @@ fault_met : (name : Name) (words : List Text)
     ≡ or_else (level_fault (level name) [] nothing_held words false []) []
 unfolding clap_on_literals
 fault_met names.Record words = refl
-fault_met names.Run words = refl
-fault_met names.List words = refl
-fault_met names.Status words = refl
-fault_met names.Replay words = refl
-fault_met names.Copy words = refl
-fault_met names.Judge words = refl
-fault_met names.Path words = refl
+fault_met _ words = refl
 
 entered_met : (name : Name) (words : List Text)
     → entered (built program_app) (Some (name_text name, words))
     ≡ Some (name_text name, rows_after (level name).rules [] words)
 entered_met names.Record words = refl
-entered_met names.Run words = refl
-entered_met names.List words = refl
-entered_met names.Status words = refl
-entered_met names.Replay words = refl
-entered_met names.Copy words = refl
-entered_met names.Judge words = refl
-entered_met names.Path words = refl
+entered_met _ words = refl
 
 abbrev pub plain_rows : Name → List Text → List Row
 plain_rows name words =
@@ -305,106 +281,17 @@ plain_enters name program words plain have faultless = record {
       (rows_plain (level name).rules words plain have);
 }
 
-pub record_enters : (program script log : Text) → is_positional script ≡ true
-    → is_positional log ≡ true
-    → Enters (command_words program names.Record (script ∷ log ∷ []))
-    (codes "record", plain_rows names.Record (script ∷ log ∷ []))
-unfolding clap_on_literals
-record_enters program script log plain_script plain_log = plain_enters names.Record program
-    (script ∷ log ∷ []) (plain_script, (plain_log, tt)) refl refl
+pub begun : (name : Name) (app : App) (text : Text) (words : List Text) → app ≡ new_app text
+    → text ≡ name_text name → words ≡ arguments name → with_arguments app words ≡ command_app name
+begun name app text words is named all = rw (is, named, all) refl
 
-pub run_enters : (program script log : Text) → is_positional script ≡ true
-    → is_positional log ≡ true
-    → Enters (command_words program names.Run (script ∷ log ∷ []))
-    (codes "run", plain_rows names.Run (script ∷ log ∷ []))
-unfolding clap_on_literals
-run_enters program script log plain_script plain_log =
-    plain_enters names.Run program (script ∷ log ∷ []) (plain_script, (plain_log, tt)) refl refl
-
-pub list_enters : (program log : Text) → is_positional log ≡ true
-    → Enters (command_words program names.List (log ∷ []))
-    (codes "list", plain_rows names.List (log ∷ []))
-unfolding clap_on_literals
-list_enters program log plain = plain_enters names.List program (log ∷ []) (plain, tt) refl refl
-
-pub status_enters : (program log : Text) → is_positional log ≡ true
-    → Enters (command_words program names.Status (log ∷ []))
-    (codes "status", plain_rows names.Status (log ∷ []))
-unfolding clap_on_literals
-status_enters program log plain = plain_enters names.Status program (log ∷ []) (plain, tt) refl refl
-
-pub replay_enters : (program log first out what : Text) → is_positional log ≡ true
-    → is_positional first ≡ true → is_positional out ≡ true
-    → is_positional what ≡ true
-    → Enters (command_words program names.Replay (log ∷ first ∷ out ∷ what ∷ []))
-    (codes "replay", plain_rows names.Replay (log ∷ first ∷ out ∷ what ∷ []))
-unfolding clap_on_literals
-replay_enters program log first out what plain_log plain_first plain_out plain_what =
-    plain_enters names.Replay program (log ∷ first ∷ out ∷ what ∷ [])
-    (plain_log, (plain_first, (plain_out, (plain_what, tt)))) refl refl
-
-pub copy_enters : (program log out sectors : Text) → is_positional log ≡ true
-    → is_positional out ≡ true → is_positional sectors ≡ true
-    → Enters (command_words program names.Copy (log ∷ out ∷ sectors ∷ []))
-    (codes "copy", plain_rows names.Copy (log ∷ out ∷ sectors ∷ []))
-unfolding clap_on_literals
-copy_enters program log out sectors plain_log plain_out plain_sectors =
-    plain_enters names.Copy program (log ∷ out ∷ sectors ∷ [])
-    (plain_log, (plain_out, (plain_sectors, tt))) refl refl
-
-pub judge_enters : (program script m image : Text) → is_positional script ≡ true
-    → is_positional m ≡ true → is_positional image ≡ true
-    → Enters (command_words program names.Judge (script ∷ m ∷ image ∷ []))
-    (codes "judge", plain_rows names.Judge (script ∷ m ∷ image ∷ []))
-unfolding clap_on_literals
-judge_enters program script m image plain_script plain_m plain_image =
-    plain_enters names.Judge program (script ∷ m ∷ image ∷ [])
-    (plain_script, (plain_m, (plain_image, tt))) refl refl
-
-pub path_enters : (program script m image : Text) → is_positional script ≡ true
-    → is_positional m ≡ true → is_positional image ≡ true
-    → Enters (command_words program names.Path (script ∷ m ∷ image ∷ []))
-    (codes "path", plain_rows names.Path (script ∷ m ∷ image ∷ []))
-unfolding clap_on_literals
-path_enters program script m image plain_script plain_m plain_image =
-    plain_enters names.Path program (script ∷ m ∷ image ∷ [])
-    (plain_script, (plain_m, (plain_image, tt))) refl refl
-
-pub arg_chained : (old : Command) (a : Arg) (app : App) (rule : Rule) (new : Command)
-    → AddsArg old a new → a.global ≡ false → IsCommandOf app old
-    → rule_of a ≡ rule → IsCommandOf (with_rule app rule) new
-arg_chained old a app rule new adds own before rule_is = record {
-  reads =
-      adds.shape own ∙ ap (λ (x : App). with_rule x (rule_of a)) before.reads
-      ∙ ap (with_rule app) rule_is;
-  own = adds.globals ∙ rw (own, before.own) refl;
-}
-
-pub arg_added : {E : Type 0} (old : Command) (a : Arg) (app : App) (rule : Rule)
-    (r : Result Command E) → IfOk r (λ new. AddsArg old a new)
-    → a.global ≡ false → IsCommandOf app old → rule_of a ≡ rule
-    → IfOk r (IsCommandOf (with_rule app rule))
-arg_added old a app rule (Ok new) adds own before rule_is =
-    arg_chained old a app rule new adds own before rule_is
-arg_added old a app rule (Err e) adds own before rule_is = adds
-
-pub command_added : {E : Type 0} (old sub : Command) (lower : App) (r : Result Command E)
-    → IfOk r (λ new. AddsSubcommand old sub new)
-    → IsCommandOf lower sub → IfOk r (λ new. app_of new ≡ with_subcommand (app_of old) lower.top)
-command_added old sub lower (Ok new) adds made =
-    adds.shape made.own ∙ ap (λ (x : App). with_subcommand (app_of old) x.top) made.reads
-command_added old sub lower (Err e) adds made = adds
-
-pub chained_is : (before after : App) (lower : App) (is : App)
-    → after ≡ with_subcommand before lower.top → before ≡ is → after ≡ with_subcommand is lower.top
-chained_is before after lower is adds same =
-    adds ∙ ap (λ (x : App). with_subcommand x lower.top) same
-
-pub chained : {E : Type 0} (r : Result Command E) (before lower is : App)
-    → IfOk r (λ new. app_of new ≡ with_subcommand before lower.top) → before ≡ is
-    → IfOk r (λ new. app_of new ≡ with_subcommand is lower.top)
-chained (Ok new) before lower is adds same = chained_is before (app_of new) lower is adds same
-chained (Err e) before lower is adds same = adds
+pub one_argument : {X : Type 0} (text_of : X → Text) (old new : App) (rule : Rule) (rows : List X)
+    (i : ℕ) (d : X) → i < length rows → new ≡ with_rule old rule
+    → rule ≡ needed (text_of (get_or rows i d))
+    → with_arguments new (map text_of (drop (i + 1) rows))
+    ≡ with_arguments old (map text_of (drop i rows))
+one_argument text_of old new rule rows i d below adds is =
+    rw (adds, is, drop_more rows i d below) refl
 
 pub same_some : {A : Type 0} (x y : A) → Some x ≡ Some y → x ≡ y
 same_some x y same = cc
@@ -424,24 +311,18 @@ named_once name found word other there is =
     chosen (is_same word (name_text name)) name found word other
     (same_text word (name_text name)) there is
 
+named_in : (names : List Name) (word : List ℕ) (found : Name)
+    → first_named word names ≡ Some found → word ≡ name_text found
+named_in [] word found is = cc
+named_in (name ∷ names) word found is =
+    named_once name found word (first_named word names) (named_in names word found) is
+
 pub named : (word : List ℕ) (found : Name) → name_of word ≡ Some found → word ≡ name_text found
-named word found is =
-    named_once names.Record found word _
-    (λ e1. named_once names.Run found word _ (λ e2. named_once names.List found word _
-    (λ e3. named_once names.Status found word _
-    (λ e4. named_once names.Replay found word _ (λ e5. named_once names.Copy found word _
-    (λ e6. named_once names.Judge found word _
-    (λ e7. named_once names.Path found word _ (λ e8. absurd (cc)) e7) e6) e5) e4) e3) e2) e1) is
+named = named_in all_names
 
 pub named_again : (name : Name) → name_of (name_text name) ≡ Some name
 named_again names.Record = refl
-named_again names.Run = refl
-named_again names.List = refl
-named_again names.Status = refl
-named_again names.Replay = refl
-named_again names.Copy = refl
-named_again names.Judge = refl
-named_again names.Path = refl
+named_again _ = refl
 
 pub one_name : (word : List ℕ) (first second : Name) → word ≡ name_text first
     → word ≡ name_text second → first ≡ second
@@ -452,13 +333,7 @@ one_name word first second is_first is_second =
 shown_for_memory : (name : Name) (rows : List Row) (error : Error) → kind_of error ≡ OutOfMemory
     → AsksBy name rows (tasks.Show error)
 shown_for_memory names.Record rows error is = is
-shown_for_memory names.Run rows error is = is
-shown_for_memory names.List rows error is = is
-shown_for_memory names.Status rows error is = is
-shown_for_memory names.Replay rows error is = is
-shown_for_memory names.Copy rows error is = is
-shown_for_memory names.Judge rows error is = is
-shown_for_memory names.Path rows error is = is
+shown_for_memory _ rows error is = is
 
 pub read_asks : (words : List Text) (task : Task) (entered : Entered) → IsReadByClap words task
     → Enters words entered → IsComplete entered

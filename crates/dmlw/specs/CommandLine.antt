@@ -1,65 +1,23 @@
--- The program's command line as clap parses it: its commands, their arguments, and `--explain`.
--- `Commands` says for which task a command line asks.
--- The names of the commands, and the arguments of each.
-use Rattle.std.specs.Prelude.{if◌then◌else◌, is_some, nat_eq, codes, fold, ◌≡◌, ℕ, ◌==◌, ◌&&◌, Bool}
-use Rattle.std.specs.Prelude.{true, false, not, List, [], ◌∷◌, Option, Some, None}
+-- Command lines: how clap parses them, for which task each asks, and what it does.
+-- The contracts in `command_line` use these definitions.
+use Rattle.std.specs.Prelude.{Bool, List, Option, Some, [], codes, false, fold, not, true}
+use Rattle.std.specs.Prelude.{ℕ, ◌&&◌, ◌==◌, ◌∷◌, ◌≡◌}
 use Rattle.clap.specs.declared.builder.command.Command.{Command}
 use Rattle.clap.specs.declared.builder.command.Command.TheViews.{out-Command as fields_of}
 use Rattle.clap.specs.Simple.{on_top}
-use Rattle.clap.specs.Words.{App, Row, Rule, Text, app_of, fault_of, first_of, new_app, new_rule}
-use Rattle.clap.specs.Words.{subcommand_of, with_rule, with_subcommand}
-use Rattle.std.specs.Cmp.Lexicographic.{pointwise}
-use Rattle.std.specs.List.{AllByRecursion, filter, list_any}
-use Rattle.dmlw.specs.declared.name.Name.{Name}
-use Rattle.dmlw.specs.declared.name.Name.TheVariants as names
-
--- Both words are the same.
-abbrev pub is_same : List ℕ → List ℕ → Bool
-is_same = pointwise nat_eq
-
--- The word that names a command on the command line.
-abbrev pub name_text : Name → List ℕ
-name_text names.Record = codes "record"
-name_text names.Run = codes "run"
-name_text names.List = codes "list"
-name_text names.Status = codes "status"
-name_text names.Replay = codes "replay"
-name_text names.Copy = codes "copy"
-name_text names.Judge = codes "judge"
-name_text names.Path = codes "path"
-
--- `name` if `word` is that command's name, otherwise `other`.
-abbrev pub named_or : Name → List ℕ → Option Name → Option Name
-named_or name word other = if is_same word (name_text name) then Some name else other
-
--- The command whose name is the word; None if no command has this name.
-abbrev pub name_of : List ℕ → Option Name
-name_of word =
-    named_or names.Record word
-    (named_or names.Run word
-    (named_or names.List word (named_or names.Status word (named_or names.Replay word
-    (named_or names.Copy word (named_or names.Judge word (named_or names.Path word None)))))))
-
--- All commands, in the order in which the help lists them.
-abbrev pub all_names : List Name
-all_names = names.Record ∷ names.Run ∷ names.List ∷ names.Status ∷ names.Replay ∷ names.Copy
-    ∷ names.Judge ∷ names.Path ∷ []
-
--- The arguments of a command, in their order.
-abbrev pub arguments : Name → List Text
-arguments names.Record = codes "SCRIPT" ∷ codes "LOG" ∷ []
-arguments names.Run = codes "SCRIPT" ∷ codes "LOG" ∷ []
-arguments names.List = codes "LOG" ∷ []
-arguments names.Status = codes "LOG" ∷ []
-arguments names.Replay = codes "LOG" ∷ codes "FIRST" ∷ codes "OUT" ∷ codes "WHAT" ∷ []
-arguments names.Copy = codes "LOG" ∷ codes "OUT" ∷ codes "SECTORS" ∷ []
-arguments names.Judge = codes "SCRIPT" ∷ codes "M" ∷ codes "IMAGE" ∷ []
-arguments names.Path = codes "SCRIPT" ∷ codes "M" ∷ codes "IMAGE" ∷ []
-
--- The rows have a word for each argument of the command.
-abbrev pub HasWords : Name → List Row → Type 0
-HasWords name rows =
-    AllByRecursion (λ argument. is_some (first_of argument rows) ≡ true) (arguments name)
+use Rattle.clap.specs.Words.{App, IsAmong, Row, Rule, Text, app_of, fault_of, kind_of, new_app}
+use Rattle.clap.specs.Words.{new_rule, subcommand_of, with_rule, with_subcommand}
+use Rattle.std.specs.List.{filter, list_any}
+use Rattle.dmlw.specs.declared.program.Name.{Name}
+use Rattle.clap.specs.declared.error.kind.ErrorKind.{ErrorKind}
+use Rattle.clap.specs.declared.error.kind.ErrorKind.TheVariants.{MissingRequiredArgument}
+use Rattle.clap.specs.declared.error.kind.ErrorKind.TheVariants.{OutOfMemory}
+use Rattle.dmlw_commands.specs.declared.ending.Ended.{Ended}
+use Rattle.dmlw_commands.specs.Seen.{Seen}
+use Rattle.dmlw.specs.declared.task.Task.{Task}
+use Rattle.dmlw.specs.Commands.{AsksBy, EndsTask, HasWords, all_names, arguments, is_same}
+use Rattle.dmlw.specs.Commands.{name_text}
+use Rattle.dmlw.specs.declared.task.Task.TheVariants as tasks
 
 -- The word doesn't begin with a hyphen.
 abbrev pub is_positional : List ℕ → Bool
@@ -94,11 +52,13 @@ is_formats _ = false
 abbrev pub needed : Text → Rule
 needed name = record (new_rule name) { required = true }
 
+-- `app` with these required arguments.
+abbrev pub with_arguments : App → List Text → App
+with_arguments = fold (λ app argument. with_rule app (needed argument))
+
 -- The command `name` as clap parses it: each of its arguments is required.
 abbrev pub command_app : Name → App
-command_app name =
-    fold (λ app argument. with_rule app (needed argument)) (new_app (name_text name))
-    (arguments name)
+command_app name = with_arguments (new_app (name_text name)) (arguments name)
 
 -- The program without its commands, as clap parses it.
 abbrev pub bare_app : App
@@ -126,3 +86,62 @@ Entered = Text × List Row
 pub record Enters (words : List Text) (entered : Entered) : Type 0 where
   pub faultless : fault_of program_app words ≡ []
   pub enters : subcommand_of program_app words ≡ Some entered
+
+-- The command `entered` is one of the program's, and asks for `task`.
+abbrev pub Asks : Entered → Task → Type 0
+Asks entered task = (name : Name) × (entered.0 ≡ name_text name) × AsksBy name entered.1 task
+
+-- `found` is an entered command, and this command asks for `task`.
+abbrev pub IsAskedBy : Option Entered → Task → Type 0
+IsAskedBy found task = (entered : Entered) × (found ≡ Some entered) × Asks entered task
+
+-- The command `entered` is one of the program's, and each of its arguments has a word.
+abbrev pub IsComplete : Entered → Type 0
+IsComplete entered = (name : Name) × (entered.0 ≡ name_text name) × HasWords name entered.1
+
+-- clap finds no fault in `words`, and `words` ask for `task`.
+abbrev pub IsAsked : List Text → Task → Type 0
+IsAsked words task =
+    (fault_of program_app words ≡ []) × IsAskedBy (subcommand_of program_app words) task
+
+-- Why `words` ask for no task, and the kind of clap's error.
+-- - `memory`: memory ran out while `words` were parsed.
+-- - `fault`: clap finds a fault of this kind.
+-- - `missing`: clap finds no fault, but `words` enter no command with all its words.
+pub data IsUntasked (words : List Text) (kind : ErrorKind) : Type 0 where
+  memory : kind ≡ OutOfMemory → IsUntasked words kind
+  fault : IsAmong kind (fault_of program_app words) → IsUntasked words kind
+  missing : fault_of program_app words ≡ []
+      → ((entered : Entered) → Enters words entered → IsComplete entered → ⊥)
+      → kind ≡ MissingRequiredArgument → IsUntasked words kind
+
+-- The task of `words` if clap parses them: the task that `words` ask for, or `Show` if they ask for
+-- none.
+abbrev pub IsReadByClap : List Text → Task → Type 0
+IsReadByClap words (tasks.Show error) = IsUntasked words (kind_of error)
+IsReadByClap words task = IsAsked words task
+
+-- The task is to print the page of the formats, or `Show` if memory ran out while the command line
+-- was parsed.
+abbrev pub IsFormats : Task → Type 0
+IsFormats (tasks.Formats page) = Unit {0}
+IsFormats (tasks.Show error) = kind_of error ≡ OutOfMemory
+IsFormats task = ⊥
+
+-- The first argument says whether `words` are `help formats`. If they are, the task is to print the
+-- formats (`IsFormats`), otherwise what clap parses (`IsReadByClap`).
+abbrev pub IsReadAs : Bool → List Text → Task → Type 0
+IsReadAs true words task = IsFormats task
+IsReadAs false words task = IsReadByClap words task
+
+-- The task of `words`. `help formats` asks for the page of the formats; clap parses all other
+-- words.
+abbrev pub IsRead : List Text → Task → Type 0
+IsRead words task = IsReadAs (is_formats words) words task
+
+-- What a command line does. Its words without `--explain` are read as `task`, and `task` ends as
+-- `EndsTask` says. It explains itself if `--explain` is among the words.
+pub record DoesWords (words : List (List ℕ)) (old new : Seen) (ended : Ended) : Type 0 where
+  pub task : Task
+  pub read : IsRead (without_explain words) task
+  pub ends : EndsTask task (has_explain words) old new ended

@@ -1,3 +1,4 @@
 -- The definitions of `dmlw`'s contracts.
-pub mod CommandLine
 pub mod Commands
+pub mod CommandLine
+pub mod Endings

@@ -4,17 +4,13 @@ ghost use Rattle.std.specs.Prelude.{is_some, map, not, true};
 ghost use Rattle.std.specs.List.{filter, list_any};
 ghost use Rattle.clap.specs.Words.{FailsBy, fault_of, found_of, kind_of, rows_of, subcommand_of};
 ghost use Rattle.clap.specs.Words.{subcommand_rows_of};
-ghost use Rattle.dmlw.specs.CommandLine.{Entered, HasWords, has_explain, is_explain};
-ghost use Rattle.dmlw.specs.CommandLine.{is_formats, program_app, without_explain};
-ghost use Rattle.dmlw.specs.Commands.{AsksBy, IsAskedBy, IsComplete, IsRead, IsReadByClap};
+ghost use Rattle.dmlw.specs.CommandLine.{Entered, IsAskedBy, IsComplete, IsRead, IsReadByClap};
+ghost use Rattle.dmlw.specs.CommandLine.{has_explain, is_explain, is_formats, program_app};
+ghost use Rattle.dmlw.specs.CommandLine.{without_explain};
 
-use crate::asking::{
-    copy_task, judge_task, list_task, path_task, record_task, replay_task, run_task, status_task,
-};
 use crate::formats::FORMATS;
-use crate::name::Name;
-use crate::program::program_command;
-use crate::task::Task;
+use crate::program::{Name, program_command};
+use crate::task::{Task, task_by};
 use clap::error::ErrorKind;
 use clap::{ArgMatches, Error};
 use std::alloc::{AllocError, Global};
@@ -40,23 +36,6 @@ fn entered<'m, 'a>(matches: &'m ArgMatches<'a>) -> Option<(&'a str, &'m ArgMatch
     ensures none { result ≡ None → subcommand_rows_of matches.now ≡ None }
 {
     matches.subcommand()
-}
-
-// Makes the task of the command `name` from the words that were entered for it.
-fn task_by<'a>(name: Name, found: &ArgMatches<'a>) -> Option<Task<'a>>
-    ensures asks { IfSome result (AsksBy name (rows_of (found_of found.now))) }
-    ensures complete { HasWords name (rows_of (found_of found.now)) → is_some result ≡ true }
-{
-    match name {
-        Name::Record => record_task(found),
-        Name::Run => run_task(found),
-        Name::List => list_task(found),
-        Name::Status => status_task(found),
-        Name::Replay => replay_task(found),
-        Name::Copy => copy_task(found),
-        Name::Judge => judge_task(found),
-        Name::Path => path_task(found),
-    }
 }
 
 // Parses the command line with `clap`.

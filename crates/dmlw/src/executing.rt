@@ -3,10 +3,10 @@ ghost use Rattle.std.specs.Prelude.{◌≡◌, Bool, IfErr, OnOk, false, map, tr
 ghost use Rattle.std.specs.Io.KnownBytes.{Appends, Keeps};
 ghost use Rattle.std.specs.IoError.{error_kind};
 ghost use Rattle.clap.specs.Words.{kind_of};
-ghost use Rattle.dmlw.specs.CommandLine.{has_explain};
-ghost use Rattle.dmlw.specs.Commands.{DoesWords, EndsCommand, EndsTask, EndsUntasked};
-ghost use Rattle.dmlw.specs.Commands.{PrintsPage, ReportsBy, ReportsPage, ReportsUntasked};
-ghost use Rattle.dmlw.specs.Commands.{bad_word_text, is_asked_for, unread_exit};
+ghost use Rattle.dmlw.specs.CommandLine.{DoesWords, has_explain};
+ghost use Rattle.dmlw.specs.Commands.{EndsTask, bad_word_text};
+ghost use Rattle.dmlw.specs.Endings.{EndsCommand, EndsUntasked, PrintsPage, ReportsBy, ReportsPage};
+ghost use Rattle.dmlw.specs.Endings.{ReportsUntasked, is_asked_for, unread_exit};
 ghost use Rattle.dmlw_commands.specs.Ends.{err_stream, status_of};
 ghost use Rattle.dmlw_commands.specs.Seen.{seen};
 ghost use Rattle.refusals.specs.Errors.{IsFileError};

@@ -1,9 +1,9 @@
 //! Laws of command lines: each is a function that does nothing, and its contract is the law.
 ghost use Rattle.std.specs.Prelude.{◌≡◌, ◌∷◌, [], List, Some, false, true, ℕ};
-ghost use Rattle.dmlw.specs.CommandLine.{command_words, is_positional, name_of, name_text};
-ghost use Rattle.dmlw.specs.Commands.{DoesWords, EndsReplayingUpTo, IsSectorCount};
-ghost use Rattle.dmlw.specs.declared.name.Name.{Name};
-ghost use Rattle.dmlw.specs.declared.name.Name.TheVariants as names;
+ghost use Rattle.dmlw.specs.CommandLine.{DoesWords, command_words, is_positional};
+ghost use Rattle.dmlw.specs.Commands.{EndsReplayingUpTo, IsSectorCount, name_of, name_text};
+ghost use Rattle.dmlw.specs.declared.program.Name.{Name};
+ghost use Rattle.dmlw.specs.declared.program.Name.TheVariants as names;
 ghost use Rattle.dmlw_commands.specs.declared.ending.Ended.{Ended};
 ghost use Rattle.dmlw_commands.specs.Ends.{Ends, exit_after, exit_by};
 ghost use Rattle.dmlw_commands.specs.Judgements.{AnswersOf, exit_answered, finding_meaning};

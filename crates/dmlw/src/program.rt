@@ -1,14 +1,137 @@
-//! The program's command line for `clap`: its commands, their arguments and their help.
-ghost use Rattle.std.specs.Prelude.{◌≡◌, IfOk, codes, false};
-ghost use Rattle.clap.specs.Words.{App, app_of, new_app, rule_of, with_rule, with_subcommand};
-ghost use Rattle.dmlw.specs.CommandLine.{IsCommandOf, bare_app, command_app, needed};
-ghost use Rattle.dmlw.specs.CommandLine.{program_app};
-ghost use Rattle.dmlw.specs.declared.name.Name.TheVariants as names;
+//! The commands of the program: their names, and their words and help for `clap`.
+ghost use Rattle.std.specs.Prelude.{◌≡◌, IfOk, false, map};
+ghost use Rattle.clap.specs.Words.{app_of, rule_of};
+ghost use Rattle.dmlw.specs.CommandLine.{IsCommandOf, bare_app, command_app, needed, program_app};
+ghost use Rattle.dmlw.specs.Commands.{all_names, arguments, name_of, name_text};
 
 use clap::{Arg, Command};
 use std::alloc::{AllocError, Global};
 
-// The text of `help`. It lists the commands of `program_command`, and also `help formats`.
+/// The name of a command.
+#[derive(Clone, Copy, Debug, PartialEq, Eq)]
+pub enum Name {
+    Record,
+    Run,
+    List,
+    Status,
+    Replay,
+    Copy,
+    Judge,
+    Path,
+}
+
+// What the help says of a command: its name, what it does, and its arguments, each with its help.
+#[derive(Clone, Copy)]
+struct Words<'a> {
+    name: &'a str,
+    about: &'a str,
+    arguments: &'a [(&'a str, &'a str)],
+}
+
+impl Name {
+    /// Returns the command that a word names; None for any other word.
+    pub fn of(word: &str) -> Option<Name>
+        ensures { result ≡ name_of word.now }
+    {
+        let names = Name::all();
+        for name in names {
+            if word == name.words().name {
+                return Some(*name);
+            }
+        }
+        None
+    }
+
+    // Returns all commands, in the order in which the help lists them.
+    fn all() -> &'static [Name]
+        ensures { result.now ≡ all_names }
+    {
+        &[
+            Name::Record,
+            Name::Run,
+            Name::List,
+            Name::Status,
+            Name::Replay,
+            Name::Copy,
+            Name::Judge,
+            Name::Path,
+        ]
+    }
+
+    fn words<'a>(self) -> Words<'a>
+        ensures name { result.name.now ≡ name_text self }
+        ensures arguments { map (λ argument. argument.0.now) result.arguments.now
+            ≡ arguments self }
+    {
+        match self {
+            Name::Record => Words {
+                name: "record",
+                about: "Records the requests of a script in a new log",
+                arguments: &[
+                    ("SCRIPT", "The script to read"),
+                    ("LOG", "The log to write"),
+                ],
+            },
+            Name::Run => Words {
+                name: "run",
+                about: "Runs the seats of a script in threads, and records them in a new log",
+                arguments: &[
+                    ("SCRIPT", "The script to read"),
+                    ("LOG", "The log to write"),
+                ],
+            },
+            Name::List => Words {
+                name: "list",
+                about: "Lists the entries of a log",
+                arguments: &[("LOG", "The log to read")],
+            },
+            Name::Status => Words {
+                name: "status",
+                about: "Prints how many entries a log has, and how far they reach",
+                arguments: &[("LOG", "The log to read")],
+            },
+            Name::Replay => Words {
+                name: "replay",
+                about: "Replays a prefix of a log on an image",
+                arguments: &[
+                    ("LOG", "The log to read"),
+                    ("FIRST", "The image to begin with"),
+                    ("OUT", "The image to write"),
+                    ("WHAT", "entries:<n>, mark:<text> or flush"),
+                ],
+            },
+            Name::Copy => Words {
+                name: "copy",
+                about: "Copies a log to one with sectors of 4096 bytes",
+                arguments: &[
+                    ("LOG", "The log to read"),
+                    ("OUT", "The log to write"),
+                    ("SECTORS", "The sectors of the new log's disk"),
+                ],
+            },
+            Name::Judge => Words {
+                name: "judge",
+                about: "Judges whether an image could have been on the device",
+                arguments: &[
+                    ("SCRIPT", "The script to read"),
+                    ("M", "The number of events before the power failure"),
+                    ("IMAGE", "The image to judge"),
+                ],
+            },
+            Name::Path => Words {
+                name: "path",
+                about: "Prints how an image could have come to be on the device",
+                arguments: &[
+                    ("SCRIPT", "The script to read"),
+                    ("M", "The number of events before the power failure"),
+                    ("IMAGE", "The image to judge"),
+                ],
+            },
+        }
+    }
+}
+
+// The text of `help`. It lists the commands, and also `help formats`.
 const HELP: &str = "\
 Records block requests in a log, and reads logs back
 
@@ -55,20 +178,13 @@ has, and made a durable: event 0 rules zeroes out. With --explain its line of th
 pub fn program_command<'a>(alloc: Global) -> Result<Command<'a>, AllocError>
     ensures { IfOk result (λ command. app_of command ≡ program_app) }
 {
-    let program = with_command(bare_command(alloc), record_command(alloc))?;
-    let program = with_command(program, run_command(alloc))?;
-    let list = log_command(alloc, "list", "Lists the entries of a log");
-    let program = with_command(program, list)?;
-    let status = log_command(
-        alloc,
-        "status",
-        "Prints how many entries a log has, and how far they reach",
-    );
-    let program = with_command(program, status)?;
-    let program = with_command(program, replay_command(alloc))?;
-    let program = with_command(program, copy_command(alloc))?;
-    let program = with_command(program, judge_command(alloc))?;
-    with_command(program, path_command(alloc))
+    let mut program = bare_command(alloc);
+    let names = Name::all();
+    for name in names {
+        let command = command_of(alloc, *name)?;
+        program = program.subcommand(command)?;
+    }
+    Ok(program)
 }
 
 // Returns the program for `clap`, without its commands.
@@ -82,15 +198,20 @@ fn bare_command<'a>(alloc: Global) -> Command<'a>
         .arg_required_else_help(true)
 }
 
-// Adds a command to the program.
-fn with_command<'a>(
-    program: Command<'a>,
-    made: Result<Command<'a>, AllocError>,
-) -> Result<Command<'a>, AllocError>
-    ensures { (lower : App) → IfOk made.entry (IsCommandOf lower) →
-        IfOk result (λ command. app_of command ≡ with_subcommand (app_of program.entry) lower.top) }
+// Returns a command for `clap`, with its arguments and its help.
+fn command_of<'a>(alloc: Global, name: Name) -> Result<Command<'a>, AllocError>
+    ensures { IfOk result (IsCommandOf (command_app name)) }
 {
-    program.subcommand(made?)
+    let words = name.words();
+    let arguments = words.arguments;
+    let mut command = Command::new(alloc, words.name).about(words.about);
+    for (word, help) in arguments {
+        command = command.arg(argument(alloc, word, help))?;
+    }
+    match name {
+        Name::Judge | Name::Path => Ok(command.after_help(EVENTS)),
+        _ => Ok(command),
+    }
 }
 
 // Returns a required argument of a command.
@@ -99,75 +220,4 @@ fn argument<'a>(alloc: Global, name: &'a str, help: &'a str) -> Arg<'a>
     ensures own { result.global ≡ false }
 {
     Arg::new(alloc, name).required(true).help(help)
-}
-
-fn record_command<'a>(alloc: Global) -> Result<Command<'a>, AllocError>
-    ensures { IfOk result (IsCommandOf (command_app names.Record)) }
-{
-    Command::new(alloc, "record")
-        .about("Records the requests of a script in a new log")
-        .arg(argument(alloc, "SCRIPT", "The script to read"))?
-        .arg(argument(alloc, "LOG", "The log to write"))
-}
-
-fn run_command<'a>(alloc: Global) -> Result<Command<'a>, AllocError>
-    ensures { IfOk result (IsCommandOf (command_app names.Run)) }
-{
-    Command::new(alloc, "run")
-        .about("Runs the seats of a script in threads, and records them in a new log")
-        .arg(argument(alloc, "SCRIPT", "The script to read"))?
-        .arg(argument(alloc, "LOG", "The log to write"))
-}
-
-// Returns a command with the argument LOG.
-fn log_command<'a>(alloc: Global, name: &'a str, about: &'a str) -> Result<Command<'a>, AllocError>
-    ensures { IfOk result (IsCommandOf
-        (with_rule (new_app name.entry.now) (needed (codes "LOG")))) }
-{
-    Command::new(alloc, name)
-        .about(about)
-        .arg(argument(alloc, "LOG", "The log to read"))
-}
-
-fn replay_command<'a>(alloc: Global) -> Result<Command<'a>, AllocError>
-    ensures { IfOk result (IsCommandOf (command_app names.Replay)) }
-{
-    Command::new(alloc, "replay")
-        .about("Replays a prefix of a log on an image")
-        .arg(argument(alloc, "LOG", "The log to read"))?
-        .arg(argument(alloc, "FIRST", "The image to begin with"))?
-        .arg(argument(alloc, "OUT", "The image to write"))?
-        .arg(argument(alloc, "WHAT", "entries:<n>, mark:<text> or flush"))
-}
-
-fn copy_command<'a>(alloc: Global) -> Result<Command<'a>, AllocError>
-    ensures { IfOk result (IsCommandOf (command_app names.Copy)) }
-{
-    Command::new(alloc, "copy")
-        .about("Copies a log to one with sectors of 4096 bytes")
-        .arg(argument(alloc, "LOG", "The log to read"))?
-        .arg(argument(alloc, "OUT", "The log to write"))?
-        .arg(argument(alloc, "SECTORS", "The sectors of the new log's disk"))
-}
-
-fn judge_command<'a>(alloc: Global) -> Result<Command<'a>, AllocError>
-    ensures { IfOk result (IsCommandOf (command_app names.Judge)) }
-{
-    Command::new(alloc, "judge")
-        .about("Judges whether an image could have been on the device")
-        .after_help(EVENTS)
-        .arg(argument(alloc, "SCRIPT", "The script to read"))?
-        .arg(argument(alloc, "M", "The number of events before the power failure"))?
-        .arg(argument(alloc, "IMAGE", "The image to judge"))
-}
-
-fn path_command<'a>(alloc: Global) -> Result<Command<'a>, AllocError>
-    ensures { IfOk result (IsCommandOf (command_app names.Path)) }
-{
-    Command::new(alloc, "path")
-        .about("Prints how an image could have come to be on the device")
-        .after_help(EVENTS)
-        .arg(argument(alloc, "SCRIPT", "The script to read"))?
-        .arg(argument(alloc, "M", "The number of events before the power failure"))?
-        .arg(argument(alloc, "IMAGE", "The image to judge"))
 }

@@ -20,7 +20,7 @@ use Rattle.dmlw_commands.specs.Makings.{unprinted, unwritten}
 use Rattle.dmlw_commands.specs.Seen.{Seen}
 use Rattle.world.specs.declared.reaching.Finding.{Finding}
 use Rattle.world.specs.declared.reaching.Finding.TheVariants as findings
-use Rattle.dmlw_commands.specs.Judgements.{Meaning, exit_answered, finding_meaning, verdict_meaning}
+use Rattle.dmlw_commands.specs.Judgements.{exit_answered, finding_meaning, verdict_meaning}
 use Rattle.judge.specs.declared.verdict.Verdict.{Verdict}
 use Rattle.judge.specs.declared.verdict.Verdict.TheVariants as verdicts
 use Rattle.dmlw.specs.CommandLine.{IsRead, IsReadAs, is_formats, memory}
@@ -172,50 +172,39 @@ told_fault t cause ended off tells =
     by_fault (faults.LoggingEnded end) line = inr line
     by_fault (faults.StoppedAfter applied refusal) line = line
 
+-- The exit of a command whose result is Ok.
+abbrev IsAnswered : Exit → Type 0
+IsAnswered exit = IsLogged exit ⊎ (exit ≡ RuledOut)
+
+told_nothing : (exit : Exit) (ended : Ended) (old new : Option (List ℕ)) → IsAnswered exit
+    → new ≡ old → ReportsBy exit ended old new
+told_nothing exit ended old new (inl (inl is)) same = rw is same
+told_nothing exit ended old new (inl (inr is)) same = rw is (inl same)
+told_nothing exit ended old new (inr is) same = rw is same
+
+told : {T : Type 0} (exits : Result T RunError → Exit)
+    → ((result : T) → IsAnswered (exits (Ok result)))
+    → ((fault : RunError) → exits (Err fault) ≡ exit_of fault) → (t : ErrStream)
+    (done : Result T RunError) (ended : Ended) → t.explains ≡ false
+    → ReportsLine t (exits done) (reported_line done) ended
+    → ReportsBy ended.exit ended t.before t.after
+told exits answered by_fault t (Ok result) ended off tells =
+    subst (λ (e : Exit). ReportsBy e ended t.before t.after) (sym tells.exits)
+    (told_nothing (exits (Ok result)) ended t.before t.after (answered result) (tells.quiet off refl))
+told exits answered by_fault t (Err fault) ended off tells =
+    told_fault t fault ended off (rw by_fault at tells)
+
 told_by : {T : Type 0} (t : ErrStream) (done : Result T RunError) (ended : Ended)
     → t.explains ≡ false → Tells t done ended → ReportsBy ended.exit ended t.before t.after
-told_by t (Ok u) ended off tells =
-    subst (λ (e : Exit). ReportsBy e ended t.before t.after) (sym tells.exits)
-    (tells.quiet off refl)
-told_by t (Err fault) ended off tells = told_fault t fault ended off tells
+told_by = told exit_by (λ result. inl (inl refl)) (λ fault. refl)
 
-told_recording : (t : ErrStream) (done : Result Status RunError) (ended : Ended)
-    → t.explains ≡ false → ReportsLine t (exit_after done) (reported_line done) ended
-    → ReportsBy ended.exit ended t.before t.after
-told_recording t (Ok status) ended off tells =
-    subst (λ (e : Exit). ReportsBy e ended t.before t.after) (sym tells.exits)
-    (by_end status.end (tells.quiet off refl))
-  where
-    by_end : (end : Option End) → t.after ≡ t.before
-        → ReportsBy (exit_at end) ended t.before t.after
-    by_end None same = same
-    by_end (Some cause) same = inl same
-told_recording t (Err fault) ended off tells = told_fault t fault ended off tells
+verdict_answered : (verdict : Verdict) → IsAnswered (verdict_meaning.ends verdict)
+verdict_answered verdicts.Yes = inl (inl refl)
+verdict_answered (verdicts.No sector by) = inr refl
 
-told_answer : {A : Type 0} (meaning : Meaning A)
-    → ((answer : A) → (meaning.ends answer ≡ Done) ⊎ (meaning.ends answer ≡ RuledOut))
-    → (t : ErrStream) (done : Result A RunError) (ended : Ended) → t.explains ≡ false
-    → ReportsLine t (exit_answered meaning done) (reported_line done) ended
-    → ReportsBy ended.exit ended t.before t.after
-told_answer meaning ends t (Ok answer) ended off tells =
-    subst (λ (e : Exit). ReportsBy e ended t.before t.after) (sym tells.exits)
-    (by_end (ends answer) (tells.quiet off refl))
-  where
-    by_end : (meaning.ends answer ≡ Done) ⊎ (meaning.ends answer ≡ RuledOut)
-        → t.after ≡ t.before → ReportsBy (meaning.ends answer) ended t.before t.after
-    by_end (inl is) same = subst (λ (e : Exit). ReportsBy e ended t.before t.after) (sym is) same
-    by_end (inr is) same = subst (λ (e : Exit). ReportsBy e ended t.before t.after) (sym is) same
-told_answer meaning ends t (Err cause) ended off tells = told_fault t cause ended off tells
-
-verdict_ends : (verdict : Verdict)
-    → (verdict_meaning.ends verdict ≡ Done) ⊎ (verdict_meaning.ends verdict ≡ RuledOut)
-verdict_ends verdicts.Yes = inl refl
-verdict_ends (verdicts.No sector by) = inr refl
-
-finding_ends : (finding : Finding)
-    → (finding_meaning.ends finding ≡ Done) ⊎ (finding_meaning.ends finding ≡ RuledOut)
-finding_ends (findings.Run run) = inl refl
-finding_ends (findings.RuledOut sector by) = inr refl
+finding_answered : (finding : Finding) → IsAnswered (finding_meaning.ends finding)
+finding_answered (findings.Run run) = inl (inl refl)
+finding_answered (findings.RuledOut sector by) = inr refl
 
 text_tells : (kind : ErrorKind) (t : ErrStream) (ended : Ended) → EndsUntasked kind ended.exit
     → ReportsUntasked kind t ended → t.explains ≡ false
@@ -231,15 +220,17 @@ pub task_tells : (task : Task) (explains : Bool) (old new : Seen) (ended : Ended
     → EndsTask task explains old new ended → explains ≡ false
     → ReportsBy ended.exit ended old.err new.err
 task_tells (tasks.Record script log) explains old new ended ends off =
-    told_recording (err_stream explains old.err new.err) ends.done ended off ends.tells
+    told exit_after (λ status. inl (after_logged status)) (λ fault. refl)
+    (err_stream explains old.err new.err) ends.done ended off ends.tells
 task_tells (tasks.Run script log) explains old new ended ends off =
-    told_recording (err_stream explains old.err new.err) ends.done ended off ends.tells
+    told exit_after (λ status. inl (after_logged status)) (λ fault. refl)
+    (err_stream explains old.err new.err) ends.done ended off ends.tells
 task_tells (tasks.Judge script moment image) explains old new ended ends off =
-    told_answer verdict_meaning verdict_ends (err_stream explains old.err new.err) ends.done ended
-    off ends.tells
+    told (exit_answered verdict_meaning) verdict_answered (λ fault. refl)
+    (err_stream explains old.err new.err) ends.done ended off ends.tells
 task_tells (tasks.Path script moment image) explains old new ended ends off =
-    told_answer finding_meaning finding_ends (err_stream explains old.err new.err) ends.done ended
-    off ends.tells
+    told (exit_answered finding_meaning) finding_answered (λ fault. refl)
+    (err_stream explains old.err new.err) ends.done ended off ends.tells
 task_tells (tasks.Show error) explains old new ended ends off =
     text_tells (kind_of error) (err_stream explains old.err new.err) ended ends.ends ends.tells off
 task_tells (tasks.HasBadWord flaw word) explains old new ended ends off =

@@ -10,17 +10,17 @@ use Rattle.refusals.specs.Errors.{memory_error}
 use Rattle.dmlw_commands.specs.declared.exit.Exit.{Exit}
 use Rattle.dmlw_commands.specs.declared.exit.Exit.TheVariants.{Done, LoggingEnded, Refused}
 use Rattle.dmlw_commands.specs.declared.exit.Exit.TheVariants.{RuledOut, Usage}
-use Rattle.dmlw_commands.specs.Ends.{ErrStream, Tells, ReportsLine, err_stream, IsRefusal}
+use Rattle.dmlw_commands.specs.Ends.{Ends, ErrStream, Tells, ReportsLine, err_stream, IsRefusal}
 use Rattle.dmlw_commands.specs.Ends.{exit_after, exit_at, exit_by, exit_of, fault_line}
 use Rattle.dmlw_commands.specs.Ends.{reported_line, status_of}
 use Rattle.dmlw_commands.specs.declared.ending.Ended.{Ended}
 use Rattle.dmlw_files.specs.Files.{KeepsFiles}
 use Rattle.dmlw_commands.specs.Makings.{Asks, FailsMaking, IsMade, Makes, Making, taken, unmade}
 use Rattle.dmlw_commands.specs.Makings.{unprinted, unwritten}
-use Rattle.dmlw_commands.specs.Seen.{Seen}
+use Rattle.dmlw_commands.specs.Seen.{Does, OnlyReads, Printing, Seen}
 use Rattle.world.specs.declared.reaching.Finding.{Finding}
 use Rattle.world.specs.declared.reaching.Finding.TheVariants as findings
-use Rattle.dmlw_commands.specs.Judgements.{exit_answered, finding_meaning, verdict_meaning}
+use Rattle.dmlw_commands.specs.Judgements.{Meaning, exit_answered, finding_meaning, verdict_meaning}
 use Rattle.judge.specs.declared.verdict.Verdict.{Verdict}
 use Rattle.judge.specs.declared.verdict.Verdict.TheVariants as verdicts
 use Rattle.dmlw.specs.CommandLine.{IsRead, IsReadAs, is_formats, memory}
@@ -120,26 +120,39 @@ after_logged status = at_end status.end
     at_end None = inl refl
     at_end (Some cause) = inr refl
 
+makes_end : {T : Type 0} (making : (List ℕ → Option (List ℕ)) → Making T) (read name : List ℕ)
+    (explains : Bool) (old new : Seen) (ended : Ended)
+    → Ends (Makes making read name) exit_by explains old new ended
+    → EndsCommand old new ended.exit
+makes_end making read name explains old new ended ends =
+    ends_making making read name exit_by (λ result. inl refl) (λ fault. refl) old new ends.done
+    ended.exit ends.did ends.tells.exits
+
+records_end : (making : (List ℕ → Option (List ℕ)) → Making Status) (read name : List ℕ)
+    (explains : Bool) (old new : Seen) (ended : Ended)
+    → Ends (Makes making read name) exit_after explains old new ended
+    → EndsCommand old new ended.exit
+records_end making read name explains old new ended ends =
+    ends_making making read name exit_after after_logged (λ fault. refl) old new ends.done
+    ended.exit ends.did ends.tells.exits
+
+reads_end : {T : Type 0} (prints : (List ℕ → Option (List ℕ)) → Printing T)
+    (exits : Result T RunError → Exit) (explains : Bool) (old new : Seen) (ended : Ended)
+    → Ends (OnlyReads prints) exits explains old new ended → EndsCommand old new ended.exit
+reads_end prints exits explains old new ended ends =
+    ends_keeping old new ended.exit ends.did.unwritten ends.did.kept
+
+-- How each command ends: one that makes a file, records a log, or only reads.
+ruleset any_end = (makes_end, records_end, reads_end)
+
 pub ends_task : (task : Task) (explains : Bool) (old new : Seen) (ended : Ended)
     → EndsTask task explains old new ended → EndsCommand old new ended.exit
-ends_task (tasks.Record script log) explains old new ended ends =
-    ends_making _ script.now log.now exit_after after_logged (λ fault. refl) old new ends.done
-    ended.exit ends.did ends.tells.exits
-ends_task (tasks.Run script log) explains old new ended ends =
-    ends_making _ script.now log.now exit_after after_logged (λ fault. refl) old new ends.done
-    ended.exit ends.did ends.tells.exits
-ends_task (tasks.Replay files upto) explains old new ended ends =
-    ends_making _ files.log.now files.out.now exit_by (λ count. inl refl) (λ fault. refl) old new
-    ends.done ended.exit ends.did ends.tells.exits
-ends_task (tasks.Copy files sectors) explains old new ended ends =
-    ends_making _ files.log.now files.out.now exit_by (λ count. inl refl) (λ fault. refl) old new
-    ends.done ended.exit ends.did ends.tells.exits
 ends_task (tasks.Show error) explains old new ended ends =
     ends_keeping old new ended.exit ends.unwritten ends.kept
 ends_task (tasks.HasBadWord flaw word) explains old new ended ends =
     ends_keeping old new ended.exit ends.unwritten ends.kept
 ends_task task explains old new ended ends =
-    ends_keeping old new ended.exit ends.did.unwritten ends.did.kept
+    search any_end
 
 nothing_behind : (old new : Option (List ℕ)) (line more : List ℕ) → more ≡ []
     → Appends old new (line ++ more) → Appends old new line
@@ -216,27 +229,39 @@ text_tells DisplayVersion t ended ends (done, fault, tells) off = told_by t done
 text_tells _ t ended ends tells off =
     subst (λ (e : Exit). ReportsBy e ended t.before t.after) (sym ends) tt
 
+tells_by : {T : Type 0} (does : Does T) (explains : Bool) (old new : Seen) (ended : Ended)
+    → Ends does exit_by explains old new ended → explains ≡ false
+    → ReportsBy ended.exit ended old.err new.err
+tells_by does explains old new ended ends off =
+    told_by (err_stream explains old.err new.err) ends.done ended off ends.tells
+
+records_tell : (does : Does Status) (explains : Bool) (old new : Seen) (ended : Ended)
+    → Ends does exit_after explains old new ended → explains ≡ false
+    → ReportsBy ended.exit ended old.err new.err
+records_tell does explains old new ended ends off =
+    told exit_after (λ status. inl (after_logged status)) (λ fault. refl)
+    (err_stream explains old.err new.err) ends.done ended off ends.tells
+
+answers_tell : {A : Type 0} (meaning : Meaning A)
+    → ((answer : A) → IsAnswered (meaning.ends answer)) → (does : Does A) (explains : Bool)
+    (old new : Seen) (ended : Ended) → Ends does (exit_answered meaning) explains old new ended
+    → explains ≡ false → ReportsBy ended.exit ended old.err new.err
+answers_tell meaning answered does explains old new ended ends off =
+    told (exit_answered meaning) answered (λ fault. refl)
+    (err_stream explains old.err new.err) ends.done ended off ends.tells
+
+-- What each command reports, by the kind of its exit.
+ruleset any_told = (tells_by, records_tell, answers_tell, verdict_answered, finding_answered)
+
 pub task_tells : (task : Task) (explains : Bool) (old new : Seen) (ended : Ended)
     → EndsTask task explains old new ended → explains ≡ false
     → ReportsBy ended.exit ended old.err new.err
-task_tells (tasks.Record script log) explains old new ended ends off =
-    told exit_after (λ status. inl (after_logged status)) (λ fault. refl)
-    (err_stream explains old.err new.err) ends.done ended off ends.tells
-task_tells (tasks.Run script log) explains old new ended ends off =
-    told exit_after (λ status. inl (after_logged status)) (λ fault. refl)
-    (err_stream explains old.err new.err) ends.done ended off ends.tells
-task_tells (tasks.Judge script moment image) explains old new ended ends off =
-    told (exit_answered verdict_meaning) verdict_answered (λ fault. refl)
-    (err_stream explains old.err new.err) ends.done ended off ends.tells
-task_tells (tasks.Path script moment image) explains old new ended ends off =
-    told (exit_answered finding_meaning) finding_answered (λ fault. refl)
-    (err_stream explains old.err new.err) ends.done ended off ends.tells
 task_tells (tasks.Show error) explains old new ended ends off =
     text_tells (kind_of error) (err_stream explains old.err new.err) ended ends.ends ends.tells off
 task_tells (tasks.HasBadWord flaw word) explains old new ended ends off =
     subst (λ (e : Exit). ReportsBy e ended old.err new.err) (sym ends.usage) tt
 task_tells task explains old new ended ends off =
-    told_by (err_stream explains old.err new.err) ends.done ended off ends.tells
+    search any_told
 
 pub memory_read : (words : List Text) (error : Error) → kind_of error ≡ OutOfMemory
     → IsRead words (tasks.Show error)

@@ -31,7 +31,7 @@ row-in row (xs ∷ chains) some = elim (cases_lt 0 (times row xs)) [
       let rest = row-in row chains (omega (arith, sum_by-cons (times row) xs chains)) in (suc rest.0, rest.1)
 ]
 
-around : (row : ℕ) (rows : List ℕ) → 0 < times row rows
+pub around : (row : ℕ) (rows : List ℕ) → 0 < times row rows
     → (front : List ℕ) × (back : List ℕ) × (rows ≡ front ++ row ∷ back)
 around row [] some = absurd (omega arith)
 around row (x ∷ xs) some = elim (cases_eq x row) [
@@ -144,7 +144,7 @@ before-there {next} {lasts} {chains} h chain last noted =
         )
 
 -- If the row before the last counts as the last, turning the chain gives the rows as they were.
-back-rows : {next : List ℕ} {lasts : List (Option ℕ)} {chains : List (List ℕ)}
+pub back-rows : {next : List ℕ} {lasts : List (Option ℕ)} {chains : List (List ℕ)}
     → Holds next lasts [] chains
     → (chain last row : ℕ) → last_in lasts chain ≡ Some last → row < length next
     → after next row ≡ last

@@ -5,6 +5,8 @@ pub mod TableLaws
 pub mod CallLaws
 pub mod WalkLaws
 pub mod BackLaws
+pub mod MarkLaws
+pub mod MiddleLaws
 mod ChainExamples
 pub mod LinkChains
 pub mod Examples

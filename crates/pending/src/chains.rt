@@ -8,6 +8,8 @@ pub use table::Chains;
 
 mod iter;
 mod links;
+mod marked;
+mod marks;
 mod rings;
 mod rows;
 mod table;

@@ -2,7 +2,7 @@
 -- them change.
 use Rattle.std.specs.Prelude.{zero, ◌+◌, ◌-◌, ◌<◌, IfSome, Option, Some, None, [], ◌∷◌, ◌++◌}
 use Rattle.std.specs.Prelude.{length, vec_capacity, ◌≡◌, ℕ, suc, slice_index_or, slice_set, ◌≤◌}
-use Rattle.std.specs.Prelude.{◌==◌, min, List, if◌then◌else◌, map}
+use Rattle.std.specs.Prelude.{◌==◌, min, List, if◌then◌else◌, map, Bool, true, false}
 use Rattle.std.specs.List.{sum_by}
 use Rattle.pending.specs.ChainsView.{Shown, chain_in}
 use Rattle.pending.specs.declared.chains.links.Change.{Change}
@@ -90,6 +90,14 @@ IsWalk lasts (Some walk) = (0 < walk.chain) × (walk.chain < length lasts)
 abbrev pub seen_chains : Links → Option Walk → List (List ℕ)
 seen_chains links walk = chains_of links.next.items (seen_lasts links.lasts.items walk)
 
+-- The row has a mark.
+abbrev pub is_marked : List Bool → ℕ → Bool
+is_marked marks row = slice_index_or marks row false
+
+-- Each marked row is in chain 1.
+pub record AreMarks (marks : List Bool) (chains : List (List ℕ)) : Type 0 where
+  pub within : (row : ℕ) → is_marked marks row ≡ true → 0 < times row (chain_in chains 1)
+
 module _ {T : Type 0} where
   -- the value in a row, if there is one
   abbrev pub value_at : List (Option T) → ℕ → Option T
@@ -135,6 +143,12 @@ module _ {T : Type 0} where
     pub table : IsTable links.next.items (seen_lasts links.lasts.items walk) rows
         (seen_chains links walk)
     pub walks : IsWalk links.lasts.items walk
+
+  -- what always holds for the table and its marks between calls
+  pub record IsMarked (links : Links) (rows : List (Option T)) (walk : Option Walk)
+      (marks : List Bool) : Type 0 where
+    pub sound : IsSound links rows walk
+    pub known : AreMarks marks (seen_chains links walk)
 
   -- how many values can be put in without allocating: one into each free row, and others into new
   -- rows
@@ -186,6 +200,12 @@ pub record IsLast (next : List ℕ) (last : ℕ) : Type 0 where
   pub chain : ℕ
   pub holds : Holds next lasts loose chains
   pub there : last_in lasts chain ≡ Some last
+
+-- The row is in the chain `chain`, which the links hold. All rows are in chains.
+pub record IsIn (next : List ℕ) (lasts : List (Option ℕ)) (chain row : ℕ) : Type 0 where
+  pub chains : List (List ℕ)
+  pub holds : Holds next lasts [] chains
+  pub some : 0 < times row (chain_in chains chain)
 
 -- The row is loose, and the chain `chain` exists. The chain's last row is the one in `noted`. For
 -- other chains, a walk may see another last row than the one in `noted`.

@@ -1,10 +1,10 @@
 //! Operations on chains, each of which is a ring of links. A few changes put a row in, take a row
 //! out, or join two chains.
-ghost use Rattle.std.specs.Prelude.{◌≡◌, ◌≢◌, ℕ, ◌+◌, ◌<◌, None, Some, Option, List, ◌∷◌};
+ghost use Rattle.std.specs.Prelude.{◌≡◌, ◌≢◌, ℕ, ◌+◌, ◌<◌, None, Some, Option, List, [], ◌∷◌};
 ghost use Rattle.std.specs.Prelude.{◌++◌, length, slice_set, IfSome};
 ghost use Rattle.pending.specs.ChainsView.{chain_in, fronted, joined, lengthened, preceded};
 ghost use Rattle.pending.specs.ChainsView.{shortened};
-ghost use Rattle.pending.specs.inside.Tables.{Changes, IsKept, IsLast, IsLoose, IsLooseRing, after};
+ghost use Rattle.pending.specs.inside.Tables.{Changes, IsIn, IsKept, IsLast, IsLoose, IsLooseRing, after};
 ghost use Rattle.pending.specs.inside.Tables.{last_in, Holds, IsRing};
 
 use crate::chains::links::{Change, Links};
@@ -31,6 +31,26 @@ pub fn cut(links: &mut Links, last: usize) -> Option<usize>
     let second = links.next(first);
     links.write(Change::Next(last, second));
     Some(last)
+}
+
+/// Takes a row out of a chain, so that the row is loose. Makes at most 2 changes.
+pub fn take_row(links: &mut Links, chain: usize, row: usize)
+    requires has { IsIn links.old.next.items links.old.lasts.items chain row }
+    ensures holds { (chains : List (List ℕ)) (front back : List ℕ) →
+        Holds links.old.next.items links.old.lasts.items [] chains
+        → chain_in chains chain ≡ front ++ row ∷ back →
+        Holds links.new.next.items links.new.lasts.items (row ∷ [])
+        (slice_set chains chain (front ++ back)) }
+    ensures changes { Changes links.old links.new 2 }
+{
+    let Some(last) = links.last(chain) else {
+        return;
+    };
+    let before = links.before(row);
+    let left = cut(links, before);
+    if last == row {
+        links.write(Change::Last(chain, left));
+    }
 }
 
 /// Puts a loose row before the first row of a chain. Makes 2 changes, and doesn't change the last

@@ -8,11 +8,15 @@ ghost use Rattle.pending.specs.ChainsView.{joined, lengthened, new_rows_room, sh
 ghost use Rattle.pending.specs.ChainsView.{with_first};
 
 use crate::chains::links::Links;
+use crate::chains::marks::Marks;
 use crate::chains::rings;
 use crate::chains::rows::{FREE, open_row, put_value, take_value, value_mut};
 use crate::chains::walk::{Walk, first_row, seen_last};
 use std::alloc::{AllocError, Global};
 use std::marker::Model;
+
+/// How many rows can be marked.
+const MARKED_ROWS: usize = 65_536;
 
 /// Chains of values. The chains have the numbers from 1 on.
 #[derive(Debug, Drop)]
@@ -21,6 +25,7 @@ pub struct Chains<T> {
     // The value in each row; None in a free row.
     pub(crate) rows: Vec<Option<T>>,
     pub(crate) walk: Option<Walk>,
+    pub(crate) marks: Marks,
 }
 
 impl<T> Model for Chains<T> {
@@ -31,11 +36,11 @@ impl<T> Model for Chains<T> {
 
     ghost coded = { shown_code T.code };
 
-    ghost use Rattle.pending.specs.inside.Tables.{IsSound, shown_of};
+    ghost use Rattle.pending.specs.inside.Tables.{IsMarked, shown_of};
 
     ghost view = { λ c. shown_of c.links c.rows.items (vec_capacity c.rows) c.walk };
 
-    ghost invariant = { λ c. IsSound c.links c.rows.items c.walk };
+    ghost invariant = { λ c. IsMarked c.links c.rows.items c.walk c.marks.rows.items };
 }
 
 impl<T: Drop> Chains<T> {
@@ -57,6 +62,7 @@ impl<T: Drop> Chains<T> {
             links: Links::new(alloc, chains)?,
             rows: Vec::new(alloc),
             walk: None,
+            marks: Marks::new(alloc, MARKED_ROWS)?,
         })
     }
 
@@ -154,6 +160,7 @@ impl<T: Drop> Chains<T> {
         ensures walked { self.new.walked ≡ None }
         ensures room { KeepsRoom self.old self.new }
     {
+        self.marks.leave(from);
         rings::join(&mut self.links, from, onto);
     }
 
@@ -169,6 +176,7 @@ impl<T: Drop> Chains<T> {
         ensures walked { self.new.walked ≡ None }
         ensures room { KeepsRoom self.old self.new }
     {
+        self.marks.leave(from);
         rings::put_before(&mut self.links, from, onto);
     }
 
@@ -187,6 +195,7 @@ impl<T: Drop> Chains<T> {
         ensures none { result ≡ None → self.new ≡ self.old }
     {
         let row = rings::take_first(&mut self.links, chain)?;
+        self.marks.remove(row);
         let value = take_value(&mut self.rows, row);
         rings::put_first(&mut self.links, FREE, row);
         value

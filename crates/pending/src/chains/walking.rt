@@ -81,6 +81,7 @@ impl<T: Drop> Chains<T> {
             return;
         };
         let row = self.links.next(at);
+        self.marks.remove(row);
         let left = rings::cut(&mut self.links, at);
         rings::put_first(&mut self.links, onto, row);
         self.walk = Some(Walk {

@@ -4,17 +4,18 @@ use Rattle.std.proofs.lemmas.List.{length-map, length-set}
 use Rattle.pending.specs.ChainsView.{chain_in, count_in, lengthened, shortened}
 use Rattle.pending.specs.inside.Tables.{seen_chains, seen_lasts, values_of, walked_in, IsOpen}
 use Rattle.pending.specs.inside.Tables.{IsTable}
-use Rattle.pending.proofs.TableLaws.{seen-of, shown-filled, sound-of, table-rest, table-seen}
+use Rattle.pending.proofs.TableLaws.{seen-of, shown-filled, table-rest, table-seen}
 use Rattle.pending.proofs.TableLaws.{walk-rest}
 use Rattle.pending.proofs.CallLaws.{chain-noted, filled-table, free-few, free-kept, loose-open}
 use Rattle.pending.proofs.CallLaws.{open-within, shorter-free, table-rows}
+use Rattle.pending.proofs.MarkLaws.{longer-counts, marked-of, marks-kept}
 use Rattle.pending.proofs.chains.table.Chains.add_reserved.Given as given
 use Rattle.pending.proofs.chains.table.Chains.add_reserved.Goals as goal
 
 pub put_value-requires : goal.put_value-requires
 put_value-requires g c =
     let rests = rw (← c.self.view_is) at c.requires.rests in
-    let t = table-rest c.self.invariant rests in
+    let t = table-rest c.self.invariant.sound rests in
     open-within (c.open_row-row.ensures.opened
     (seen_chains c.self.inside.links c.self.inside.walk) t)
 
@@ -22,7 +23,7 @@ pub put_last-requires : goal.put_last-requires
 put_last-requires g c =
     let rests = rw (← c.self.view_is) at c.requires.rests in
     let there = rw (← c.self.view_is) at c.requires.chain in
-    let t = table-rest c.self.invariant rests in
+    let t = table-rest c.self.invariant.sound rests in
     let less = chain-noted t c.args.chain there.1 in
     let same = c.open_row-row.ensures.chains in
     loose-open (c.open_row-row.ensures.opened
@@ -53,12 +54,15 @@ table g c =
 
 pub invariant_of-self : goal.invariant_of-self
 invariant_of-self g c =
-    sound-of c.put_last.new.links c.put_value.new.rows.items c.self.inside.walk _ (table g c)
+    marked-of c.put_last.new.links c.put_value.new.rows.items c.self.inside.walk _ (table g c)
     (walk-rest c.put_last.new.links.lasts.items c.self.inside.walk (rests g c))
+    (marks-kept c.self.invariant.known
+    (λ row. longer-counts (seen_chains c.self.inside.links c.self.inside.walk) c.args.chain
+    c.open_row-row.result row))
 
 pub returns-clause-chains : goal.returns-clause-chains
 returns-clause-chains g c =
-    let t = table-rest c.self.invariant (rests g c) in
+    let t = table-rest c.self.invariant.sound (rests g c) in
     let chains = seen_chains c.self.inside.links c.self.inside.walk in
     let cut = shortened chains 0 in
     let there = rw (← c.self.view_is) at c.requires.chain in
@@ -79,7 +83,7 @@ returns-clause-chains g c =
 
 pub returns-clause-rows : goal.returns-clause-rows
 returns-clause-rows g c =
-    let t = table-rest c.self.invariant (rests g c) in
+    let t = table-rest c.self.invariant.sound (rests g c) in
     let chains = seen_chains c.self.inside.links c.self.inside.walk in
     let cut = shortened chains 0 in
     let long =
@@ -99,7 +103,7 @@ returns-clause-rows g c =
 
 pub returns-clause-spare : goal.returns-clause-spare
 returns-clause-spare g c =
-    let t = table-rest c.self.invariant (rests g c) in
+    let t = table-rest c.self.invariant.sound (rests g c) in
     let chains = seen_chains c.self.inside.links c.self.inside.walk in
     let cut = shortened chains 0 in
     let spare = c.open_row-row.ensures.spare chains t in

@@ -6,20 +6,20 @@ use Rattle.pending.proofs.chains.table.Chains.first.Goals as goal
 
 pub next-requires : goal.next-requires
 next-requires g c =
-    last-is-row (c.self.invariant).table.holds c.args.chain c.in_ok-last.last
+    last-is-row (c.self.invariant.sound).table.holds c.args.chain c.in_ok-last.last
     (sym c.seen_last.ensures ∙ c.in_ok-last.was)
 
 pub index-requires : goal.index-requires
 index-requires g c =
     grind (
       arith,
-      first-is-row ((c.self.invariant).table).holds c.args.chain c.in_ok-last.last
+      first-is-row ((c.self.invariant.sound).table).holds c.args.chain c.in_ok-last.last
           (sym c.seen_last.ensures ∙ c.in_ok-last.was),
     )
 
 pub returns : goal.returns
 returns g c =
-    let t = (c.self.invariant).table in
+    let t = (c.self.invariant.sound).table in
     let rest =
     first-row t.holds c.args.chain c.in_ok-last.last c.next.result
     (sym c.seen_last.ensures ∙ c.in_ok-last.was) c.next.ensures in

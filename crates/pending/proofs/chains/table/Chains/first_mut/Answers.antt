@@ -6,7 +6,7 @@ use Rattle.pending.proofs.chains.table.Chains.first_mut.Goals as goal
 
 pub index_mut-requires : goal.index_mut-requires
 index_mut-requires g c =
-    let t = (c.self.invariant).table in
+    let t = (c.self.invariant.sound).table in
     let first = c.first_row-row.ensures in
     let rest = first-row t.holds c.args.chain first.0 c.first_row-row.result first.1 first.2 in
     let small = row-within t c.args.chain c.first_row-row.result rest.0 rest.1 in
@@ -14,7 +14,7 @@ index_mut-requires g c =
 
 pub value_mut-requires : goal.value_mut-requires
 value_mut-requires g c =
-    let t = (c.self.invariant).table in
+    let t = (c.self.invariant.sound).table in
     let first = c.first_row-row.ensures in
     let rest = first-row t.holds c.args.chain first.0 c.first_row-row.result first.1 first.2 in
     let value = first-value t c.args.chain c.first_row-row.result rest.0
@@ -28,7 +28,7 @@ value_mut-requires g c =
 
 pub returns : goal.returns
 returns g c =
-    let t = (c.self.invariant).table in
+    let t = (c.self.invariant.sound).table in
     let first = c.first_row-row.ensures in
     let rest = first-row t.holds c.args.chain first.0 c.first_row-row.result first.1 first.2 in
     let value = first-value t c.args.chain c.first_row-row.result rest.0
@@ -42,7 +42,7 @@ returns g c =
         refl,
         λ w. rw (← c.self.view_is)
             (seen-replaced c.self.inside.links rows
-            (vec_capacity c.self.inside.rows) c.self.inside.walk c.self.invariant c.args.chain
+            (vec_capacity c.self.inside.rows) c.self.inside.walk c.self.invariant.sound c.args.chain
             c.first_row-row.result rest.0 w
             c.requires.chain.0 rest.1),
       ),

@@ -9,7 +9,7 @@ pub returns : goal.returns
 returns g c =
     let rows = c.self.inside.rows.items in
     let chains = seen_chains c.self.inside.links c.self.inside.walk in
-    let t = (c.self.invariant).table in
+    let t = (c.self.invariant.sound).table in
     rw (← c.self.view_is)
     (empty-is t c.args.chain c.seen_last.result c.is_none.result c.requires.0 c.seen_last.ensures
     c.is_none.ensures

@@ -2,8 +2,9 @@ use Rattle.std.proofs.Common.{◌≡◌, None, map, ap, ◌∙◌, [], ◌++◌,
 use Rattle.pending.specs.ChainsView.{chain_in, fronted}
 use Rattle.pending.specs.inside.Tables.{seen_chains, seen_lasts, values_of, walked_in, IsTable}
 use Rattle.pending.proofs.RingLaws.{map-fronted}
-use Rattle.pending.proofs.TableLaws.{in-neither, keeps-room, seen-of, sound-of, table-moved}
+use Rattle.pending.proofs.TableLaws.{in-neither, keeps-room, seen-of, table-moved}
 use Rattle.pending.proofs.TableLaws.{walk-rest}
+use Rattle.pending.proofs.MarkLaws.{marked-of, marks-left, fronted-counts}
 use Rattle.pending.proofs.chains.table.Chains.put_before.Given as given
 use Rattle.pending.proofs.chains.table.Chains.put_before.Goals as goal
 
@@ -16,7 +17,7 @@ table : (g : given.Over) (c : goal.After-put_before g)
     (fronted (seen_chains c.self.inside.links c.self.inside.walk) c.args.from c.args.onto)
 table g c =
     let chains = seen_chains c.self.inside.links c.self.inside.walk in
-    table-moved c.self.invariant (rests g c) c.put_before.new.links 3 c.put_before.ensures.changes
+    table-moved c.self.invariant.sound (rests g c) c.put_before.new.links 3 c.put_before.ensures.changes
     (fronted chains c.args.from c.args.onto)
     (λ h. c.put_before.ensures.holds [] chains h)
     (in-neither chains c.args.from c.args.onto []
@@ -25,8 +26,11 @@ table g c =
 
 pub invariant_of-self : goal.invariant_of-self
 invariant_of-self g c =
-    sound-of c.put_before.new.links c.self.inside.rows.items c.self.inside.walk _ (table g c)
+    marked-of c.put_before.new.links c.self.inside.rows.items c.self.inside.walk _ (table g c)
     (walk-rest c.put_before.new.links.lasts.items c.self.inside.walk (rests g c))
+    (marks-left c.args.from c.self.invariant.known c.leave.ensures
+    (λ apart row. fronted-counts (seen_chains c.self.inside.links c.self.inside.walk) c.args.from
+    c.args.onto row apart))
 
 pub returns-clause-chains : goal.returns-clause-chains
 returns-clause-chains g c =

@@ -1,18 +1,19 @@
 use Rattle.std.proofs.Common.{refl, arith, vec_capacity}
 use Rattle.pending.proofs.CallLaws.{room-of, sound-same}
+use Rattle.pending.proofs.MarkLaws.{marked-same}
 use Rattle.pending.proofs.chains.table.Chains.reserve_rows.Goals as goal
 
 pub invariant_of-self : goal.invariant_of-self
 invariant_of-self g c =
-    sound-same c.self.inside.links c.reserve_rows.new.self c.self.inside.rows.items
-    c.self.inside.rows.items c.self.inside.walk
+    marked-same c.self.inside.links c.reserve_rows.new.self c.self.inside.rows.items
+    c.self.inside.rows.items c.self.inside.walk c.self.inside.marks.rows.items
     c.reserve_rows.ensures.next
     (rw c.reserve_rows.ensures.lasts) refl c.self.invariant
 
 pub invariant_of-self-2 : goal.invariant_of-self-2
 invariant_of-self-2 g c =
-    sound-same c.self.inside.links c.reserve_rows.new.self c.self.inside.rows.items
-    c.reserve.new.self.items c.self.inside.walk
+    marked-same c.self.inside.links c.reserve_rows.new.self c.self.inside.rows.items
+    c.reserve.new.self.items c.self.inside.walk c.self.inside.marks.rows.items
     c.reserve_rows.ensures.next
     (rw c.reserve_rows.ensures.lasts) c.reserve.ensures.items c.self.invariant
 
@@ -33,6 +34,6 @@ returns-clause-room g c =
     let sound =
     sound-same c.self.inside.links c.reserve_rows.new.self c.self.inside.rows.items
     c.reserve.new.self.items c.self.inside.walk c.reserve_rows.ensures.next
-    (rw c.reserve_rows.ensures.lasts) c.reserve.ensures.items c.self.invariant in
+    (rw c.reserve_rows.ensures.lasts) c.reserve.ensures.items c.self.invariant.sound in
     let room = room-of (vec_capacity c.reserve.new.self) sound in
     grind (arith, room, c.in_ok-reserve_rows.ensures.ok, c.reserve.ensures.ok)

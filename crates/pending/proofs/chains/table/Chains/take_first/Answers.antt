@@ -4,12 +4,13 @@ use Rattle.std.proofs.lemmas.List.{length-set}
 use Rattle.pending.specs.ChainsView.{chain_in, preceded, shortened}
 use Rattle.pending.specs.inside.Tables.{seen_chains, seen_lasts, values_of, walked_in, IsOpen}
 use Rattle.pending.specs.inside.Tables.{IsTable}
-use Rattle.pending.proofs.TableLaws.{nothing-cut, seen-of, shown-closed, shown-taken, sound-of}
+use Rattle.pending.proofs.TableLaws.{nothing-cut, seen-of, shown-closed, shown-taken}
 use Rattle.pending.proofs.TableLaws.{table-rest, table-seen, walk-rest}
 use Rattle.pending.proofs.HoldsLaws.{none-at}
 use Rattle.pending.proofs.RingLaws.{chain-map}
 use Rattle.pending.proofs.CallLaws.{first-row, first-value, free-kept, longer-free, loose-open}
 use Rattle.pending.proofs.CallLaws.{on-some, row-within, taken-open, taken-table}
+use Rattle.pending.proofs.MarkLaws.{marked-of, marks-removed, taken-counts}
 use Rattle.pending.proofs.chains.table.Chains.take_first.Given as given
 use Rattle.pending.proofs.chains.table.Chains.take_first.Goals as goal
 
@@ -19,7 +20,7 @@ returns-in_err-row-clause-chains g c = grind (arith, table-rest, nothing-cut, ch
 pub take_value-value-requires : goal.take_value-value-requires
 take_value-value-requires g c =
     let rests = rw (← c.self.view_is) at c.requires.rests in
-    let t = table-rest c.self.invariant rests in
+    let t = table-rest c.self.invariant.sound rests in
     let first = c.in_ok-row.ensures.first in
     let rest = first-row t.holds c.args.chain first.0 c.in_ok-row.row first.1 first.2 in
     row-within t c.args.chain c.in_ok-row.row rest.0 rest.1
@@ -29,7 +30,7 @@ put_first-requires g c =
     let rests = rw (← c.self.view_is) at c.requires.rests in
     let first = c.in_ok-row.ensures.first in
     let o =
-    taken-open c.self.invariant rests c.args.chain first.0 c.in_ok-row.row
+    taken-open c.self.invariant.sound rests c.args.chain first.0 c.in_ok-row.row
     c.requires.chain.0 first.1 first.2 c.take_first.new.links
     c.take_first.ensures.changes
     (λ h. c.in_ok-row.ensures.holds []
@@ -44,7 +45,7 @@ first-rest : (g : given.Over) (c : goal.After-put_first g)
     ≡ c.in_ok-row.row ∷ rest)
 first-rest g c =
     let first = c.in_ok-row.ensures.first in
-    first-row (table-rest c.self.invariant
+    first-row (table-rest c.self.invariant.sound
     (rests g c)).holds c.args.chain first.0 c.in_ok-row.row first.1 first.2
 
 taken : (g : given.Over) (c : goal.After-put_first g)
@@ -54,7 +55,7 @@ taken : (g : given.Over) (c : goal.After-put_first g)
 taken g c =
     let first = c.in_ok-row.ensures.first in
     rw c.take_value-value.ensures.left
-    (taken-open c.self.invariant
+    (taken-open c.self.invariant.sound
     (rests g c) c.args.chain first.0 c.in_ok-row.row c.requires.chain.0 first.1 first.2
     c.take_first.new.links
     c.take_first.ensures.changes
@@ -77,13 +78,16 @@ table g c =
 
 pub invariant_of-self-2 : goal.invariant_of-self-2
 invariant_of-self-2 g c =
-    sound-of c.put_first.new.links c.take_value-value.new.rows.items c.self.inside.walk _
+    marked-of c.put_first.new.links c.take_value-value.new.rows.items c.self.inside.walk _
     (table g c)
     (walk-rest c.put_first.new.links.lasts.items c.self.inside.walk (rests g c))
+    (marks-removed c.in_ok-row.row c.remove.ensures c.self.invariant.known
+    (λ r apart. taken-counts (seen_chains c.self.inside.links c.self.inside.walk) c.args.chain
+    c.in_ok-row.row r (first-rest g c).0 (first-rest g c).1 apart))
 
 pub returns-clause-taken : goal.returns-clause-taken
 returns-clause-taken g c =
-    let t = table-rest c.self.invariant (rests g c) in
+    let t = table-rest c.self.invariant.sound (rests g c) in
     let rest = first-rest g c in
     let value = first-value t c.args.chain c.in_ok-row.row rest.0 c.requires.chain.0 rest.1 in
     rw (← c.self.view_is) (c.take_value-value.ensures.taken ∙ value.1 ∙ sym value.2)
@@ -99,12 +103,12 @@ returns-clause-chains g c =
     (table g c))
     ∙ shown-closed (taken g c)
     ∙ ap (λ rs. map (values_of rs) (shortened chains c.args.chain)) c.take_value-value.ensures.left
-    ∙ shown-taken (table-rest c.self.invariant
+    ∙ shown-taken (table-rest c.self.invariant.sound
     (rests g c)) c.args.chain row rest.0 c.requires.chain.0 rest.1)
 
 pub returns-clause-spare : goal.returns-clause-spare
 returns-clause-spare g c =
-    let t = table-rest c.self.invariant (rests g c) in
+    let t = table-rest c.self.invariant.sound (rests g c) in
     let chains = seen_chains c.self.inside.links c.self.inside.walk in
     let cut = shortened chains c.args.chain in
     let o = taken g c in
@@ -129,7 +133,7 @@ returns-clause-spare g c =
 
 pub returns-clause-none : goal.returns-clause-none
 returns-clause-none g c = λ none.
-    let t = table-rest c.self.invariant (rests g c) in
+    let t = table-rest c.self.invariant.sound (rests g c) in
     let rest = first-rest g c in
     let value = first-value t c.args.chain c.in_ok-row.row rest.0 c.requires.chain.0 rest.1 in
     let some = c.take_value-value.ensures.taken ∙ value.1 in

@@ -1,0 +1,70 @@
+//! Marks of the rows that are known to be in chain 1.
+//!
+//! A mark costs nothing to check, so a row can be taken out of the middle of chain 1 without a walk
+//! to it. A row of the chain may lack its mark.
+ghost use Rattle.std.specs.Prelude.{◌≡◌, ℕ, ◌≢◌, IfOk, true, false, length, replicate, slice_set};
+ghost use Rattle.pending.specs.inside.Tables.{is_marked};
+
+use std::alloc::{AllocError, Global};
+use std::fmt::{self, Debug, Formatter};
+
+/// The chain whose rows are marked.
+pub const MARKED: usize = 1;
+
+/// A mark for each of the first rows. Later rows are never marked.
+#[derive(Drop)]
+pub struct Marks {
+    pub rows: Vec<bool>,
+}
+
+impl Debug for Marks {
+    fn fmt<W: fmt::Write>(&self, f: &mut Formatter<W>) -> fmt::Result {
+        f.write_str("Marks")
+    }
+}
+
+impl Marks {
+    /// Returns no marks, with room for those of the first `rows` rows.
+    pub fn new(alloc: Global, rows: usize) -> Result<Marks, AllocError>
+        ensures { IfOk result (λ marks. (row : ℕ) → is_marked marks.rows.items row ≡ false) }
+    {
+        Ok(Marks {
+            rows: vec![in alloc; false; rows]?,
+        })
+    }
+
+    /// Returns whether a row is marked.
+    pub fn has(&self, row: usize) -> bool
+        ensures { result ≡ is_marked self.now.rows.items row }
+    {
+        row < self.rows.len() && self.rows[row]
+    }
+
+    /// Marks a row, if it can be marked.
+    pub fn set(&mut self, row: usize)
+        ensures { self.new.rows.items ≡ slice_set self.old.rows.items row true }
+    {
+        if row < self.rows.len() {
+            self.rows[row] = true;
+        }
+    }
+
+    /// Removes the mark of a row.
+    pub fn remove(&mut self, row: usize)
+        ensures { self.new.rows.items ≡ slice_set self.old.rows.items row false }
+    {
+        if row < self.rows.len() {
+            self.rows[row] = false;
+        }
+    }
+
+    /// Removes all marks if the rows of `chain` are marked.
+    pub fn leave(&mut self, chain: usize)
+        ensures { (row : ℕ) → is_marked self.new.rows.items row ≡ true
+            → (chain ≢ 1) × (is_marked self.old.rows.items row ≡ true) }
+    {
+        if chain == MARKED {
+            self.rows.as_mut_slice().fill(false);
+        }
+    }
+}

@@ -14,6 +14,7 @@ pub mod Prefix
 pub mod OneStep
 pub mod EndRelease
 pub mod WaitingSpan
+pub mod OwnerLaws
 pub mod LaneLaws
 pub mod RequestLaws
 pub mod Walk

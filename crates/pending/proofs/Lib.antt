@@ -16,6 +16,7 @@ pub mod EndRelease
 pub mod WaitingSpan
 pub mod OwnerLaws
 pub mod LaneLaws
+pub mod SoleLaws
 pub mod RequestLaws
 pub mod Walk
 pub mod Rooms

@@ -15,17 +15,17 @@ use crate::row::PendingEntry;
 const NEAR: usize = 16;
 
 impl<T: Drop> Chains<T> {
-    /// Marks the first row of chain 1, and returns the row; 0 if the chain has no rows.
-    pub fn mark_first(&mut self) -> usize
+    /// Marks the first row of chain 1, if the chain has rows. `key` is the key of its value.
+    pub fn mark_first(&mut self, key: u64)
         requires { 1 < length self.old.chains }
         ensures { self.new ≡ self.old }
     {
         let Some(last) = seen_last(&self.links, self.walk, MARKED) else {
-            return 0;
+            return;
         };
         let row = self.links.next(last);
         self.marks.set(row);
-        row
+        self.marks.note(key, row);
     }
 
     /// Returns the value in a row, if the row is marked.
@@ -57,23 +57,24 @@ impl Chains<PendingEntry> {
         if !self.marks.has(row) || !ended_at(&self.rows[row], end) {
             return false;
         }
+        self.marks.skip(end, row, self.links.next(row));
         self.marks.remove(row);
         rings::take_row(&mut self.links, MARKED, row);
         rings::put_last(&mut self.links, onto, row);
         true
     }
 
-    /// Looks for the row of the request that ended at event `end`, in `row` and in the rows after
-    /// it. Returns the last row that it looked at.
-    pub fn row_near(&self, row: usize, end: u64) -> usize {
-        let mut near = row;
+    /// Looks for the row of the request that ended at event `end`. Returns the last row that it
+    /// looked at.
+    pub fn row_near(&self, end: u64) -> usize {
+        let mut row = self.marks.hint(end);
         for step in 0..NEAR {
-            if self.rows.len() <= near || ended_at(&self.rows[near], end) {
-                return near;
+            if self.rows.len() <= row || ended_at(&self.rows[row], end) {
+                return row;
             }
-            near = self.links.next(near);
+            row = self.links.next(row);
         }
-        near
+        row
     }
 }
 

@@ -11,10 +11,17 @@ use std::fmt::{self, Debug, Formatter};
 /// The chain whose rows are marked.
 pub const MARKED: usize = 1;
 
-/// A mark for each of the first rows. Later rows are never marked.
+/// How many hints there are, and for how many keys one is.
+const HINTS: usize = 8_192;
+
+const KEYS: u64 = 16;
+
+/// A mark for each of the first rows; later rows are never marked. The values in the rows have keys,
+/// and for a key there is a hint at which row to begin to look for it.
 #[derive(Drop)]
 pub struct Marks {
     pub rows: Vec<bool>,
+    hints: Vec<u32>,
 }
 
 impl Debug for Marks {
@@ -30,6 +37,7 @@ impl Marks {
     {
         Ok(Marks {
             rows: vec![in alloc; false; rows]?,
+            hints: vec![in alloc; 0; HINTS]?,
         })
     }
 
@@ -67,4 +75,38 @@ impl Marks {
             self.rows.as_mut_slice().fill(false);
         }
     }
+
+    /// Notes at which row to begin to look for a key.
+    pub fn note(&mut self, key: u64, row: usize)
+        ensures { self.new.rows ≡ self.old.rows }
+    {
+        let hint = hint_of(key);
+        if hint < self.hints.len() {
+            self.hints[hint] = row.min(u32::MAX as usize) as u32;
+        }
+    }
+
+    /// If one would begin to look for a key at `row`, notes to begin at `next`.
+    pub fn skip(&mut self, key: u64, row: usize, next: usize)
+        ensures { self.new.rows ≡ self.old.rows }
+    {
+        if self.hint(key) == row {
+            self.note(key, next);
+        }
+    }
+
+    /// Returns at which row to begin to look for a key.
+    pub fn hint(&self, key: u64) -> usize {
+        let hint = hint_of(key);
+        if hint < self.hints.len() {
+            self.hints[hint] as usize
+        } else {
+            0
+        }
+    }
+}
+
+// Returns the index of the hint for a key.
+fn hint_of(key: u64) -> usize {
+    (key / KEYS % HINTS as u64) as usize
 }

@@ -1,5 +1,5 @@
 use Rattle.std.proofs.Common.{◌≡◌, ◌++◌, ◌∷◌, ℕ, List, None, Some, ap, arith, length, refl}
-use Rattle.std.proofs.Common.{[], set, sym, true, ◌∙◌, vec_capacity}
+use Rattle.std.proofs.Common.{[], false, set, sym, true, ◌∙◌, vec_capacity}
 use Rattle.std.proofs.lemmas.List.{get_or_read_under}
 use Rattle.pending.specs.ChainsView.{chain_in}
 use Rattle.pending.specs.declared.row.PendingEntry.{PendingEntry}
@@ -15,6 +15,13 @@ pub index-requires : goal.index-requires
 index-requires c =
     let marked : is_marked c.self.inside.marks.rows.items c.args.row ≡ true = grind arith in
     let less = marked-within c.self.invariant c.args.row marked in
+    omega arith
+
+pub next-requires : goal.next-requires
+next-requires c =
+    let marked : is_marked c.self.inside.marks.rows.items c.args.row ≡ true = grind arith in
+    let less = marked-within c.self.invariant c.args.row marked in
+    let sized = c.self.invariant.sound.table.sized in
     omega arith
 
 rests : (c : goal.After-put_last) → walked_in c.self.inside.walk ≡ None
@@ -49,7 +56,8 @@ invariant_of-self c =
     let p = parts c in
     marked-of c.put_last.new.links c.self.inside.rows.items c.self.inside.walk _ (table c)
     (walk-rest c.put_last.new.links.lasts.items c.self.inside.walk (rests c))
-    (marks-removed c.args.row c.remove.ensures c.self.invariant.known
+    (marks-removed c.args.row
+    (c.remove.ensures ∙ ap (λ ms. set ms.items c.args.row false) c.skip.ensures) c.self.invariant.known
     (λ r apart. passed-counts (seen_chains c.self.inside.links c.self.inside.walk) p.0 p.1
     c.args.row c.args.onto r p.2 c.requires.onto.0 apart))
 

@@ -1,4 +1,4 @@
-use Rattle.std.proofs.Common.{sym, ◌∙◌}
+use Rattle.std.proofs.Common.{ap, sym, ◌∙◌}
 use Rattle.pending.proofs.CallLaws.{first-row}
 use Rattle.pending.proofs.HoldsLaws.{last-is-row}
 use Rattle.pending.proofs.MarkLaws.{marks-set}
@@ -17,5 +17,6 @@ invariant_of-self g c =
     record {
       sound = c.self.invariant.sound;
       known =
-          marks-set c.next-row.result first.0 c.set.ensures c.self.invariant.known first.1;
+          marks-set c.next-row.result first.0
+          (ap (λ ms. ms.items) c.note.ensures ∙ c.set.ensures) c.self.invariant.known first.1;
     }

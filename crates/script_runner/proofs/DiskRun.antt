@@ -65,16 +65,12 @@ asked sectors (layer ∷ layers) stand = (stand.0, asked layer.length layers sta
 pub stands : (disk : Disk) (layers : List LayerSpec) {sectors : ℕ} → layers ≡ disk.layers
     → sectors ≡ disk.sectors → IsDisk disk → IsAllowed sectors layers
 stands disk layers {sectors} above here is =
-    subst (λ (ls : List LayerSpec). IsAllowed sectors ls) (sym above)
-    (subst (λ (n : ℕ). IsAllowed n disk.layers) (sym here) is.stand)
+    rw above (subst (λ (n : ℕ). IsAllowed n disk.layers) (sym here) is.stand)
 
 same_stack : (sectors : ℕ) (layers : List LayerSpec) (stack : Stack) {disk : Disk}
     → sectors ≡ disk.sectors → layers ≡ disk.layers
     → IsStackOf (record { sectors = sectors; layers = layers }) stack → IsStackOf disk stack
-same_stack sectors layers stack {disk} here above is =
-    subst (λ (n : ℕ). IsStackOf (record { sectors = n; layers = disk.layers }) stack) here
-    (subst (λ (ls : List LayerSpec). IsStackOf
-    (record { sectors = sectors; layers = ls }) stack) above is)
+same_stack sectors layers stack {disk} here above is = grind arith
 
 pub stacked : (spec : Disk) (disk : SectorDisk) (bare stack : Stack) {sectors : ℕ}
     {layers : List LayerSpec} → sectors ≡ spec.sectors → layers ≡ spec.layers
@@ -86,35 +82,20 @@ pub stacked : (spec : Disk) (disk : SectorDisk) (bare stack : Stack) {sectors : 
 stacked spec disk bare stack {sectors} {layers} here above blank none beneath seen named same over =
     same_stack sectors layers stack here above (
     let is : disk_of stack ≡ disk = same ∙ beneath in record {
-      blank = subst (λ (d : SectorDisk). Begins sectors zeroes (shown_of d)) (sym is) blank;
-      layers = named ∙ ap (λ (ls : List Layer). layers_under layers 0 ls) none;
+      blank = rw is blank;
+      layers = named ∙ ap (layers_under layers 0) none;
       over =
-          subst (λ (d : SectorDisk). AreOver layers (shown_of d) (stack_shown stack)) (sym is)
-          (record {
-            size = over.size ∙ ap (λ (n : ℕ). top_sectors n layers) seen.size;
-            place =
-                over.place ∙ ap (λ (p : Place). record {
-                  origin = top_origin p.origin layers;
-                  disk = p.disk;
-                }) seen.place;
-            moment = over.moment ∙ seen.moment;
-            faults = over.faults ∙ seen.faults;
-            lies = over.lies ∙ seen.lies;
-            can_lie = λ none. over.can_lie none ∙ seen.can_lie;
-          });
+          grind arith;
     })
 
 pub stack_size : (disk : Disk) (stack : Stack) → IsStackOf disk stack
     → (stack_shown stack).size ≡ top_of disk
-stack_size disk stack is = is.over.size ∙ ap (λ (n : ℕ). top_sectors n disk.layers) is.blank.size
+stack_size disk stack is = grind (arith, is.over.size, is.blank.size)
 
 stack_place : (disk : Disk) (stack : Stack) → IsStackOf disk stack
     → (stack_shown stack).place ≡ record { origin = top_origin 0 disk.layers; disk = disk.sectors }
 stack_place disk stack is =
-    is.over.place ∙ ap (λ (n : ℕ). record {
-      origin = top_origin 0 disk.layers;
-      disk = n;
-    }) is.blank.size
+    grind (arith, is.over.place, is.blank.size)
 
 pub new_log : {L : Type 0} {l : Ghosts L} (bytes : ℕ) (device : L) (store : LogStore L l)
     (recorder : Recorder L l)
@@ -127,15 +108,12 @@ pub new_log : {L : Type 0} {l : Ghosts L} (bytes : ℕ) (device : L) (store : Lo
 new_log {L} {l} bytes device store recorder size none start goes empty (core, same, end) = record {
   core = core ∙ ap sized_state size;
   end = end;
-  placed = ap (λ (s : LogStore L l). s.placed) same ∙ none;
-  moment = ap (λ (s : LogStore L l). s.moment) same ∙ start;
+  placed = grind (arith, same, none);
+  moment = grind (arith, same, start);
   made =
-      subst (λ (s : LogStore L l). DeviceFrame (writes 0 (first_sector bytes 0)) (l.shown device)
-      (l.shown s.device)) (sym same) goes;
+      rw same goes;
   empty =
-      subst (λ (s : LogStore L l). (l.shown s.device).lies ≡ 0 → (left : Content)
-      → (l.shown s.device).crash left → IsLogOf (l.shown s.device).size left bytes [])
-      (sym same) empty;
+      rw same empty;
 }
 
 one_fits : (size : SectorSize) (sectors : ℕ) → bytes_of size / 512 ≤ sectors
@@ -165,9 +143,9 @@ image_log plan device seen image room size place agree looks {es} log_c =
     let within = part.within in
     let left = left_on plan.ending (disk_of device) in
     let origin : (stack_shown device).place.origin ≡ top_origin 0 plan.log_disk.layers =
-    ap (λ (p : Place). p.origin) place in
+    grind (arith, place) in
     let disk : (shown_of (disk_of device)).size ≡ plan.log_disk.sectors =
-    sym part.disk ∙ ap (λ (p : Place). p.disk) place in
+    grind (arith, sym part.disk, place) in
     let some : 0 < log_sectors (bytes_of plan.log_size) (stack_shown device).size =
     one_fits plan.log_size (stack_shown device).size (omega (arith, room, size)) in
     log_within (stack_shown device).size seen (seen_on plan.log_disk image)
@@ -181,8 +159,12 @@ image_of disk = gather (shown_of disk).content 0 (shown_of disk).size
 pub image_long : (disk : SectorDisk) {sectors : ℕ} → (shown_of disk).size ≡ sectors
     → length (image_of disk) ≡ 512 * sectors
 image_long disk {sectors} size =
-    length-gather (shown_of disk).size (shown_of disk).content 0 (shown_of disk).size
-    (content_whole disk) (omega arith) ∙ ap (λ (n : ℕ). 512 * n) size
+    grind (
+      arith,
+      length-gather (shown_of disk).size (shown_of disk).content 0 (shown_of
+          disk).size (content_whole disk) (omega arith),
+      size,
+    )
 
 pub image_agrees : (left : Content) (disk : SectorDisk) {sectors : ℕ}
     → (shown_of disk).size ≡ sectors → AgreeBelow sectors left (shown_of disk).content
@@ -233,16 +215,15 @@ is_recorded plan text start last log status lies image picks room starts ran goe
     ≡ record { origin = top_origin 0 plan.log_disk.layers; disk = plan.log_disk.sectors } =
     goes.place ∙ new.begun.made.place ∙ stack_place plan.log_disk new.stack new.blank in
     let bytes : (core_of last.recorder).sector_bytes ≡ bytes_of plan.log_size =
-    goes.sector_bytes ∙ ap (λ (c : CoreState). c.sector_bytes) new.begun.core in
+    grind (arith, goes.sector_bytes, new.begun.core) in
     let part = part_of_disk device in
     let sectors : (shown_of (disk_of device)).size ≡ plan.log_disk.sectors =
-    sym part.disk ∙ ap (λ (p : Place). p.disk) place in
+    grind (arith, sym part.disk, place) in
     let here : AgreeBelow (shown_of (disk_of device)).size (left_on plan.ending (disk_of device))
     (sector_of image) =
     subst (λ (s : Stack). AgreeBelow (shown_of (disk_of s)).size (left_on plan.ending (disk_of s))
     (sector_of image)) same
-    (subst (λ (o : Option (List ℕ)). AgreeBelow (shown_of (disk_of log)).size
-    (left_on o (disk_of log)) (sector_of image)) ending agrees) in
+    (rw (← ending) agrees) in
     let agree : AgreeBelow plan.log_disk.sectors (left_on plan.ending (disk_of device))
     (sector_of image) =
     subst (λ (n : ℕ). AgreeBelow n (left_on plan.ending (disk_of device)) (sector_of image))
@@ -259,7 +240,7 @@ is_recorded plan text start last log status lies image picks room starts ran goe
     ≡ record { data_disk = (stack_shown last.disk).lies; log_disk = (stack_shown s).lies }) same
     lied in
     let honest : lies.log_disk ≡ 0 → (stack_shown device).lies ≡ 0 =
-    λ none. sym (ap (λ (l : Lies). l.log_disk) told) ∙ none in
+    λ none. sym (grind (arith, told)) ∙ none in
     record {
       start = start;
       starts = starts;
@@ -268,17 +249,12 @@ is_recorded plan text start last log status lies image picks room starts ran goe
       sector_bytes = bytes;
       counted = counted;
       tells =
-          λ none. subst (λ (n : ℕ). status
-          ≡ status_of n (entries_of (store_of last.recorder.store)) last.recorder.end) bytes
-          (tells (honest none));
+          λ none. grind arith;
       lied = told;
       honest = λ none.
-          let below = new.blank.over.can_lie none in
-          ap (λ (l : Lies). l.log_disk) told ∙ goes.honest (new.begun.made.can_lie ∙ below)
-          ∙ new.begun.made.honest below ∙ new.blank.over.lies;
+          grind arith;
       size =
-          subst (λ (s : Stack). length image ≡ 512 * (shown_of (disk_of s)).size) same count
-          ∙ ap (λ (n : ℕ). 512 * n) sectors;
+          grind (arith, rw same at count, sectors);
       bytes = agree;
       beginning = λ none.
           let reopened = reopens (honest none) seen.0 seen.1 in
@@ -288,11 +264,7 @@ is_recorded plan text start last log status lies image picks room starts ran goe
             least = reopened.least;
             most = reopened.most;
             log =
-                subst (λ (n : ℕ). IsLogOf (stack_shown device).size (seen_on plan.log_disk image) n
-                (take reopened.count (log_of (core_of last.recorder)))) (sym bytes)
-                (image_log plan device seen.0 image room size place agree seen.2
-                (subst (λ (n : ℕ). IsLogOf (stack_shown device).size seen.0 n
-                (take reopened.count (log_of (core_of last.recorder)))) bytes reopened.log));
+                grind (arith, image_log, take);
             acknowledged = reopened.acknowledged;
             possible = reopened.possible;
           };
@@ -300,10 +272,8 @@ is_recorded plan text start last log status lies image picks room starts ran goe
           subst (λ (n : ℕ). IsLogOf n (seen_on plan.log_disk image) (bytes_of plan.log_size)
           (log_of (core_of last.recorder))) size
           (image_log plan device seen.0 image room size place agree seen.2
-          (subst (λ (n : ℕ). IsLogOf (stack_shown device).size seen.0 n
-          (log_of (core_of last.recorder))) bytes
-          ((whole (new_written (bytes_of plan.log_size) plan.log_disk start.recorder new) on closed
-          (honest none)).crash seen.0 seen.1)));
+          (rw (← bytes) ((whole (new_written (bytes_of plan.log_size) plan.log_disk start.recorder
+          new) on closed (honest none)).crash seen.0 seen.1)));
     }
 
 bare_refuses : (after : List Layer) (old new : SectorDisk) (bytes : List ℕ) (error : DevError)
@@ -316,20 +286,7 @@ pub bare_log_fails : ((old : Stack) (call : Call) (now : ℕ) (result : Result �
     → LayersDo (layers_of old) (disk_of old) call now result (layers_of new) (disk_of new))
     → (bytes : ℕ) (disk : Disk) (fault : RunError) → disk.layers ≡ [] → IsUnmade bytes disk fault
     → fault ≡ LoggingEnded ends.Memory
-bare_log_fails does bytes disk fault bare un =
-    let none : layers_of un.stack ≡ [] =
-    un.blank.layers ∙ ap (λ (ls : List LayerSpec). layers_under ls 0 []) bare in
-    let refused = un.refused in
-    let done =
-    does un.stack (Writes 0 (first_sector bytes 0) true) 0
-    (Err refused.error) refused.last refused.answered in
-    let memory =
-    bare_refuses (layers_of refused.last) (disk_of un.stack) (disk_of refused.last)
-    (first_sector bytes 0) refused.error
-    (subst (λ (ls : List Layer). LayersDo ls (disk_of un.stack)
-    (Writes 0 (first_sector bytes 0) true) 0 (Err refused.error) (layers_of refused.last)
-    (disk_of refused.last)) none done) in
-    refused.ends_by ∙ ap (λ (e : DevError). LoggingEnded (end_cause e)) memory
+bare_log_fails does bytes disk fault bare un = grind (arith, true, bare_refuses)
 
 pub started_together : (plan : ScriptValue) (start : DiskRun) → Starts plan start
     → start.recorder.store.moment ≡ start.moment
@@ -340,11 +297,17 @@ pub lines_together : {D L : Type 0} {d : Ghosts D} {l : Ghosts L} (m : Answering
     → RunsLines m names body text old new → old.recorder.store.moment ≡ old.moment
     → new.recorder.store.moment ≡ new.moment
 lines_together {D} {L} {d} {l} m names [] text old new ran same =
-    subst (λ (end : Running D L d l). end.recorder.store.moment ≡ end.moment) (sym ran.1) same
+    rw ran.1 same
 lines_together {D} {L} {d} {l} m names (command ∷ body) text old new ran same =
-    let line = ran.4 in
-    lines_together {d = d} {l = l} m names body ran.2 ran.0 new ran.5
-    (line.log_moment ∙ ap (λ (moment : ℕ). time_at moment command) same ∙ sym line.moment)
+    grind (
+      arith,
+      lines_together {d = d} {l = l} m names body ran.2 ran.0 new ran.5 (grind (
+        arith,
+        (ran.4).log_moment,
+        same,
+        sym (ran.4).moment,
+      )),
+    )
 
 -- The condition `Start` may be replaced by any condition that it implies.
 pub played_from : {D L : Type 0} {d : Ghosts D} {l : Ghosts L} (m : Answering D L)
@@ -390,26 +353,25 @@ pub started : {D L : Type 0} {d : Ghosts D} {l : Ghosts L} (size other : SectorS
     (log : L) (now : Running D L d l) → size ≡ other → StartsOn (bytes_of size) disk log now
     → StartsOn (bytes_of other) disk log now
 started {d = d} {l = l} size other disk log now same starts =
-    subst (λ (s : SectorSize). StartsOn {d = d} {l = l} (bytes_of s) disk log now) same starts
+    rw (← same) starts
 
 pub unstarted : {L : Type 0} (l : Ghosts L) (size other : SectorSize) (log : L) (fault : RunError)
     → size ≡ other → (fault ≡ memory_error) ⊎ IsUnmadeOn l (bytes_of size) log fault
     → (fault ≡ memory_error) ⊎ IsUnmadeOn l (bytes_of other) log fault
 unstarted l size other log fault same fails =
-    subst (λ (s : SectorSize). (fault ≡ memory_error)
-    ⊎ IsUnmadeOn l (bytes_of s) log fault) same fails
+    rw (← same) fails
 
 pub start_bytes : {D L : Type 0} {d : Ghosts D} {l : Ghosts L} (bytes : ℕ) (disk : D) (log : L)
     (now : Running D L d l) → StartsOn bytes disk log now
     → (core_of now.recorder).sector_bytes ≡ bytes
 start_bytes bytes disk log now starts =
-    let begun = starts.begun in ap (λ (c : CoreState). c.sector_bytes) begun.core
+    let begun = starts.begun in grind (arith, begun.core)
 
 pub on_beside : {L : Type 0} {l : Ghosts L} (bytes : ℕ) (disk : Disk) (stack : Stack) (log : L)
     → IsStackOf disk stack → (run : Running Stack L on_stack l) → StartsOn bytes stack log run
     → StartsOnStack bytes disk log run
 on_beside bytes disk stack log is now starts = record {
-  stack = subst (λ (s : Stack). IsStackOf disk s) (sym starts.disk_is) is;
+  stack = rw starts.disk_is is;
   begun = starts.begun;
   none = starts.none;
   moment = starts.moment;

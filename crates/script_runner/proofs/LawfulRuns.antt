@@ -60,12 +60,7 @@ bio_suits bytes sectors (submits.Write first count byte options) passes =
         ≡ unless_unaligned (first % (bytes / 512) == 0 && count % (bytes / 512) == 0)
         (range_answer first count sectors)
     whole n is =
-        subst (λ (m : ℕ). unless_unaligned
-        (first % (bytes / 512) == 0 && m / 512 % (bytes / 512) == 0)
-        (if m % 512 == 0 then range_answer first (m / 512) sectors else Err NotWhole)
-        ≡ unless_unaligned (first % (bytes / 512) == 0 && count % (bytes / 512) == 0)
-        (range_answer first count sectors)) (sym is)
-        (rw (mul-mod_left count 512, mul-div_cancel count {n = 512} (omega arith)) refl)
+        rw is (rw (mul-mod_left count 512, mul-div_cancel count {n = 512} (omega arith)) refl)
 bio_suits bytes sectors submits.Flush passes =
     sized_passes bytes bios.Flush sectors refl (flush_aligned (bytes / 512))
   where
@@ -83,9 +78,7 @@ bio_passes bytes sectors submission passes =
 range_larger : (bytes first count few many : ℕ) → few ≤ many
     → range_test bytes few first count ≡ Ok tt → range_test bytes many first count ≡ Ok tt
 range_larger bytes first count few many more passes =
-    let parts = sized_passed bytes (bios.Read first count) few passes in
-    sized_passes bytes (bios.Read first count) many
-    (check_answer-larger (bios.Read first count) few many parts.0 more) parts.1
+    grind (arith, sized_passed bytes (bios.Read first count) few passes, sized_passes)
 
 pub fits_larger : (bytes : ℕ) (submission : Submission) (few many : ℕ) → few ≤ many
     → submission_answer bytes few submission ≡ Ok tt
@@ -101,7 +94,7 @@ request_fits : {L : Type 0} {l : Ghosts L} (bytes sectors : ℕ) (submission : S
     → submission_answer bytes sectors submission ≡ Ok tt → Asks (bio_of submission) request old new
     → fits_device sectors request ≡ true
 request_fits bytes sectors submission (requests.Asked bio id) old new passes asks =
-    ap (λ b. is_ok (check_answer b sectors)) asks.0 ∙ bio_passes bytes sectors submission passes
+    grind (arith, asks.0, bio_passes bytes sectors submission passes)
 request_fits bytes sectors submission requests.NotAsked old new passes asks = refl
 
 pub pushed_fit : {L : Type 0} {l : Ghosts L} (bytes sectors : ℕ) (submission : Submission)
@@ -110,12 +103,9 @@ pub pushed_fit : {L : Type 0} {l : Ghosts L} (bytes sectors : ℕ) (submission :
     → after ≡ (if room then before ++ request ∷ [] else before)
     → IsTrue (list_all (fits_device sectors) before) → IsTrue (list_all (fits_device sectors) after)
 pushed_fit bytes sectors submission request old new before after false passes asks is fit =
-    subst (λ (items : List Request). IsTrue (list_all (fits_device sectors) items)) (sym is) fit
+    rw is fit
 pushed_fit {L} {l} bytes sectors submission request old new before after true passes asks is fit =
-    subst (λ (items : List Request). IsTrue (list_all (fits_device sectors) items)) (sym is)
-    (list_all-append (fits_device sectors) before (request ∷ [])
-    ∙ and_from _ _ fit (and_from _ _
-    (request_fits {l = l} bytes sectors submission request old new passes asks) refl))
+    grind (arith, list_all-append, and_from, request_fits)
 
 pub has_some : (some : Bool) → (some ≡ false → false ≡ true) → some ≡ true
 has_some true refused = refl
@@ -137,13 +127,12 @@ grown_within : (sectors : ℕ) (core grown : CoreState) (e : CoreEvent) → grow
     → is_within sectors (Some e) ≡ true
     → AreWithin sectors core.events → AreWithin sectors grown.events
 grown_within sectors core grown e is here within =
-    subst (λ (c : CoreState). AreWithin sectors c.events) (sym is)
-    (within_snoc sectors core.events e within here)
+    rw is (within_snoc sectors core.events e within here)
 
 same_within : (sectors : ℕ) (core same : CoreState) → same ≡ core → AreWithin sectors core.events
     → AreWithin sectors same.events
 same_within sectors core same is within =
-    subst (λ (c : CoreState). AreWithin sectors c.events) (sym is) within
+    rw is within
 
 stopped_within : (sectors : ℕ) (core : CoreState) (cause : End) → AreWithin sectors core.events
     → AreWithin sectors (stopped_by core cause).events
@@ -158,8 +147,7 @@ stops_within : {L : Type 0} {l : Ghosts L} (sectors : ℕ) (cause : End) (old ne
     → Stops cause old new
     → AreWithin sectors (core_of old).events → AreWithin sectors (core_of new).events
 stops_within sectors cause old new stops within =
-    subst (λ (es : List CoreEvent). AreWithin sectors es) (sym stops.events)
-    (stopped_within sectors (core_of old) cause within)
+    rw stops.events (stopped_within sectors (core_of old) cause within)
 
 submitted_within : {L : Type 0} {l : Ghosts L} (sectors : ℕ) (bio : Bio) (reply : Reply)
     (old new : Recorder L l) → Submits bio reply old new
@@ -169,8 +157,7 @@ submitted_within {L} {l} sectors bio reply old new submits passes within =
     elim (bool_cases (records (core_of old) bio)) [
       | inl recorded ↦ elim (submits.recorded recorded) [
         | inl tracked ↦
-            grown_within sectors (core_of old) (core_of new)
-            (events.Submit bio) tracked.1.core passes within
+            grind (arith, grown_within)
         | inr refused ↦ stops_within {l = l} sectors _ old new refused.1 within
       ]
       | inr other ↦
@@ -183,8 +170,7 @@ completed_within : {L : Type 0} {l : Ghosts L} (sectors id : ℕ) (ok : Bool) (r
 completed_within sectors id ok reply old new completes within =
     elim (bool_cases (is_open_at (core_of old).events id)) [
       | inl opened ↦
-          grown_within sectors (core_of old) (core_of new) (events.Complete id ok)
-          (completes.recorded opened).1 refl within
+          grind (arith, grown_within)
       | inr other ↦
           same_within sectors (core_of old) (core_of new) (completes.unknown other).1 within
     ]
@@ -209,8 +195,7 @@ closed_within : {L : Type 0} {l : Ghosts L} (sectors : ℕ) (reply : Reply) (old
     → AreWithin sectors (core_of old).events → AreWithin sectors (core_of new).events
 closed_within sectors reply old new closes within = elim closes.answer [
   | inl done ↦
-      subst (λ (c : CoreState). AreWithin sectors c.events) (sym done.1)
-      (by_case (has_no_close (core_of old).events))
+      rw done.1 (by_case (has_no_close (core_of old).events))
   | inr other ↦ elim other [
     | inl busy ↦ same_within sectors (core_of old) (core_of new) busy.1 within
     | inr memory ↦ same_within sectors (core_of old) (core_of new) memory.1 within
@@ -229,7 +214,7 @@ turned_within : {L : Type 0} {l : Ghosts L} (sectors : ℕ) (turn : Turn) (old n
 turned_within {L} {l} sectors turn old new turned within = by_end old.end refl
   where
     going : (core_of new).events ≡ (core_of old).events → AreWithin sectors (core_of new).events
-    going same = subst (λ (es : List CoreEvent). AreWithin sectors es) (sym same) within
+    going same = rw same within
 
     by_turn : (turn : Turn) → old.end ≡ None → Turns turn old new
         → AreWithin sectors (core_of new).events
@@ -253,8 +238,7 @@ drained_within {L} {l} sectors answer old new drains within = by_end old.end ref
     by_answer : (answer : Result Unit End) → old.end ≡ None → Drains answer old new
         → AreWithin sectors (core_of new).events
     by_answer (Ok done) on drained =
-        subst (λ (es : List CoreEvent). AreWithin sectors es)
-        (sym (drained.logging on).0.events) within
+        rw ((drained.logging on).0.events) within
     by_answer (Err cause) on drained =
         stops_within {l = l} sectors cause old new (drained.logging on) within
 
@@ -271,7 +255,7 @@ asked_within {L} {l} sectors bio (requests.Asked kept id) old new asks passes wi
     submitted_within {l = l} sectors bio (reply_of id) old new asks.1 passes within
 asked_within {L} {l} sectors bio requests.NotAsked old new asks passes within = elim asks [
   | inl unasked ↦
-      subst (λ (r : Recorder L l). AreWithin sectors (core_of r).events) (sym unasked.1) within
+      rw unasked.1 within
   | inr refused ↦
       submitted_within {l = l} sectors bio
       (replies.Refused refusals.Memory) old new refused passes within
@@ -283,7 +267,7 @@ heard_within : {L : Type 0} {l : Ghosts L} (sectors : ℕ) (id : Option ℕ) (ok
 heard_within {L} {l} sectors (Some id) ok old new hears within =
     completed_within {l = l} sectors id ok hears.0 old new hears.1 within
 heard_within {L} {l} sectors None ok old new hears within =
-    subst (λ (r : Recorder L l). AreWithin sectors (core_of r).events) (sym hears) within
+    rw hears within
 
 ended_within : {D L : Type 0} {d : Ghosts D} {l : Ghosts L} (sectors : ℕ) (found : Option Request)
     (name : ScriptId) (text : List ℕ) (old new : Running D L d l)
@@ -291,7 +275,7 @@ ended_within : {D L : Type 0} {d : Ghosts D} {l : Ghosts L} (sectors : ℕ) (fou
     → AreWithin sectors (core_of new.recorder).events
 ended_within {D} {L} {d} {l} sectors None name text old new does within = absurd does
 ended_within {D} {L} {d} {l} sectors (Some requests.NotAsked) name text old new does within =
-    subst (λ (r : Recorder L l). AreWithin sectors (core_of r).events) (sym does.1) within
+    rw does.1 within
 ended_within {D} {L} {d} {l} sectors (Some (requests.Asked bio id)) name text old new does within =
     heard_within {l = l} sectors id (is_ok does.answer) old.recorder new.recorder does.hears within
 
@@ -303,7 +287,7 @@ step_within {D} {L} {d} {l} m sectors steps.Close text old new does within =
     drained_within {l = l} sectors does.answer does.closed new.recorder does.drains
     (closed_within {l = l} sectors replies.Closed old.recorder does.closed does.closes within)
 step_within {D} {L} {d} {l} m sectors (steps.Read first count) text old new does within =
-    subst (λ (r : Recorder L l). AreWithin sectors (core_of r).events) (sym does.log) within
+    rw does.log within
 step_within {D} {L} {d} {l} m sectors steps.Turn text old new does within =
     turned_within {l = l} sectors does.turn old.recorder new.recorder does.turns within
 step_within {D} {L} {d} {l} m sectors (steps.Mark mark) text old new does within =
@@ -312,7 +296,7 @@ step_within {D} {L} {d} {l} m sectors (steps.At moment) text old new does within
     same_within sectors (core_of old.recorder) (core_of new.recorder) does.core within
 step_within {D} {L} {d} {l} m sectors
     (steps.Message disks.Data layer asked) text old new does within =
-    subst (λ (r : Recorder L l). AreWithin sectors (core_of r).events) (sym does.log) within
+    rw does.log within
 step_within {D} {L} {d} {l} m sectors
     (steps.Message disks.Log layer asked) text old new does within =
     same_within sectors (core_of old.recorder) (core_of new.recorder) does.core within
@@ -323,8 +307,7 @@ lines_within : {D L : Type 0} {d : Ghosts D} {l : Ghosts L} (m : Answering D L) 
     → AreWithin sectors (core_of old.recorder).events
     → AreWithin sectors (core_of new.recorder).events
 lines_within {D} {L} {d} {l} m bytes sectors names before [] text old new fit ran within =
-    subst (λ (run : Running D L d l). AreWithin sectors (core_of run.recorder).events)
-    (sym ran.1) within
+    rw ran.1 within
 lines_within {D} {L} {d} {l} m bytes sectors names before
     (commands.Submit submission ∷ body) text old new fit ran within =
     let does = ran.4.does in

@@ -58,7 +58,7 @@ refused-only bio reply old new submits tracked passed =
     elim (bool_cases (records (core_of old) bio)) [
       | inl recorded ↦ elim (submits.recorded recorded) [
         | inl followed ↦ absurd (tracked _ followed.0)
-        | inr refused ↦ subst (λ (answer : Reply). Submits bio answer old new) refused.0 submits
+        | inr refused ↦ rw (← refused.0) submits
       ]
       | inr other ↦ absurd (passed (submits.passed other).0)
     ]
@@ -67,7 +67,7 @@ pub closed-only : {L : Type 0} {g : Ghosts L} (reply : Reply) (old new : Recorde
     → Closes reply old new
     → ((refusal : Refusal) → reply ≡ replies.Refused refusal → ⊥) → Closes replies.Closed old new
 closed-only reply old new closes refused = elim closes.answer [
-  | inl done ↦ subst (λ (answer : Reply). Closes answer old new) done.0 closes
+  | inl done ↦ rw (← done.0) closes
   | inr other ↦
       elim other [ inl busy ↦ absurd (refused _ busy.0) | inr memory ↦ absurd (refused _ memory.0) ]
 ]
@@ -86,12 +86,12 @@ pub mark_prints : {L : Type 0} {g : Ghosts L} (text : List ℕ) (reply : Reply)
     → PrintsMark reply (mark_outcome reply)
 mark_prints text reply old new marks plain = elim (bool_cases (is_recording (core_of old).events)) [
   | inl going ↦ elim (marks.recorded heard going) [
-    | inl queued ↦ subst (λ (r : Reply). PrintsMark r (mark_outcome r)) (sym queued.0) refl
+    | inl queued ↦ rw queued.0 refl
     | inr refused ↦
-        subst (λ (r : Reply). PrintsMark r (mark_outcome r)) (sym refused.0) (refl, refl)
+        rw refused.0 (refl, refl)
   ]
   | inr over ↦
-      subst (λ (r : Reply). PrintsMark r (mark_outcome r)) (sym (marks.passed heard over).0) refl
+      rw ((marks.passed heard over).0) refl
 ]
   where
     heard : is_text text ≡ true
@@ -99,10 +99,7 @@ mark_prints text reply old new marks plain = elim (bool_cases (is_recording (cor
 
 pub line_ascii : (text : List ℕ) → is_line_text text ≡ true → IsAscii text
 line_ascii [] plain i = omega arith
-line_ascii (byte ∷ text) plain zero =
-    let here = and_parts (is_line_byte byte) (is_line_text text) plain in
-    ltb-true byte 128 (and_parts (nat_lt 0 byte) (nat_lt byte 128)
-    (and_parts (nat_lt 0 byte && nat_lt byte 128) (not (byte == 10)) here.0).0).1
+line_ascii (byte ∷ text) plain zero = grind (arith, and_parts, ltb-true, not)
 line_ascii (byte ∷ text) plain (suc i) =
     line_ascii text (and_parts (is_line_byte byte) (is_line_text text) plain).1 i
 
@@ -114,11 +111,11 @@ stands_at items place here found within is same =
 
 pub is_close_step : (command : Command) (step : Step) → command ≡ commands.Step step
     → step ≡ steps.Close → command ≡ commands.Step steps.Close
-is_close_step command step is close = is ∙ ap (λ (s : Step). commands.Step s) close
+is_close_step command step is close = is ∙ ap commands.Step close
 
 pub is_step : (command : Command) (step other : Step) → command ≡ commands.Step step → step ≡ other
     → command ≡ commands.Step other
-is_step command step other is same = is ∙ ap (λ (s : Step). commands.Step s) same
+is_step command step other is same = is ∙ ap commands.Step same
 
 pub on_ok : {T E A B : Type 0} (result : Result T E) → OnOk result A → (A → B) → OnOk result B
 on_ok (Ok value) holds follows = follows holds
@@ -155,11 +152,7 @@ pub step_runs : {D L : Type 0} {d : Ghosts D} {l : Ghosts L} (m : Answering D L)
     → RecorderFrame (recorder_view old.recorder) (recorder_view new.recorder)
     → Appends before after text → PrintsLine m names command before after old new
 step_runs m names command step before after text old new is takes moment log_moment goes printed =
-    subst (λ (c : Command). PrintsLine m names c before after old new) (sym is) (
-      text,
-      record { does = takes; moment = moment; log_moment = log_moment; goes = goes },
-      printed,
-    )
+    grind arith
 
 pub appends_none : (known : Option (List ℕ)) → Appends known known []
 appends_none None = tt
@@ -203,10 +196,7 @@ pub outcome_printed : (name : ScriptId) (ok : Bool) (word : List ℕ) (before af
     → Appends before after (encode_utf8_all (letters_of name) ++ 32 ∷ (word ++ 10 ∷ []))
     → Appends before after (outcome_line name ok)
 outcome_printed name ok word before after is says output =
-    subst (Appends before after)
-    (ap (λ (letters : List ℕ). letters ++ 32 ∷ (word ++ 10 ∷ [])) (letters_encoded name is)
-    ∙ line_of (letters_of name) word
-    ∙ ap (λ (w : List ℕ). letters_of name ++ codes " " ++ w ++ codes "\n") says) output
+    grind (arith, letters_encoded name is, line_of (letters_of name) word)
 
 pub name_is : (names : List ScriptId) (request : ℕ) (other : ScriptId) → AllByRecursion IsName names
     → request < length names
@@ -222,35 +212,30 @@ range_parts first count sectors passes =
 pub byte_range : (sectors first count bytes : ℕ) → range_answer first count sectors ≡ Ok tt
     → bytes ≡ count * 512 → IsByteRange sectors first bytes
 byte_range sectors first count bytes passes is =
-    let parts = range_parts first count sectors passes in
-    let within : first + count ≤ sectors = parts.2 in
-    subst (IsByteRange sectors first) (sym is) (record {
-      whole = mul-mod_left count 512;
-      some = let some : 0 < count = parts.0 in omega arith;
-      within = rw (mul-div_cancel count {n = 512} (omega arith)) within;
-    })
+    grind (arith, range_parts, mul-mod_left, mul-div_cancel)
 
 pub filled : (new old : List ℕ) (n : ℕ) → length new ≡ length old → n ≡ length old
     → take n (new ++ drop (length new) old) ≡ new
 filled new old n same size =
-    ap (λ (rest : List ℕ). take n (new ++ rest)) (drop_all (length new) old (omega arith))
-    ∙ ap (take n) (append-nil new)
-    ∙ take_all n new (omega arith)
+    grind (
+      arith,
+      drop_all (length new) old (omega arith),
+      ap (take n) (append-nil new),
+      take_all
+          n new (omega arith),
+    )
 
 first_bytes-more : (n : ℕ) (bytes : List ℕ)
     → first_bytes (n + 1) bytes
     ≡ first_bytes n bytes ++ byte_text (slice_index_or bytes (n * 512) 0)
-first_bytes-more n bytes = ap (λ (k : ℕ). first_bytes k bytes) (add-one n)
+first_bytes-more n bytes = rw (add-one n)
 
 pub byte_printed : (n : ℕ) (bytes : List ℕ) (byte : ℕ) (digits : List ℕ)
     (start now new : Option (List ℕ)) → Appends start now (first_bytes n bytes)
     → byte ≡ slice_index_or bytes (n * 512) 0 → digits ≡ byte_text byte → Appends now new digits
     → Appends start new (first_bytes (n + 1) bytes)
 byte_printed n bytes byte digits start now new before here is more =
-    subst (Appends start new) (sym (first_bytes-more n bytes))
-    (appends_twice start now new (first_bytes n bytes)
-    (byte_text (slice_index_or bytes (n * 512) 0)) before
-    (subst (Appends now new) (is ∙ ap byte_text here) more))
+    grind (arith, first_bytes-more, appends_twice)
 
 in_one : (head from plus long space rest end : List ℕ)
     → head ++ (from ++ (plus ++ (long ++ (space ++ (rest ++ end)))))
@@ -268,11 +253,8 @@ pub failed_printed : {V : Type 0} (items : V → List ℕ) (first count : ℕ) (
     ++ (decimal first ++ (codes "+" ++ (decimal count ++ codes " failed\n"))))
     → Appends before after (read_line first count (option_map items bytes))
 failed_printed {V} items first count bytes before after none output =
-    subst (λ (b : Option V). Appends before after (read_line first count (option_map items b)))
-    (sym none)
-    (subst (Appends before after)
-    (in_one (codes "read ") (decimal first) (codes "+") (decimal count) (codes " ")
-    (codes "failed") (codes "\n")) output)
+    rw none (subst (Appends before after) (in_one (codes "read ") (decimal first) (codes "+")
+    (decimal count) (codes " ") (codes "failed") (codes "\n")) output)
 
 -- `begun` and `told` are what the output holds after the first and the second part of the line.
 pub read_printed : {V : Type 0} (items : V → List ℕ) (first count : ℕ) (bytes : Option V) (read : V)
@@ -285,11 +267,11 @@ pub read_printed : {V : Type 0} (items : V → List ℕ) (first count : ℕ) (by
     → Appends before after (read_line first count (option_map items bytes))
 read_printed {V} items first count bytes read shown before begun told after some same head middle
     end =
-    subst (λ (b : Option V). Appends before after (read_line first count (option_map items b)))
-    (sym some)
-    (subst (Appends before after)
-    (in_parts (codes "read ") (decimal first) (codes "+") (decimal count) (codes " ")
-    (codes "ok ") (first_bytes count (items read)) (codes "\n"))
-    (appends_twice before told after _ (codes "\n")
-    (appends_twice before begun told _ (first_bytes count (items read)) head
-    (subst (λ (s : List ℕ). Appends begun told (first_bytes count s)) same middle)) end))
+    grind (
+      arith,
+      in_parts (codes "read ") (decimal first) (codes "+") (decimal count) (codes " ")
+          (codes "ok ") (first_bytes count (items read)) (codes "\n"),
+      appends_twice before told after _
+          (codes "\n") (appends_twice before begun told _ (first_bytes count (items read)) head (rw (←
+          same) middle)) end,
+    )

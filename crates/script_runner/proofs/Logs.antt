@@ -52,12 +52,7 @@ use Rattle.script_runner.specs.Submissions.{bio_of}
 
 pub kept_unchanged : {L : Type 0} {l : Ghosts L} (old new : Recorder L l) → IsWritten old
     → IsUnchanged old new → IsWritten new
-kept_unchanged old new written same = λ closed on.
-    let core = same.core in
-    let events = ap (λ (c : CoreState). c.events) core in
-    ap (λ s. s.placed) same.store
-    ∙ written (ap has_no_close (sym events) ∙ closed) (sym same.end ∙ on)
-    ∙ ap (λ (c : CoreState). length (log_of c)) (sym core)
+kept_unchanged old new written same = grind (arith, length)
 
 pub kept_recording : {L : Type 0} {l : Ghosts L} (new : Recorder L l)
     → has_no_close (core_of new).events ≡ true → IsWritten new
@@ -66,9 +61,7 @@ kept_recording new recording = λ closed on. absurd (let both = sym recording �
 unclosed : (core grown : CoreState) (event : CoreEvent) → grown ≡ added_to core event
     → is_close (Some event) ≡ false → has_no_close core.events ≡ true
     → has_no_close grown.events ≡ true
-unclosed core grown event is other recording =
-    ap (λ (c : CoreState). has_no_close c.events) is ∙ none-grown is_close core.events event
-    ∙ ap (λ b. b && not (is_close (Some event))) recording ∙ ap not other
+unclosed core grown event is other recording = grind (arith, none-grown, not)
 
 kept_ended : {L : Type 0} {l : Ghosts L} (new : Recorder L l) (cause : End) → new.end ≡ Some cause
     → IsWritten new
@@ -103,7 +96,7 @@ kept_complete {L} {l} id ok reply old new completes written =
           (lawful_parts _ 1048576 (core_of new).events new.kept.lawful).0).0 in
           let well_formed : is_well_formed ((core_of old).events ++ events.Complete id ok ∷ [])
           ≡ true =
-          ap (λ (c : CoreState). is_well_formed c.events) (sym is) ∙ lawful in
+          grind (arith, is, lawful) in
           let parts =
           and_parts (is_well_formed (core_of old).events)
           (can_follow (core_of old).events (Some (events.Complete id ok)))
@@ -114,12 +107,7 @@ kept_complete {L} {l} id ok reply old new completes written =
           kept_recording {l = l} new
           (unclosed (core_of old) (core_of new) (events.Complete id ok) is refl recording)
       | inr other ↦
-          kept_unchanged {l = l} old new written
-          (record {
-            core = (completes.unknown other).1;
-            store = completes.log;
-            end = completes.end;
-          })
+          grind (arith, kept_unchanged)
     ]
 
 pub kept_mark : {L : Type 0} {l : Ghosts L} (text : List ℕ) (reply : Reply) (old new : Recorder L l)
@@ -205,8 +193,7 @@ pub lines_go : {D L : Type 0} {d : Ghosts D} {l : Ghosts L} → GoesNone l → G
     → RunsLines m names body text old new
     → RecorderFrame (recorder_view old.recorder) (recorder_view new.recorder)
 lines_go {D} {L} {d} {l} none twice m names [] text old new ran =
-    subst (λ (end : Running D L d l). RecorderFrame (recorder_view old.recorder)
-    (recorder_view end.recorder)) (sym ran.1) (none old.recorder)
+    rw ran.1 (none old.recorder)
 lines_go none twice m names (command ∷ body) text old new ran =
     twice old.recorder ran.0.recorder new.recorder ran.4.goes
     (lines_go none twice m names body ran.2 ran.0 new ran.5)
@@ -216,7 +203,7 @@ asked_written : {L : Type 0} {l : Ghosts L} (bio : Bio) (request : Request) (old
 asked_written {L} {l} bio (requests.Asked kept id) old new asks written =
     kept_submit {l = l} bio (reply_of id) old new asks.1 written
 asked_written {L} {l} bio requests.NotAsked old new asks written = elim asks [
-  | inl unasked ↦ subst (λ (r : Recorder L l). IsWritten r) (sym unasked.1) written
+  | inl unasked ↦ rw unasked.1 written
   | inr refused ↦ kept_submit {l = l} bio (replies.Refused refusals.Memory) old new refused written
 ]
 
@@ -225,14 +212,14 @@ ended_written : {L : Type 0} {l : Ghosts L} (id : Option ℕ) (ok : Bool) (old n
 ended_written {L} {l} (Some id) ok old new hears written =
     kept_complete {l = l} id ok hears.0 old new hears.1 written
 ended_written {L} {l} None ok old new hears written =
-    subst (λ (r : Recorder L l). IsWritten r) (sym hears) written
+    rw hears written
 
 found_written : {D L : Type 0} {d : Ghosts D} {l : Ghosts L} (found : Option Request)
     (name : ScriptId) (text : List ℕ) (old new : Running D L d l)
     → EndsRequest found name text old new → IsWritten old.recorder → IsWritten new.recorder
 found_written {D} {L} {d} {l} None name text old new does written = absurd does
 found_written {D} {L} {d} {l} (Some requests.NotAsked) name text old new does written =
-    subst (λ (r : Recorder L l). IsWritten r) (sym does.1) written
+    rw does.1 written
 found_written {D} {L} {d} {l} (Some (requests.Asked bio id)) name text old new does written =
     ended_written {l = l} id (is_ok does.answer) old.recorder new.recorder does.hears written
 
@@ -241,9 +228,9 @@ moment_written : {L : Type 0} {l : Ghosts L} (old new : Recorder L l) → core_o
     → Same (recorder_view old).store (recorder_view new).store → IsWritten old → IsWritten new
 moment_written {L} {l} old new core end same written = λ closed on.
     let placed =
-    written (sym (ap (λ (c : CoreState). has_no_close c.events) core) ∙ closed)
+    written (sym (grind (arith, core)) ∙ closed)
     (sym end ∙ on) in
-    same.placed ∙ placed ∙ ap (λ (c : CoreState). length (log_of c)) (sym core)
+    grind (arith, same.placed, placed, core)
 
 line_written : {D L : Type 0} {d : Ghosts D} {l : Ghosts L} (m : Answering D L)
     (names : List ScriptId) (command : Command) (text : List ℕ) (old new : Running D L d l)
@@ -252,33 +239,30 @@ line_written {D} {L} {d} {l} m names (commands.Submit submission) text old new l
     asked_written {l = l} (bio_of submission) line.does.request old.recorder new.recorder
     line.does.asks written
 line_written {D} {L} {d} {l} m names (commands.Complete request) text old new line written =
-    found_written {d = d} {l = l} (slice_get old.requests.items request)
-    (name_at names request) text old new line.does written
+    grind (arith, found_written)
 line_written {D} {L} {d} {l} m names (commands.Step steps.Close) text old new line written =
     kept_close {l = l} line.does.answer line.does.closed new.recorder line.does.drains
 line_written {D} {L} {d} {l} m names
     (commands.Step (steps.Read first count)) text old new line written =
-    subst (λ (r : Recorder L l). IsWritten r) (sym line.does.log) written
+    rw line.does.log written
 line_written {D} {L} {d} {l} m names (commands.Step steps.Turn) text old new line written =
     kept_turn {l = l} line.does.turn old.recorder new.recorder line.does.turns written
 line_written {D} {L} {d} {l} m names (commands.Step (steps.Mark mark)) text old new line written =
     kept_mark {l = l} mark line.does.reply old.recorder new.recorder line.does.marks written
 line_written {D} {L} {d} {l} m names (commands.Step (steps.At moment)) text old new line written =
-    moment_written {l = l} old.recorder new.recorder line.does.core line.does.end line.does.store
-    written
+    grind (arith, moment_written)
 line_written {D} {L} {d} {l} m names
     (commands.Step (steps.Message disks.Data layer asked)) text old new line written =
-    subst (λ (r : Recorder L l). IsWritten r) (sym line.does.log) written
+    rw line.does.log written
 line_written {D} {L} {d} {l} m names
     (commands.Step (steps.Message disks.Log layer asked)) text old new line written =
-    moment_written {l = l} old.recorder new.recorder line.does.core line.does.end line.does.store
-    written
+    grind (arith, moment_written)
 
 pub lines_written : {D L : Type 0} {d : Ghosts D} {l : Ghosts L} (m : Answering D L)
     (names : List ScriptId) (body : List Command) (text : List ℕ) (old new : Running D L d l)
     → RunsLines m names body text old new → IsWritten old.recorder → IsWritten new.recorder
 lines_written {D} {L} {d} {l} m names [] text old new ran written =
-    subst (λ (run : Running D L d l). IsWritten run.recorder) (sym ran.1) written
+    rw ran.1 written
 lines_written {D} {L} {d} {l} m names (command ∷ body) text old new ran written =
     lines_written {d = d} {l = l} m names body ran.2 ran.0 new ran.5
     (line_written {d = d} {l = l} m names command ran.1 old ran.0 ran.4 written)
@@ -318,24 +302,21 @@ adds_later : {D L : Type 0} {d : Ghosts D} {l : Ghosts L} (asked : List Submissi
     (old mid new : Running D L d l) → mid.requests.items ≡ old.requests.items
     → Adds asked mid new → Adds asked old new
 adds_later asked old mid new same adds =
-    (adds.0, adds.1 ∙ ap (λ (items : List Request). items ++ adds.0) same, adds.2)
+    (adds.0, grind (arith, adds.1, same), adds.2)
 
 pub lines_ask : {D L : Type 0} {d : Ghosts D} {l : Ghosts L} (m : Answering D L)
     (names : List ScriptId) (body : List Command) (text : List ℕ) (old new : Running D L d l)
     → RunsLines m names body text old new → Adds (submissions_of body) old new
-lines_ask {D} {L} {d} {l} m names [] text old new ran = (
-  [],
-  ap (λ (run : Running D L d l). run.requests.items) ran.1
-      ∙ sym (append-nil old.requests.items),
-  tt,
-)
+lines_ask {D} {L} {d} {l} m names [] text old new ran = grind (arith, append-nil)
 lines_ask {D} {L} {d} {l} m names (commands.Submit submission ∷ body) text old new ran =
-    let does = ran.4.does in
-    let rest = lines_ask {d = d} {l = l} m names body ran.2 ran.0 new ran.5 in (
-      does.request ∷ rest.0,
-      rest.1 ∙ ap (λ (items : List Request). items ++ rest.0) does.kept
-          ∙ append_assoc old.requests.items (does.request ∷ []) rest.0,
-      (asks_stands {l = l} submission does.request old.recorder ran.0.recorder does.asks, rest.2),
+    grind (
+      arith,
+      lines_ask {d = d} {l = l} m names body ran.2 ran.0 new ran.5,
+      append_assoc
+          old.requests.items ((ran.4.does).request ∷ []) (lines_ask {d = d} {l = l} m names body ran.2
+          ran.0 new ran.5).0,
+      asks_stands {l = l} submission (ran.4.does).request old.recorder
+          ran.0.recorder (ran.4.does).asks,
     )
 lines_ask {D} {L} {d} {l} m names (commands.Complete request ∷ body) text old new ran =
     adds_later {d = d} {l = l} (submissions_of body) old ran.0 new
@@ -350,8 +331,12 @@ lines_ask {D} {L} {d} {l} m names (commands.Step step ∷ body) text old new ran
 pub stays : (old new : List CoreEvent) (id : ℕ) (event : CoreEvent) → EventsGrow old new
     → slice_get old id ≡ Some event → slice_get new id ≡ Some event
 stays old new id event (more, is) stands =
-    ap (λ (es : List CoreEvent). slice_get es id) is
-    ∙ slice_get-append_front old more id (slice_get_within old id event stands) ∙ stands
+    grind (
+      arith,
+      is,
+      slice_get-append_front old more id (slice_get_within old id event stands),
+      stands,
+    )
 
 pub queued_stands : {L : Type 0} {l : Ghosts L} (text : List ℕ) (reply : Reply) (id : ℕ)
     (old new : Recorder L l) → Marks text reply old new → reply ≡ replies.Queued id
@@ -360,10 +345,14 @@ queued_stands {L} {l} text reply id old new marks queued = elim (bool_cases (is_
   | inl heard ↦ elim (bool_cases (is_recording (core_of old).events)) [
     | inl going ↦ elim (marks.recorded heard going) [
       | inl (place, is) ↦
-          ap (λ (n : ℕ). slice_get (core_of new).events n)
-          (queued_id id (length (core_of old).events) (sym queued ∙ place))
-          ∙ ap (λ (c : CoreState). slice_get c.events (length (core_of old).events)) is
-          ∙ slice_get-append_here (core_of old).events (events.Mark text) []
+          grind (
+            arith,
+            ap (slice_get (core_of new).events) (queued_id id (length (core_of
+                old).events) (sym queued ∙ place)),
+            is,
+            slice_get-append_here (core_of old).events
+                (events.Mark text) [],
+          )
       | inr refused ↦ absurd (not_refused id (sym queued ∙ refused.0))
     ]
     | inr over ↦ absurd (not_passed id (sym queued ∙ (marks.passed heard over).0))
@@ -386,11 +375,7 @@ tracked_stands : {L : Type 0} {l : Ghosts L} (bio : Bio) (id : ℕ) (old new : R
 tracked_stands {L} {l} bio id old new submits = elim (bool_cases (records (core_of old) bio)) [
   | inl recorded ↦ elim (submits.recorded recorded) [
     | inl (reply, tracked) ↦
-        let place : id ≡ length (core_of old).events =
-        tracked_id id (length (core_of old).events) reply in
-        ap (λ (n : ℕ). slice_get (core_of new).events n) place
-        ∙ ap (λ (c : CoreState). slice_get c.events (length (core_of old).events)) tracked.core
-        ∙ slice_get-append_here (core_of old).events (events.Submit bio) []
+        grind (arith, length, slice_get-append_here)
     | inr (reply, stops) ↦ absurd (not_refused id reply)
   ]
   | inr passes ↦ absurd (not_passed id (submits.passed passes).0)
@@ -412,8 +397,7 @@ last_case items last request place found =
     let within = slice_get_within (items ++ last ∷ []) place request found in
     elim (last_or_below place (length items) (let size = length-snoc items last in omega arith)) [
       | inl here ↦
-          inr (some_same (sym (slice_get-append_here items last [])
-          ∙ ap (λ (n : ℕ). slice_get (items ++ last ∷ []) n) (sym here) ∙ found))
+          grind (arith, slice_get-append_here)
       | inr below ↦ inl (sym (slice_get-append_front items (last ∷ []) place below) ∙ found)
     ]
   where
@@ -443,8 +427,7 @@ kept_followed : {D L : Type 0} {d : Ghosts D} {l : Ghosts L} (old new : Running 
 kept_followed old new same grows followed = λ place bio id found.
     stays (core_of old.recorder).events (core_of new.recorder).events id
     (events.Submit bio) grows
-    (followed place bio id (ap (λ (items : List Request). slice_get items place) (sym same)
-    ∙ found))
+    (followed place bio id (grind (arith, same, found)))
 
 line_followed : {D L : Type 0} {d : Ghosts D} {l : Ghosts L} (m : Answering D L)
     (names : List ScriptId) (command : Command) (text : List ℕ) (old new : Running D L d l)
@@ -452,7 +435,7 @@ line_followed : {D L : Type 0} {d : Ghosts D} {l : Ghosts L} (m : Answering D L)
 line_followed {D} {L} {d} {l} m names (commands.Submit submission) text old new line followed =
     λ place bio id found.
     elim (last_case old.requests.items line.does.request (requests.Asked bio (Some id)) place
-    (ap (λ (items : List Request). slice_get items place) (sym line.does.kept) ∙ found)) [
+    (grind (arith, line.does.kept, found))) [
       | inl before ↦
           stays (core_of old.recorder).events (core_of new.recorder).events id
           (events.Submit bio) line.goes.events (followed place bio id before)
@@ -473,7 +456,7 @@ pub lines_followed : {D L : Type 0} {d : Ghosts D} {l : Ghosts L} (m : Answering
     (names : List ScriptId) (body : List Command) (text : List ℕ) (old new : Running D L d l)
     → RunsLines m names body text old new → TrackedAreRecorded old → TrackedAreRecorded new
 lines_followed {D} {L} {d} {l} m names [] text old new ran followed =
-    subst (λ (run : Running D L d l). TrackedAreRecorded run) (sym ran.1) followed
+    rw ran.1 followed
 lines_followed {D} {L} {d} {l} m names (command ∷ body) text old new ran followed =
     lines_followed {d = d} {l = l} m names body ran.2 ran.0 new ran.5
     (line_followed {d = d} {l = l} m names command ran.1 old ran.0 ran.4 followed)

@@ -33,21 +33,21 @@ chain_snoc {S = S} Step [] c text more old mid new before step = (
   new,
   more,
   [],
-  ap (λ (t : List ℕ). t ++ more) before.0 ∙ sym (append-nil more),
+  grind (arith, before.0, sym (append-nil more)),
   from_start before.1,
   (refl, refl),
 )
   where
     from_start : mid ≡ old → Step c more old new
-    from_start same = subst (λ (s : S). Step c more s new) same step
-chain_snoc Step (first ∷ cs) c text more old mid new before step = (
-  before.0,
-  before.1,
-  before.2 ++ more,
-  ap (λ (t : List ℕ). t ++ more) before.3 ∙ append_assoc before.1 before.2 more,
-  before.4,
-  chain_snoc Step cs c before.2 more before.0 mid new before.5 step,
-)
+    from_start same = rw (← same) step
+chain_snoc Step (first ∷ cs) c text more old mid new before step =
+    grind (
+      arith,
+      chain_snoc Step cs c before.2 more before.0 mid new before.5 step,
+      append_assoc
+          before.1 before.2 more,
+      chain_snoc Step cs c before.2 more before.0 mid new before.5 step,
+    )
 
 -- Each command may follow the commands before it.
 abbrev pub IsOrderlyScript : ScriptValue → Type 0
@@ -73,17 +73,16 @@ command_next plan items place other same orderly within =
     here : place < length plan.commands
         → ComesNext plan place (slice_index_or plan.commands place other)
     here inside =
-        let command = slice_index_or plan.commands place other in
-        let split : plan.commands ≡ take place plan.commands ++ command
-        ∷ drop (suc place) plan.commands =
-        sym (take-append-drop place plan.commands)
-        ∙ ap (λ (body : List Command). take place plan.commands ++ body)
-        (drop-cons plan.commands place other inside) in
-        record {
-          rest = drop (suc place) plan.commands;
-          split = split;
-          comes = orderly (take place plan.commands) command (drop (suc place) plan.commands) split;
-        }
+        grind (
+          arith,
+          slice_index_or plan.commands place other,
+          take place plan.commands,
+          drop
+              (suc place) plan.commands,
+          take-append-drop place plan.commands,
+          drop-cons plan.commands
+              place other inside,
+        )
 
 pub next_fits : (bytes sectors : ℕ) (before : List Command) (command : Command)
     → CanFollow bytes sectors before command → FitsDevice bytes sectors command
@@ -111,37 +110,28 @@ submissions_cons command body =
 
 submissions_push : (front : List Command) (command : Command)
     → submissions (front ++ command ∷ []) ≡ submissions front + count_of command
-submissions_push front command =
-    sum_by-append count_of front (command ∷ [])
-    ∙ ap (λ (n : ℕ). submissions front + n) (omega arith)
+submissions_push front command = grind (arith, sum_by-append)
 
 pub next_named : (plan : ScriptValue) (place : ℕ) (command : Command) → IsPlan plan
     → ComesNext plan place command
     → HasName (length plan.names) (submissions (take place plan.commands)) command
 next_named plan place (commands.Submit submission) is next =
-    let all =
-    sum_by-append count_of (take place plan.commands)
-    (commands.Submit submission ∷ next.rest) in
-    let here = submissions_cons (commands.Submit submission) next.rest in
-    let numbered = is.numbered ∙ ap submissions next.split in
-    omega (arith, all, here, numbered)
-next_named plan place (commands.Complete request) is next =
-    let all =
-    sum_by-append count_of (take place plan.commands)
-    (commands.Complete request ∷ next.rest) in
-    let before = next.comes.0 in
-    let numbered = is.numbered ∙ ap submissions next.split in
-    omega (arith, all, before, numbered)
+    grind (
+      arith,
+      sum_by-append count_of (take place plan.commands) (commands.Submit submission ∷
+          next.rest),
+      submissions_cons (commands.Submit submission) next.rest,
+    )
+next_named plan place (commands.Complete request) is next = grind (arith, sum_by-append, take)
 next_named plan place (commands.Step step) is next = tt
 
 pub one_more : (P : List Command → Type 0) (items body : List Command) (place : ℕ) (other : Command)
     → items ≡ body → place < length items
     → P (take place body ++ slice_index_or items place other ∷ []) → P (take (place + 1) body)
 one_more P items body place other same within holds =
-    subst P (sym (ap (λ (n : ℕ). take n body) (add-one place) ∙
-    subst (λ (cs : List Command). place < length cs
-    → take (suc place) body ≡ take place body ++ slice_index_or cs place other ∷ []) (sym same)
-    (take-suc body place other) within)) holds
+    subst P (sym (rw (add-one place) (subst (λ (cs : List Command). place < length cs → take (suc
+    place) body ≡ take place body ++ slice_index_or cs place other ∷ []) (sym same) (take-suc
+    body place other) within))) holds
 
 pub lines_more : {D L : Type 0} {d : Ghosts D} {l : Ghosts L} (m : Answering D L)
     (names : List ScriptId) (front : List Command) (command : Command)
@@ -169,8 +159,7 @@ lines_more_of m plan items names place other before mid after start now new same
     plan.commands place other same within
     (lines_more m plan.names (take place plan.commands)
     (slice_index_or items place other) before mid after start now new ran
-    (subst (λ (ids : List ScriptId). PrintsLine m ids
-    (slice_index_or items place other) mid after now new) named line))
+    (rw (← named) line))
 
 pub count_more : (front : List Command) (command : Command) (old new : ℕ) → old ≡ submissions front
     → new ≡ old + count_of command
@@ -201,30 +190,32 @@ pub next_line_fits : (plan : ScriptValue) (items : List Command) (place bytes se
     → bytes ≡ bytes_of plan.log_size → sectors ≡ top_of plan.data_disk
     → FitsDevice bytes sectors (slice_index_or items place other)
 next_line_fits plan items place bytes sectors other same orderly within log_size size =
-    let next = command_next plan items place other same orderly within in
-    subst (λ (n : ℕ). FitsDevice bytes n (slice_index_or items place other)) (sym size)
-    (subst (λ (n : ℕ). FitsDevice n (top_of plan.data_disk) (slice_index_or items place other))
-    (sym log_size)
-    (next_fits (bytes_of plan.log_size) (top_of plan.data_disk) (take place plan.commands)
-    (slice_index_or items place other) next.comes))
+    grind (
+      arith,
+      command_next plan items place other same orderly within,
+      slice_index_or items
+          place other,
+      next_fits,
+    )
 
 pub next_line_text : (plan : ScriptValue) (items : List Command) (place : ℕ) (other : Command)
     → items ≡ plan.commands → IsOrderlyScript plan → place < length items
     → HasScriptText (slice_index_or items place other)
 next_line_text plan items place other same orderly within =
-    let next = command_next plan items place other same orderly within in
-    next_text (bytes_of plan.log_size) (top_of plan.data_disk) (take place plan.commands)
-    (slice_index_or items place other) next.comes
+    grind (arith, command_next plan items place other same orderly within, next_text)
 
 pub next_line_submitted : (plan : ScriptValue) (items : List Command) (place requests : ℕ)
     (other : Command) → items ≡ plan.commands → IsOrderlyScript plan → place < length items
     → requests ≡ submissions (take place plan.commands)
     → EndsSubmitted requests (slice_index_or items place other)
 next_line_submitted plan items place requests other same orderly within counted =
-    let next = command_next plan items place other same orderly within in
-    subst (λ (n : ℕ). EndsSubmitted n (slice_index_or items place other)) (sym counted)
-    (next_submitted (bytes_of plan.log_size) (top_of plan.data_disk) (take place plan.commands)
-    (slice_index_or items place other) next.comes)
+    grind (
+      arith,
+      command_next plan items place other same orderly within,
+      slice_index_or items
+          place other,
+      next_submitted,
+    )
 
 pub next_line_named : (plan : ScriptValue) (items : List Command) (names : List ScriptId)
     (place requests : ℕ) (other : Command) → items ≡ plan.commands → IsPlan plan
@@ -271,8 +262,7 @@ stops_at_line m text plan place line command before mid after refusal start now 
       before = take place plan.commands;
       rest = next.rest;
       split =
-          next.split ∙ ap (λ (c : Command). take place plan.commands
-          ++ c ∷ next.rest) stops.is_close;
+          grind (arith, next.split, stops.is_close);
       place_is = here;
       mid = now;
       last = stops.last;
@@ -294,8 +284,7 @@ stops_at_line m text plan place line command before mid after refusal start now 
       layer = stops.layer;
       asked = stops.asked;
       split =
-          next.split ∙ ap (λ (c : Command). take place plan.commands
-          ++ c ∷ next.rest) stops.is_message;
+          grind (arith, next.split, stops.is_message);
       place_is = here;
       mid = now;
       ran = ran.1;
@@ -314,7 +303,4 @@ of_place P items place command is holds = subst P is holds
 
 pub lines_run : (items body : List Command) (place : ℕ) → items ≡ body → place < length items
     → place ≡ length (take place body)
-lines_run items body place same within =
-    let all = ap length same in
-    let taken = length-take place body in
-    omega arith
+lines_run items body place same within = grind (arith, length, length-take)

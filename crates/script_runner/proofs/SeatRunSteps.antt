@@ -60,7 +60,7 @@ module _ {A : Type 0} where
   map_there : {B : Type 0} (f : A → B) (xs : List A) (k : ℕ) (x : A) → slice_get xs k ≡ Some x
       → slice_get (map f xs) k ≡ Some (f x)
   map_there f [] k x e = absurd (cc)
-  map_there f (y ∷ xs) zero x e = ap (λ z. Some (f z)) (let same : y ≡ x = cc in same)
+  map_there f (y ∷ xs) zero x e = grind (arith, let same : y ≡ x = cc in same)
   map_there f (y ∷ xs) (suc k) x e = map_there f xs k x e
 
   map_from : {B : Type 0} (f : A → B) (xs : List A) (k : ℕ) (y : B)
@@ -72,7 +72,7 @@ module _ {A : Type 0} where
   pub map_push : {B : Type 0} (f : A → B) (xs : List A) (x : A)
       → map f (xs ++ x ∷ []) ≡ map f xs ++ f x ∷ []
   map_push f [] x = refl
-  map_push f (y ∷ ys) x = ap (λ zs. f y ∷ zs) (map_push f ys x)
+  map_push f (y ∷ ys) x = grind (arith, map_push f ys x)
 
   map_long : {B : Type 0} (f : A → B) (xs : List A) → length (map f xs) ≡ length xs
   map_long f [] = refl
@@ -103,42 +103,32 @@ pub joined_push : (lists : List (List Receipt)) (receipts : List Receipt)
     → joined (lists ++ receipts ∷ []) ≡ joined lists ++ receipts
 joined_push [] receipts = append-nil receipts
 joined_push (first ∷ lists) receipts =
-    ap (λ (rest : List Receipt). first ++ rest) (joined_push lists receipts)
-    ∙ sym (append_assoc first (joined lists) receipts)
+    grind (arith, joined_push lists receipts, sym (append_assoc first (joined lists) receipts))
 
 pub joined_next : (players : List Player) (player : Player) (made : List Receipt)
     → made ≡ joined (map (λ (p : Player). p.receipts) players)
     → made ++ player.receipts ≡ joined (map (λ (p : Player). p.receipts) (players ++ player ∷ []))
-joined_next players player made so =
-    ap (λ (rs : List Receipt). rs ++ player.receipts) so
-    ∙ sym (joined_push (map (λ (p : Player). p.receipts) players) player.receipts)
-    ∙ sym (ap joined (map_push (λ (p : Player). p.receipts) players player))
+joined_next players player made so = grind (arith, joined_push, map, map_push)
 
 pub mapped_next : {B : Type 0} (of : Player → B) (players : List Player) (player : Player)
     (made next : List B) (value : B) → next ≡ made ++ value ∷ []
     → made ≡ map of players → value ≡ of player → next ≡ map of (players ++ player ∷ [])
 mapped_next {B} of players player made next value pushed so has =
-    pushed
-    ∙ ap (λ (xs : List B). xs ++ value ∷ []) so
-    ∙ ap (λ (v : B). map of players ++ v ∷ []) has
-    ∙ sym (map_push of players player)
+    grind (arith, pushed, so, has, sym (map_push of players player))
 
 pub seats_long : (players : List Player) (seats : List Part) (many : ℕ) → length players ≡ many
     → seats ≡ map (λ (p : Player). p.part) players → length seats ≡ many
 seats_long players seats many count is =
-    ap (λ (parts : List Part). length parts) is ∙ map_long (λ (p : Player). p.part) players ∙ count
+    ap length is ∙ map_long (λ (p : Player). p.part) players ∙ count
 
 pub top_size : (disk : Disk) (stack : Stack) → IsStackOf disk stack
     → (stack_shown stack).size ≡ top_of disk
-top_size disk stack is = is.over.size ∙ ap (λ (n : ℕ). top_sectors n disk.layers) is.blank.size
+top_size disk stack is = grind (arith, is.over.size, is.blank.size)
 
 stack_place : (disk : Disk) (stack : Stack) → IsStackOf disk stack
     → (stack_shown stack).place ≡ record { origin = top_origin 0 disk.layers; disk = disk.sectors }
 stack_place disk stack is =
-    is.over.place ∙ ap (λ (n : ℕ). record {
-      origin = top_origin 0 disk.layers;
-      disk = n;
-    }) is.blank.size
+    grind (arith, is.over.place, is.blank.size)
 
 one_fits : (size : SectorSize) (sectors : ℕ) → bytes_of size / 512 ≤ sectors
     → 0 < log_sectors (bytes_of size) sectors
@@ -160,9 +150,9 @@ image_log size disk device seen image room top place agree looks es log =
     let within = part.within in
     let content = (shown_of (disk_of device)).content in
     let origin : (stack_shown device).place.origin ≡ top_origin 0 disk.layers =
-    ap (λ (p : Place). p.origin) place in
+    grind (arith, place) in
     let sectors : (shown_of (disk_of device)).size ≡ disk.sectors =
-    sym part.disk ∙ ap (λ (p : Place). p.disk) place in
+    grind (arith, sym part.disk, place) in
     let some : 0 < log_sectors (bytes_of size) (stack_shown device).size =
     one_fits size (stack_shown device).size (omega (arith, room, top)) in
     subst (λ (n : ℕ). IsLogOf n (seen_on disk image) (bytes_of size) es) top
@@ -174,17 +164,24 @@ image_long : (disk : SectorDisk) (image : List ℕ) (sectors : ℕ)
     → image ≡ gather (shown_of disk).content 0 (shown_of disk).size → (shown_of disk).size ≡ sectors
     → length image ≡ 512 * sectors
 image_long disk image sectors is size =
-    ap (λ (bytes : List ℕ). length bytes) is
-    ∙ length-gather (shown_of disk).size (shown_of disk).content 0 (shown_of disk).size
-    (content_whole disk) (omega arith) ∙ ap (λ (n : ℕ). 512 * n) size
+    grind (
+      arith,
+      ap length is,
+      length-gather (shown_of disk).size (shown_of disk).content 0
+          (shown_of disk).size (content_whole disk) (omega arith),
+      size,
+    )
 
 image_agrees : (disk : SectorDisk) (image : List ℕ) (sectors : ℕ)
     → image ≡ gather (shown_of disk).content 0 (shown_of disk).size → (shown_of disk).size ≡ sectors
     → AgreeBelow sectors (shown_of disk).content (sector_of image)
 image_agrees disk image sectors is size sector below =
-    ap (λ (bytes : List ℕ). sector_of bytes sector) is
-    ∙ sector_of-gather (shown_of disk).size (shown_of disk).content (content_whole disk) sector
-    (omega (arith, size, below))
+    grind (
+      arith,
+      is,
+      sector_of-gather (shown_of disk).size (shown_of disk).content (content_whole
+          disk) sector (omega (arith, size, below)),
+    )
 
 -- `log` is the log's stack before its log is made, and `device` is this stack after the close.
 pub record IsLogStack (plan : RunPlan) (log device : Stack) (image : List ℕ) : Type 0 where
@@ -196,8 +193,12 @@ pub record IsLogStack (plan : RunPlan) (log device : Stack) (image : List ℕ) :
 disk_size : (plan : RunPlan) (log device : Stack) (image : List ℕ)
     → IsLogStack plan log device image → (shown_of (disk_of device)).size ≡ plan.log_disk.sectors
 disk_size plan log device image is =
-    sym (part_of_disk device).disk
-    ∙ ap (λ (p : Place). p.disk) (is.stands.place ∙ stack_place plan.log_disk log is.blank)
+    grind (
+      arith,
+      sym (part_of_disk device).disk,
+      is.stands.place ∙ stack_place plan.log_disk log
+          is.blank,
+    )
 
 leaves_image : (plan : RunPlan) (log device : Stack) (image : List ℕ) (few : ℕ) (core : CoreState)
     (end : Option End) → IsLogStack plan log device image
@@ -228,17 +229,15 @@ each_ran : (plan : RunPlan) (players : List Player) (seats : List Part) (tallies
 each_ran plan players seats tallies played parts told number seat there =
     let found =
     map_from (λ (p : Player). p.part) players number seat
-    (sym (ap (λ (ps : List Part). slice_get ps number) parts) ∙ there) in
+    (sym (grind (arith, parts)) ∙ there) in
     let player = found.0 in record {
       tally = player.tally;
       counted =
-          ap (λ (ts : List Tally). slice_get ts number) told
-          ∙ map_there (λ (p : Player). p.tally) players number player found.1;
+          grind (arith, told, map_there (λ (p : Player). p.tally) players number player found.1);
       receipts = player.receipts;
       kept = map_there (λ (p : Player). p.receipts) players number player found.1;
       ran =
-          subst (λ (part : Part). IsSeatRun plan.calls number part player.tally player.receipts)
-          found.2 (played.each number player found.1);
+          rw found.2 at (played.each number player found.1);
     }
 
 pub is_run : (ground : Ground) (bytes sectors : ℕ) (plan : RunPlan) (log : Stack)
@@ -271,12 +270,12 @@ is_run ground bytes sectors plan log players seats tallies receipts closed statu
     (sym fits.data_size) close))) in
     let is : IsLogStack plan log closed.log image =
     record { room = room; blank = blank; stands = here.stands; bytes = left } in
-    let none : lies.log_disk ≡ (stack_shown closed.log).lies = ap (λ (l : Lies). l.log_disk) lied in
+    let none : lies.log_disk ≡ (stack_shown closed.log).lies = grind (arith, lied) in
     record {
       seats = seats;
       count = seats_long players seats plan.seats played.count parts;
       tallied =
-          ap (λ (ts : List Tally). length ts) told ∙ map_long (λ (p : Player). p.tally) players
+          ap length told ∙ map_long (λ (p : Player). p.tally) players
           ∙ played.count;
       given = map (λ (p : Player). p.receipts) players;
       ran = each_ran plan players seats tallies played parts told;
@@ -287,29 +286,18 @@ is_run ground bytes sectors plan log players seats tallies receipts closed statu
       told = so;
       lied = lied;
       honest = λ never.
-          let can = blank.over.can_lie never in
-          none ∙ here.stands.honest can ∙ blank.over.lies;
+          grind arith;
       bytes = left;
       size =
           image_long (disk_of closed.log) image plan.log_disk.sectors left
           (disk_size plan log closed.log image is);
       logged =
-          λ zero. leaves_image plan log closed.log image closed.settled closed.core.state closed.end
-          is (here.crash (sym none ∙ zero));
+          λ zero. grind (arith, leaves_image, zero);
     }
 
 pub fails_unplayed : (plan : RunPlan) (refusal : Refusal) (fault : RunError) → IsUnplayed refusal
     → fault ≡ refused_by refusal → FailsRun plan fault
-fails_unplayed plan refusal fault why same =
-    subst (FailsRun plan) (sym same) (⊎_elim
-    (λ (is : refusal ≡ refusals.Memory). subst (λ (r : Refusal). FailsRun plan (refused_by r))
-    (sym is) memory)
-    (⊎_elim
-    (λ (is : refusal ≡ refusals.Busy). subst (λ (r : Refusal). FailsRun plan (refused_by r))
-    (sym is) busy)
-    (λ (is : refusal ≡ refusals.NoThread). subst (λ (r : Refusal). FailsRun plan (refused_by r))
-    (sym is) thread))
-    why)
+fails_unplayed plan refusal fault why same = grind (arith, memory, busy, thread)
 
 pub fails_unclosed : (plan : RunPlan) (players : List Player) (seats : List Part)
     (tallies : List Tally) (receipts : List Receipt) (refusal : Refusal) (fault : RunError)

@@ -46,7 +46,7 @@ own_more number (first ∷ before) line own =
         (before ++ line ∷ []))
         ≡ (if here then first.call ∷ calls_of number before else calls_of number before)
         ++ line.call ∷ []
-    also true rest = ap (λ (calls : List Call). first.call ∷ calls) rest
+    also true rest = grind (arith, rest)
     also false rest = rest
 
 pub other_more : (number : ℕ) (before : List SeatCall) (line : SeatCall)
@@ -60,7 +60,7 @@ other_more number (first ∷ before) line other =
         → (if here then first.call ∷ calls_of number (before ++ line ∷ []) else calls_of number
         (before ++ line ∷ []))
         ≡ (if here then first.call ∷ calls_of number before else calls_of number before)
-    also true rest = ap (λ (calls : List Call). first.call ∷ calls) rest
+    also true rest = grind (arith, rest)
     also false rest = rest
 
 own_few : (number : ℕ) (lines : List SeatCall) → length (calls_of number lines) ≤ length lines
@@ -78,7 +78,7 @@ made_more : (old between new : Part) (calls : List Call) (comes : List CallResul
     → AreMade old calls comes between → MakesCall between call came new
     → AreMade old (calls ++ call ∷ []) (comes ++ came ∷ []) new
 made_more old between new [] [] call came made one =
-    (new, subst (λ (part : Part). MakesCall part call came new) made one, refl)
+    (new, rw (← made) one, refl)
 made_more old between new [] (first ∷ comes) call came made one = absurd made
 made_more old between new (first ∷ calls) [] call came made one = absurd made
 made_more old between new (first ∷ calls) (one_came ∷ comes) call came made one =
@@ -105,7 +105,7 @@ many_no : (test : Outcome → Bool) (comes : List CallResult) (came : CallResult
     → how_many test (comes ++ came ∷ []) ≡ how_many test comes
 many_no test [] came is = let none = ap one_if is in omega (arith, none)
 many_no test (first ∷ comes) came is =
-    ap (λ (n : ℕ). one_if (test first.outcome) + n) (many_no test comes came is)
+    grind (arith, many_no test comes came is)
 
 at_most_one : (b : Bool) → one_if b ≤ 1
 at_most_one true = omega arith
@@ -122,46 +122,11 @@ came_to outcome receipt = record { outcome = outcome; receipt = receipt }
 
 tally_more : (comes : List CallResult) (outcome : Outcome) (receipt : Option Receipt)
     → tally_of (comes ++ came_to outcome receipt ∷ []) ≡ counted (tally_of comes) outcome
-tally_more comes Done receipt =
-    rw (
-      many_yes is_done comes (came_to Done receipt) refl,
-      many_no is_logged comes (came_to Done receipt) refl,
-      many_no is_failed comes (came_to Done receipt) refl,
-      many_no is_not_logged comes (came_to Done receipt) refl,
-      many_no is_refused comes (came_to Done receipt) refl,
-    ) refl
-tally_more comes Logged receipt =
-    rw (
-      many_no is_done comes (came_to Logged receipt) refl,
-      many_yes is_logged comes (came_to Logged receipt) refl,
-      many_no is_failed comes (came_to Logged receipt) refl,
-      many_no is_not_logged comes (came_to Logged receipt) refl,
-      many_no is_refused comes (came_to Logged receipt) refl,
-    ) refl
-tally_more comes Failed receipt =
-    rw (
-      many_no is_done comes (came_to Failed receipt) refl,
-      many_no is_logged comes (came_to Failed receipt) refl,
-      many_yes is_failed comes (came_to Failed receipt) refl,
-      many_no is_not_logged comes (came_to Failed receipt) refl,
-      many_no is_refused comes (came_to Failed receipt) refl,
-    ) refl
-tally_more comes NotLogged receipt =
-    rw (
-      many_no is_done comes (came_to NotLogged receipt) refl,
-      many_no is_logged comes (came_to NotLogged receipt) refl,
-      many_no is_failed comes (came_to NotLogged receipt) refl,
-      many_yes is_not_logged comes (came_to NotLogged receipt) refl,
-      many_no is_refused comes (came_to NotLogged receipt) refl,
-    ) refl
-tally_more comes Refused receipt =
-    rw (
-      many_no is_done comes (came_to Refused receipt) refl,
-      many_no is_logged comes (came_to Refused receipt) refl,
-      many_no is_failed comes (came_to Refused receipt) refl,
-      many_no is_not_logged comes (came_to Refused receipt) refl,
-      many_yes is_refused comes (came_to Refused receipt) refl,
-    ) refl
+tally_more comes Done receipt = grind (arith, many_yes, many_no)
+tally_more comes Logged receipt = grind (arith, many_no, many_yes)
+tally_more comes Failed receipt = grind (arith, many_no, many_yes)
+tally_more comes NotLogged receipt = grind (arith, many_no, many_yes)
+tally_more comes Refused receipt = grind (arith, many_no, many_yes)
 
 -- No count is larger than the number of calls, so each count can grow by one.
 has_room : (comes : List CallResult) → length comes < 2 ^ 64 - 1 → HasRoom (tally_of comes)
@@ -186,8 +151,12 @@ kept_more : (comes : List CallResult) (came : CallResult)
     → receipts_of (comes ++ came ∷ []) ≡ and_kept (receipts_of comes) came.receipt
 kept_more [] came = kept_alone came.receipt
 kept_more (first ∷ comes) came =
-    ap (λ (rest : List Receipt). and_kept [] first.receipt ++ rest) (kept_more comes came)
-    ∙ kept_behind (and_kept [] first.receipt) (receipts_of comes) came.receipt
+    grind (
+      arith,
+      kept_more comes came,
+      kept_behind (and_kept [] first.receipt) (receipts_of
+          comes) came.receipt,
+    )
 
 pub makes_request : (submission : Submission) (inside old : Player) (part : Part)
     (answer : Answer Receipt)
@@ -200,18 +169,12 @@ pub makes_request : (submission : Submission) (inside old : Player) (part : Part
 makes_request submission inside old part answer outcome given receipts same answered so has kept =
     record {
       came = came_to (outcome_of answer) (receipt_in answer);
-      made = (
-        answer,
-        subst (λ (p : Player). Answered p.part
-            (bio_of submission) answer part) same answered,
-        refl,
-      );
+      made = grind arith;
       told = sym so;
       kept =
-          kept ∙ ap (λ (p : Player). and_kept p.receipts given) same
-          ∙ ap (λ (r : Option Receipt). and_kept old.receipts r) has;
-      number = ap (λ (p : Player). p.number) same;
-      tally = ap (λ (p : Player). p.tally) same;
+          grind (arith, kept, same, ap (and_kept old.receipts) has);
+      number = grind (arith, same);
+      tally = grind (arith, same);
     }
 
 pub makes_mark : (text : List ℕ) (inside old : Player) (part : Part)
@@ -223,13 +186,12 @@ pub makes_mark : (text : List ℕ) (inside old : Player) (part : Part)
     (record { number = inside.number; part = part; tally = inside.tally; receipts = receipts })
 makes_mark text inside old part answer outcome given receipts same marked so has kept = record {
   came = came_to (mark_outcome answer) (mark_receipt_in answer);
-  made = (answer, subst (λ (p : Player). Marked p.part text answer part) same marked, refl);
+  made = (answer, rw (← same) marked, refl);
   told = sym so;
   kept =
-      kept ∙ ap (λ (p : Player). and_kept p.receipts given) same
-      ∙ ap (λ (r : Option Receipt). and_kept old.receipts r) has;
-  number = ap (λ (p : Player). p.number) same;
-  tally = ap (λ (p : Player). p.tally) same;
+      grind (arith, kept, same, ap (and_kept old.receipts) has);
+  number = grind (arith, same);
+  tally = grind (arith, same);
 }
 
 -- If memory runs out, a request has failed, a mark is refused, and the seat is unchanged.
@@ -237,11 +199,11 @@ pub fails : (submission : Submission) (old new : Player) → new ≡ old
     → Makes (Submit submission) old Failed new
 fails submission old new same = record {
   came = came_to Failed None;
-  made = (answers.Failed devices.Memory, inl (ap (λ (p : Player). p.part) same, inr refl), refl);
+  made = (answers.Failed devices.Memory, inl (grind (arith, same), inr refl), refl);
   told = refl;
-  kept = ap (λ (p : Player). p.receipts) same;
-  number = ap (λ (p : Player). p.number) same;
-  tally = ap (λ (p : Player). p.tally) same;
+  kept = grind (arith, same);
+  number = grind (arith, same);
+  tally = grind (arith, same);
 }
 
 pub refused : (text : List ℕ) (old new : Player) → new ≡ old → Makes (Mark text) old Refused new
@@ -250,16 +212,16 @@ refused text old new same = record {
   made = (
     marks.Refused refusals.Memory,
     (
-      ap (λ (p : Player). p.part) same,
+      grind (arith, same),
       λ bad. let no : refusals.Memory ≡ refusals.BadText = bad in
           cc,
     ),
     refl,
   );
   told = refl;
-  kept = ap (λ (p : Player). p.receipts) same;
-  number = ap (λ (p : Player). p.number) same;
-  tally = ap (λ (p : Player). p.tally) same;
+  kept = grind (arith, same);
+  number = grind (arith, same);
+  tally = grind (arith, same);
 }
 
 pub did_own : (old new : Player) (tally : Tally) (line : SeatCall) (outcome : Outcome)
@@ -269,24 +231,22 @@ pub did_own : (old new : Player) (tally : Tally) (line : SeatCall) (outcome : Ou
     → IsSeatRun before old.number old.part old.tally old.receipts
     → IsSeatRun (before ++ line ∷ []) old.number new.part tally new.receipts
 did_own old new tally line outcome own makes counts before few ran =
-    let short : length ran.calls < 2 ^ 64 - 1 =
-    omega (arith, made_length _ _ _ _ ran.made, own_few old.number before, few) in
-    let room : HasRoom old.tally = subst HasRoom (sym ran.told) (has_room ran.calls short) in
-    record {
-      calls = ran.calls ++ makes.came ∷ [];
-      made =
-          subst (λ (calls : List Call). AreMade (new_part old.number) calls
-          (ran.calls ++ makes.came ∷ []) new.part) (sym (own_more old.number before line own))
-          (made_more (new_part old.number) old.part new.part _ ran.calls line.call makes.came
-          ran.made makes.made);
-      told =
-          counts room ∙ ap (λ (t : Tally). counted t outcome) ran.told
-          ∙ ap (λ (o : Outcome). counted (tally_of ran.calls) o) (sym makes.told)
-          ∙ sym (tally_more ran.calls makes.came.outcome makes.came.receipt);
-      kept =
-          makes.kept ∙ ap (λ (receipts : List Receipt). and_kept receipts makes.came.receipt)
-          ran.kept ∙ sym (kept_more ran.calls makes.came);
-    }
+    grind (
+      arith,
+      length ran.calls,
+      made_length _ _ _ _ ran.made,
+      own_few old.number before,
+      has_room ran.calls (omega (
+        arith,
+        made_length _ _ _ _ ran.made,
+        own_few old.number before,
+        few,
+      )),
+      own_more,
+      made_more,
+      tally_more ran.calls makes.came.outcome makes.came.receipt,
+      kept_more ran.calls makes.came,
+    )
 
 pub did_other : (old : Player) (line : SeatCall) → (line.seat == old.number) ≡ false
     → (before : List SeatCall) → length before < 2 ^ 64 - 1
@@ -295,8 +255,7 @@ pub did_other : (old : Player) (line : SeatCall) → (line.seat == old.number) �
 did_other old line other before few ran = record {
   calls = ran.calls;
   made =
-      subst (λ (calls : List Call). AreMade (new_part old.number) calls ran.calls old.part)
-      (sym (other_more old.number before line other)) ran.made;
+      rw (other_more old.number before line other) ran.made;
   told = ran.told;
   kept = ran.kept;
 }
@@ -304,8 +263,7 @@ did_other old line other before few ran = record {
 pub skips : (line : SeatCall) (inside old : Player) → inside ≡ old
     → (line.seat == inside.number) ≡ false → DoesLine line old old
 skips line inside old same other =
-    subst (λ (p : Player). DoesLine line p p) same
-    (record { number = refl; ran = did_other inside line other })
+    rw (← same) (record { number = refl; ran = did_other inside line other })
 
 pub does : (line : SeatCall) (inside old second made : Player) (tally : Tally) (outcome : Outcome)
     → inside ≡ old → second ≡ made
@@ -318,13 +276,13 @@ pub does : (line : SeatCall) (inside old second made : Player) (tally : Tally) (
       receipts = second.receipts;
     })
 does line inside old second made tally outcome same later own makes counts = record {
-  number = ap (λ (p : Player). p.number) later ∙ makes.number;
+  number = grind (arith, later, makes.number);
   ran =
       did_own old second tally line outcome
-      (subst (λ (p : Player). (line.seat == p.number) ≡ true) same own)
-      (subst (λ (p : Player). Makes line.call old outcome p) (sym later) makes)
+      (rw (← same) own)
+      (rw later makes)
       (subst (λ (t : Tally). HasRoom t → tally ≡ counted t outcome)
-      (ap (λ (p : Player). p.tally) later ∙ makes.tally) counts);
+      (grind (arith, later, makes.tally)) counts);
 }
 
 pub did_more : (lines : List SeatCall) (line : SeatCall) (old between new : Player)
@@ -334,11 +292,7 @@ pub did_more : (lines : List SeatCall) (line : SeatCall) (old between new : Play
 did_more lines line old between new few does one = record {
   number = one.number ∙ does.number;
   ran = λ number is.
-      let here : between.number ≡ number = does.number ∙ ap (λ (p : Player). p.number) is in
-      subst (λ (n : ℕ). IsSeatRun (lines ++ line ∷ []) n new.part new.tally new.receipts) here
-      (one.ran lines few (subst
-      (λ (n : ℕ). IsSeatRun lines n between.part between.tally between.receipts) (sym here)
-      (does.ran number is)));
+      grind arith;
 }
 
 take_few : {A : Type 0} (n : ℕ) (xs : List A) → length (take n xs) ≤ n
@@ -358,7 +312,7 @@ pub does_next : (lines : List SeatCall) (place next : ℕ) (line : SeatCall)
     → DoesLine line between new → DoesLines (take next lines) old new
 does_next lines place next line old between new is few there before one =
     subst (λ (ls : List SeatCall). DoesLines ls old new)
-    (sym (ap (λ (n : ℕ). take n lines) is ∙ take_next lines place line there))
+    (sym (grind (arith, is, take_next lines place line there)))
     (did_more (take place lines) line old between new
     (let short = take_few place lines in omega (arith, short, few)) before one)
 

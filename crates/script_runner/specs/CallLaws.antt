@@ -16,7 +16,7 @@ appends_twice None b c x y first second = tt
 appends_twice (Some a) None c x y first second = absurd first
 appends_twice (Some a) (Some b) None x y first second = absurd second
 appends_twice (Some a) (Some b) (Some c) x y first second =
-    second ∙ ap (λ (z : List ℕ). z ++ y) first ∙ append_assoc a x y
+    second ∙ rw first (append_assoc a x y)
 
 -- If a writer appends `x` in one call, and keeps what it holds in the next, both calls together
 -- append `x`.

@@ -31,26 +31,21 @@ returns-in_default-clone-clause-asks g c =
 pub returns-in-Tracked-clause-asks : goal.returns-in-Tracked-clause-asks
 returns-in-Tracked-clause-asks g c = (
   c.in-Ok.ensures.made,
-  subst (λ (bio : Bio). Submits bio
-      (replies.Tracked c.in-Tracked.id) c.args.recorder.now c.event.new.self)
-      (c.in-Ok-clone.ensures.made ∙ c.in-Ok.ensures.made) c.in-Tracked.ensures.does,
+  rw (← c.in-Ok-clone.ensures.made ∙ c.in-Ok.ensures.made) c.in-Tracked.ensures.does,
 )
 
 pub returns-in-Passed-clause-asks : goal.returns-in-Passed-clause-asks
 returns-in-Passed-clause-asks g c = (
   c.in-Ok.ensures.made,
-  subst (λ (bio : Bio). Submits bio replies.Passed c.args.recorder.now c.event.new.self)
-      (c.in-Ok-clone.ensures.made ∙ c.in-Ok.ensures.made) c.in-Passed.ensures.does,
+  rw (← c.in-Ok-clone.ensures.made ∙ c.in-Ok.ensures.made) c.in-Passed.ensures.does,
 )
 
 pub returns-in_default-event : goal.returns-in_default-event
 returns-in_default-event g c = record {
   asks =
-      inr (subst (λ (bio : Bio). Submits bio
-      (replies.Refused Memory) c.args.recorder.now c.event.new.self)
-      (c.in-Ok-clone.ensures.made ∙ c.in-Ok.ensures.made)
-      (refused-only _ c.event.result c.args.recorder.now c.event.new.self c.event.ensures.does
-      c.in_default-event.not-Tracked c.in_default-event.not-Passed));
+      inr (rw (← c.in-Ok-clone.ensures.made ∙ c.in-Ok.ensures.made) (refused-only _ c.event.result
+      c.args.recorder.now c.event.new.self c.event.ensures.does c.in_default-event.not-Tracked
+      c.in_default-event.not-Passed));
   goes = c.event.ensures.goes;
   log_moment = c.event.ensures.moment;
 }

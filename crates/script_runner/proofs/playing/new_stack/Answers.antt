@@ -13,9 +13,7 @@ returns-in-Ok-clause-stack c =
     let made = c.new-2.ensures in
     let put = c.in-Ok.ensures in
     let named =
-    subst (λ (n : ℕ). layers_of c.in-Ok.stack
-    ≡ layers_under c.layers.result.now n
-    (layers_of c.new-2.result)) c.new-3.ensures put.layers in
+    rw c.new-3.ensures at put.layers in
     stacked c.args.disk.now c.in_ok-bare.bare c.new-2.result c.in-Ok.stack c.sectors.ensures
     c.layers.ensures c.in_ok-bare.ensures made.layers made.disk made.shown
     named put.disk put.shown

@@ -10,8 +10,7 @@ use Rattle.script_runner.proofs.playing.play.Goals as goal
 
 pub start_on-requires : goal.start_on-requires
 start_on-requires g c =
-    subst (λ (size : SectorSize). bytes_of size / 512 ≤ (g.L.BlockDev.shown c.args.log).size)
-    (sym c.log_size.ensures.size) c.requires.room
+    rw c.log_size.ensures.size c.requires.room
 
 pub returns-in_err-running-clause-played : goal.returns-in_err-running-clause-played
 returns-in_err-running-clause-played g c =
@@ -27,8 +26,7 @@ returns-in_err-running-clause-faults g c =
 
 pub run-requires-clause-size : goal.run-requires-clause-size
 run-requires-clause-size g c =
-    ap (λ (d : g.row.D.Denot). (g.D.BlockDev.shown d).size) c.in_ok-running.ensures.starts.disk_is
-    ∙ c.requires.size
+    rw c.in_ok-running.ensures.starts.disk_is c.requires.size
 
 pub run-requires-clause-sectors : goal.run-requires-clause-sectors
 run-requires-clause-sectors g c =
@@ -69,6 +67,5 @@ returns-clause-played g c =
       left = c.into_parts-recorder.ensures.recorder;
       found = c.had_memory-ample.ensures;
       lied =
-          c.lies.ensures ∙ ap (λ (d : g.row.D.Denot).
-          (g.D.BlockDev.shown d).lies) c.into_parts-recorder.ensures.device;
+          c.lies.ensures ∙ rw c.into_parts-recorder.ensures.device;
     }

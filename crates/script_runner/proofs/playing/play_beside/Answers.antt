@@ -27,8 +27,7 @@ play-requires-clause-room g c = c.requires
 pub play-requires-clause-size : goal.play-requires-clause-size
 play-requires-clause-size g c =
     stack_size c.args.script.now.data_disk c.in_ok-data.data
-    (subst (λ (disk : Disk). IsStackOf disk c.in_ok-data.data) c.data.ensures.disk
-    c.in_ok-data.ensures.stack)
+    (rw (← c.data.ensures.disk) c.in_ok-data.ensures.stack)
 
 pub returns-clause-played : goal.returns-clause-played
 returns-clause-played g c =

@@ -11,19 +11,10 @@ pub returns-in_err-log-clause-played : goal.returns-in_err-log-clause-played
 returns-in_err-log-clause-played g c = if_failed _ c.from_residual.result c.from_residual.ensures.0
 
 pub returns-in_err-log-clause-faults : goal.returns-in_err-log-clause-faults
-returns-in_err-log-clause-faults g c =
-    on_error c.from_residual.result c.from_residual.ensures.1
-    (λ fault is. subst (FailsOnDisks _ _ _ _) (sym is) (file _ (inr c.in_err-log.ensures.faults)))
+returns-in_err-log-clause-faults g c = grind (arith, on_error, file)
 
 pub play_beside-requires : goal.play_beside-requires
-play_beside-requires g c =
-    let plan = c.args.script.now in
-    let size : (stack_shown c.in_ok-log.log).size ≡ top_of plan.log_disk =
-    stack_size plan.log_disk c.in_ok-log.log
-    (subst (λ (disk : Disk). IsStackOf disk c.in_ok-log.log) c.log.ensures.disk
-    c.in_ok-log.ensures.stack) in
-    let room = c.log.ensures.script.room in
-    omega (arith, size, room)
+play_beside-requires g c = grind (arith, stack_size)
 
 pub returns-clause-played : goal.returns-clause-played
 returns-clause-played g c =
@@ -37,5 +28,4 @@ returns-clause-played g c =
 pub returns-clause-faults : goal.returns-clause-faults
 returns-clause-faults g c = if_err c.play_beside.result c.play_beside.ensures.faults (λ fault fails.
     fails_on_disks c.args.text.now c.args.script.now c.in_ok-log.log _ _ fault
-    (subst (λ (disk : Disk). IsStackOf disk c.in_ok-log.log) c.log.ensures.disk
-    c.in_ok-log.ensures.stack) fails)
+    (rw (← c.log.ensures.disk) c.in_ok-log.ensures.stack) fails)

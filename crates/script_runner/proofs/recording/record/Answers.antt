@@ -42,8 +42,7 @@ returns-clause-recorded g c =
     λ honest left may. c.crashed_logs_replay_to_what_could_be.ensures.between last.recorder
     left honest may in
     let sound =
-    subst (λ (r : DiskRecorder). IsSound
-    (core_of r)) played.left c.recorders_are_sound.ensures.core in
+    rw played.left at c.recorders_are_sound.ensures.core in
     let same = c.into_device-log.ensures ∙ ap (λ (r : DiskRecorder). r.store.device) played.left in
     let lied =
     same_lies (record {

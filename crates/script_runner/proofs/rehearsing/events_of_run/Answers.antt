@@ -57,7 +57,7 @@ pub returns-clause-faults : goal.returns-clause-faults
 returns-clause-faults c =
     let played = c.in_ok-played.ensures.played in
     let events : c.events.result.now ≡ (core_of played.last.recorder).events =
-    c.events.ensures.events ∙ ap (λ (r : DiskRecorder). (core_of r).events) played.left in
+    c.events.ensures.events ∙ rw played.left in
     of_refused c.kept_if.result _ _ c.kept_if.ensures.refused (λ fault is.
     inr (
       record {
@@ -68,11 +68,7 @@ returns-clause-faults c =
         ran = played.ran;
         short =
             ran_out played.last.short (list_all is_asked played.last.requests.items) _
-            (ap (λ (a : Bool). a && not (list_any is_memory_stop (core_of played.last.recorder).events))
-            (sym played.found)
-            ∙ ap (λ (es : List CoreEvent). c.in_ok-played.played.ample
-            && not (list_any is_memory_stop es)) (sym events)
-            ∙ sym c.had_memory-ample.ensures ∙ is.1);
+            (rw (← played.found, ← events) (sym c.had_memory-ample.ensures ∙ is.1));
       },
       is.0,
     ))
@@ -89,7 +85,7 @@ returns-clause-rehearsed c =
       text = played.text;
       last = played.last;
       ran = played.ran;
-      recorded = ap (λ (r : DiskRecorder). (core_of r).events) played.left;
+      recorded = rw played.left;
       short = is_off played.last.short all.0;
       asked = all.1;
       ample = ap (list_any is_memory_stop) (sym c.events.ensures.events) ∙ is_off _ both.1;
@@ -100,8 +96,7 @@ returns-clause-lawful c =
     let script = c.args.script.now in
     let played = c.in_ok-played.ensures.played in
     let well_formed =
-    subst (λ (r : DiskRecorder). is_well_formed (core_of r).events
-    ≡ true) played.left c.events.ensures.core.well_formed in
+    rw played.left at c.events.ensures.core.well_formed in
     of_kept c.kept_if.result _ _ _ c.kept_if.ensures.kept (λ found.
     subst (λ (r : DiskRecorder). is_lawful (top_of script.data_disk) (core_of r).events ≡ true)
     (sym played.left)

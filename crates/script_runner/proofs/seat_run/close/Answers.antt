@@ -6,7 +6,7 @@ use Rattle.script_runner.proofs.seat_run.close.Goals as goal
 
 of_foreign : {A B : Type 0} (unclosed : Unclosed A B) (back : B) (P : B → Type 0)
     → unclosed ≡ Foreign back → IfForeign unclosed P → P back
-of_foreign unclosed back P is told = subst (λ u. IfForeign u P) is told
+of_foreign unclosed back P is told = rw is at told
 
 pub returns-clause-refused : goal.returns-clause-refused
 returns-clause-refused g c =

@@ -18,8 +18,6 @@ loop-work-preserved g c =
       mapped_next (λ (p : Player). p.tally) players player c.loop-work.tallies.items
           c.push.new.self.items _ c.in_ok-push.ensures.items before.3
           (ap (λ (p : Player). p.tally) view),
-      c.in_ok-append.ensures.items
-          ∙ ap (λ (receipts : List Receipt). c.loop-work.receipts.items ++ receipts)
-          (ap (λ (p : Player). p.receipts) view)
-          ∙ joined_next players player c.loop-work.receipts.items before.4,
+      c.in_ok-append.ensures.items ∙ rw (ap (λ (p : Player). p.receipts) view) (joined_next
+          players player c.loop-work.receipts.items before.4),
     )

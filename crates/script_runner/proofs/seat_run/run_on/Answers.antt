@@ -39,4 +39,4 @@ returns-clause-ran g c =
     c.requires.ground c.requires.script.room c.requires.log c.in_ok-works-2.ensures.played
     c.in_ok-seats.ensures.seats (left.tallies ∙ c.in_ok-seats.ensures.tallies)
     c.in_ok-seats.ensures.receipts c.in_ok-closed.ensures.closed left.status left.lies
-    (ap (λ (disk : SectorDisk). gather (shown_of disk).content 0 (shown_of disk).size) left.disk)
+    (rw left.disk)

@@ -20,8 +20,7 @@ returns g c = record {
     answer = c.drain-ended.result;
     drains = c.drain-ended.ensures.drains;
     short =
-        ap (λ (b : Bool). c.args.self.now.short || b)
-        (c.is_memory_end.ensures ∙ ap is_memory_end c.last_turn.ensures);
+        rw (c.is_memory_end.ensures ∙ ap is_memory_end c.last_turn.ensures);
   };
   goes =
       c.several_calls_go_as_one.ensures.two c.args.self.now.recorder c.event.new.self

@@ -26,7 +26,7 @@ returns-clause-runs g c = on_ok c.print_mark.result c.print_mark.ensures.output 
         kept = refl;
         reply = reply;
         marks = marks;
-        short = ap (λ (b : Bool). c.args.self.now.short || b) c.is_refusal.ensures;
+        short = rw c.is_refusal.ensures;
         prints = mark_prints c.args.text.now reply old new marks c.requires;
       },
       printed,

@@ -18,8 +18,7 @@ use Rattle.script_runner.proofs.running.Running.message.Goals as goal
 pub invariant_of-self : goal.invariant_of-self
 invariant_of-self g c = record {
   fits =
-      subst (λ (n : ℕ). IsTrue (list_all (fits_device n) c.args.self.now.requests.items))
-      (sym c.message-answer.ensures.same.size) c.args.self.now.fits;
+      rw c.message-answer.ensures.same.size c.args.self.now.fits;
 }
 
 pub invariant_of-self-in-Log : goal.invariant_of-self-in-Log
@@ -39,15 +38,13 @@ returns-in-Ok-clause-tells g c =
           (sym w.answer-is ∙ c.in-Ok.is) w.message-answer.ensures.answers in
           subst (λ (over : DiskName). SendsToLayer m over c.args.layer c.args.text.now [] run
           c.match-over.self) (sym w.in-Data.is)
-          (subst (λ (now : Running g.row.D.Denot g.row.L.Denot g.D.BlockDev g.L.BlockDev).
-          SendsToData
-          m c.args.layer c.args.text.now [] run now) (sym w.self-is) (record {
+          (rw w.self-is (record {
             log = refl;
             kept = refl;
             short = refl;
-            takes =
-                subst (λ (asked : List ℕ). g.D.Message.answers run.disk c.args.layer asked
-                (Ok tt) w.message-answer.new.self) text taken;
+            takes = subst (λ (asked :
+                List ℕ). g.D.Message.answers run.disk c.args.layer asked (Ok tt)
+                w.message-answer.new.self) text taken;
             unchanged = w.message-answer.ensures.same;
             prints = refl;
           }))
@@ -61,16 +58,13 @@ returns-in-Ok-clause-tells g c =
           (sym w.answer-is ∙ c.in-Ok.is) told.answers in
           subst (λ (over : DiskName). SendsToLayer m over c.args.layer c.args.text.now [] run
           c.match-over.self) (sym w.in-Log.is)
-          (subst (λ (now : Running g.row.D.Denot g.row.L.Denot g.D.BlockDev g.L.BlockDev).
-          SendsToLog
-          m c.args.layer c.args.text.now [] run now) (sym w.self-is) (record {
+          (rw w.self-is (record {
             keeps = record { device = refl; kept = refl; prints = refl };
             short = refl;
-            takes =
-                subst (λ (asked : List ℕ). g.L.Message.answers run.recorder.store.device
-                c.args.layer asked (Ok tt) last.store.device) text taken;
+            takes = subst (λ (asked : List ℕ). g.L.Message.answers
+                run.recorder.store.device c.args.layer asked (Ok tt) last.store.device) text taken;
             unchanged = told.device;
-            core = ap (λ (shown : CoreShown). shown.state) told.core;
+            core = rw told.core;
             end = told.end;
             store = told.same;
             log_moment = told.moment;
@@ -80,25 +74,17 @@ returns-in-Ok-clause-tells g c =
 pub returns-in-Ok-clause-goes : goal.returns-in-Ok-clause-goes
 returns-in-Ok-clause-goes g c = elim c.match-over.branch [
   | in-Data w ↦
-      subst (λ (run : Running g.row.D.Denot g.row.L.Denot g.D.BlockDev g.L.BlockDev). RecorderFrame
-      (recorder_view c.args.self.now.recorder) (recorder_view run.recorder)) (sym w.self-is)
-      (c.several_calls_go_as_one.ensures.none c.args.self.now.recorder)
+      rw w.self-is (c.several_calls_go_as_one.ensures.none c.args.self.now.recorder)
   | in-Log w ↦
-      subst (λ (run : Running g.row.D.Denot g.row.L.Denot g.D.BlockDev g.L.BlockDev). RecorderFrame
-      (recorder_view c.args.self.now.recorder) (recorder_view run.recorder)) (sym w.self-is)
-      w.message-answer-in-Log.ensures.goes
+      rw w.self-is w.message-answer-in-Log.ensures.goes
 ]
 
 pub returns-in-Err-clause-goes : goal.returns-in-Err-clause-goes
 returns-in-Err-clause-goes g c = elim c.match-over.branch [
   | in-Data w ↦
-      subst (λ (run : Running g.row.D.Denot g.row.L.Denot g.D.BlockDev g.L.BlockDev). RecorderFrame
-      (recorder_view c.args.self.now.recorder) (recorder_view run.recorder)) (sym w.self-is)
-      (c.several_calls_go_as_one.ensures.none c.args.self.now.recorder)
+      rw w.self-is (c.several_calls_go_as_one.ensures.none c.args.self.now.recorder)
   | in-Log w ↦
-      subst (λ (run : Running g.row.D.Denot g.row.L.Denot g.D.BlockDev g.L.BlockDev). RecorderFrame
-      (recorder_view c.args.self.now.recorder) (recorder_view run.recorder)) (sym w.self-is)
-      w.message-answer-in-Log.ensures.goes
+      rw w.self-is w.message-answer-in-Log.ensures.goes
 ]
 
 pub returns-in-Err-clause-refused : goal.returns-in-Err-clause-refused
@@ -119,8 +105,7 @@ returns-in-Err-clause-refused g c =
           subst (λ (over : DiskName). RefusesMessage m over c.args.layer c.args.text.now error run)
           (sym w.in-Data.is) (
             last,
-            subst (λ (asked : List ℕ). g.D.Message.answers run.disk c.args.layer asked
-                (Err error) last) text taken,
+            rw (← text) taken,
           )
       | in-Log w ↦
           let last = w.message-answer-in-Log.new.self.store.device in
@@ -131,24 +116,22 @@ returns-in-Err-clause-refused g c =
           subst (λ (over : DiskName). RefusesMessage m over c.args.layer c.args.text.now error run)
           (sym w.in-Log.is) (
             last,
-            subst (λ (asked : List ℕ). g.L.Message.answers run.recorder.store.device
-                c.args.layer asked (Err error) last) text taken,
+            rw (← text) taken,
           )
     ] in (error, ap AtLine c.from.ensures, refused)
 
 pub returns-in-Ok-clause-keeps : goal.returns-in-Ok-clause-keeps
 returns-in-Ok-clause-keeps g c = elim c.match-over.branch [
   | in-Data w ↦
-      subst (λ (run : Running g.row.D.Denot g.row.L.Denot g.D.BlockDev g.L.BlockDev). StepKeeps
-      c.args.self.now run) (sym w.self-is) (record {
+      rw w.self-is (record {
         moment = refl;
         log_moment = refl;
-        size = w.message-answer.ensures.same.size;
+        size =
+            w.message-answer.ensures.same.size;
         count = refl;
       })
   | in-Log w ↦
-      subst (λ (run : Running g.row.D.Denot g.row.L.Denot g.D.BlockDev g.L.BlockDev). StepKeeps
-      c.args.self.now run) (sym w.self-is) (record {
+      rw w.self-is (record {
         moment = refl;
         log_moment = w.message-answer-in-Log.ensures.moment;
         size = refl;
@@ -159,16 +142,15 @@ returns-in-Ok-clause-keeps g c = elim c.match-over.branch [
 pub returns-in-Err-clause-keeps : goal.returns-in-Err-clause-keeps
 returns-in-Err-clause-keeps g c = elim c.match-over.branch [
   | in-Data w ↦
-      subst (λ (run : Running g.row.D.Denot g.row.L.Denot g.D.BlockDev g.L.BlockDev). StepKeeps
-      c.args.self.now run) (sym w.self-is) (record {
+      rw w.self-is (record {
         moment = refl;
         log_moment = refl;
-        size = w.message-answer.ensures.same.size;
+        size =
+            w.message-answer.ensures.same.size;
         count = refl;
       })
   | in-Log w ↦
-      subst (λ (run : Running g.row.D.Denot g.row.L.Denot g.D.BlockDev g.L.BlockDev). StepKeeps
-      c.args.self.now run) (sym w.self-is) (record {
+      rw w.self-is (record {
         moment = refl;
         log_moment = w.message-answer-in-Log.ensures.moment;
         size = refl;

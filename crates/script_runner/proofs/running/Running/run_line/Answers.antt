@@ -34,19 +34,11 @@ returns-in-Message-clause-faults g c =
 
 pub returns-in-Submit-clause-runs : goal.returns-in-Submit-clause-runs
 returns-in-Submit-clause-runs g c =
-    subst (λ (command : Command). OnOk c.submit.result
-    (PrintsLine (answering g.D.Message.answers g.L.Message.answers) c.args.names.now command
-    (g.O.Write.contents c.args.out.now)
-    (g.O.Write.contents c.submit.new.out) c.args.self.now c.submit.new.self))
-    (sym c.in-Submit.is) c.submit.ensures.runs
+    rw c.in-Submit.is c.submit.ensures.runs
 
 pub returns-in-Complete-clause-runs : goal.returns-in-Complete-clause-runs
 returns-in-Complete-clause-runs g c =
-    subst (λ (command : Command). OnOk c.complete.result
-    (PrintsLine (answering g.D.Message.answers g.L.Message.answers) c.args.names.now command
-    (g.O.Write.contents c.args.out.now)
-    (g.O.Write.contents c.complete.new.out) c.args.self.now c.complete.new.self))
-    (sym c.in-Complete.is) c.complete.ensures.runs
+    rw c.in-Complete.is c.complete.ensures.runs
 
 pub returns-in-Close-clause-runs : goal.returns-in-Close-clause-runs
 returns-in-Close-clause-runs g c =

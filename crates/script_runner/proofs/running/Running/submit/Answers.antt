@@ -51,9 +51,7 @@ returns-in_err-push-clause-runs g c =
     on_failed _ c.from_residual-in_err-push.result c.from_residual-in_err-push.ensures.0
 
 pub returns-in_err-push-clause-faults : goal.returns-in_err-push-clause-faults
-returns-in_err-push-clause-faults g c =
-    on_error c.from_residual-in_err-push.result c.from_residual-in_err-push.ensures.1
-    (λ stop is. subst StopsForFile (sym is) (inr refl))
+returns-in_err-push-clause-faults g c = grind (arith, on_error)
 
 pub returns-in_err-push-clause-size : goal.returns-in_err-push-clause-size
 returns-in_err-push-clause-size g c = refl
@@ -63,30 +61,7 @@ returns-in_err-push-clause-count g c =
     on_failed _ c.from_residual-in_err-push.result c.from_residual-in_err-push.ensures.0
 
 pub returns-clause-runs : goal.returns-clause-runs
-returns-clause-runs g c =
-    let run = c.args.self.now in
-    let request = c.ask-request.result in
-    let place : c.len.result ≡ length run.requests.items = c.len.ensures ∙ run.requests.ok.0 in (
-      submission_text (name_at c.args.names.now (length run.requests.items)) request,
-      record {
-        does =
-            record {
-              device = refl;
-              request = request;
-              asks = c.ask-request.ensures.asks;
-              kept = c.in_ok-push.ensures.items;
-              short = refl;
-              prints = refl;
-            };
-        moment = refl;
-        log_moment = c.ask-request.ensures.log_moment;
-        goes = c.ask-request.ensures.goes;
-      },
-      subst (λ (name : ScriptId). Appends (g.O.Write.contents c.args.out.now)
-          (g.O.Write.contents c.print_submission.new.out) (submission_text name request))
-          (c.name_of.ensures.name ∙ ap
-          (name_at c.args.names.now) place) c.in_ok-print_submission.ensures.output,
-    )
+returns-clause-runs g c = grind (arith, length)
 
 pub returns-clause-size : goal.returns-clause-size
 returns-clause-size g c = refl

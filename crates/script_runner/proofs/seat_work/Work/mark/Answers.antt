@@ -7,8 +7,7 @@ use Rattle.script_runner.proofs.seat_work.Work.mark.Goals as goal
 pub returns : goal.returns
 returns g c =
     let kept =
-    c.keep.ensures ∙ ap (λ (receipts : List Receipt). and_kept receipts
-    c.mark_receipt.result) c.reserve.ensures.items in
+    c.keep.ensures ∙ rw c.reserve.ensures.items in
     record {
       made =
           makes_mark c.args.text.now _ c.args.self.now c.mark-answer.new.seat c.mark-answer.result

@@ -12,8 +12,7 @@ returns g c =
     let old = c.self.inside.seat in
     let suits = c.in-Ok.ensures.suits g.R.Run.sector_bytes g.R.Run.sectors c.requires in
     let tested =
-    subst (λ (bio : Bio). check_sized_answer g.R.Run.sector_bytes bio g.R.Run.sectors
-    ≡ Ok tt) (sym c.in-Ok.ensures.made) suits in
+    rw (← c.in-Ok.ensures.made) at suits in
     let answered =
     subst (λ (bio : Bio). Answered old bio c.submit-answer.result c.submit-answer.new.seat)
     c.in-Ok.ensures.made

@@ -50,18 +50,6 @@ impl Link {
     fn from(&self) -> usize {
         self.from
     }
-
-    fn lead(&mut self, to: usize)
-        ensures { self.new ≡ to }
-    {
-        self.to = to;
-    }
-
-    fn note(&mut self, from: usize)
-        ensures { self.new ≡ self.old }
-    {
-        self.from = from;
-    }
 }
 
 /// The last row of a chain, if the chain has rows: an `Option<usize>` in one word.
@@ -190,22 +178,14 @@ impl Links {
     {
         match change {
             Change::Last(chain, row) => self.lasts[chain] = LastRow::new(row),
-            Change::Next(row, to) => self.lead(row, to),
+            Change::Next(row, to) => {
+                self.next[row].to = to;
+                if to < self.next.len() {
+                    self.next[to].from = row;
+                }
+            }
         }
         self.changed = self.changed.saturating_add(1);
-    }
-
-    // Makes the link of `row` lead to `to`, and notes `row` at `to`.
-    fn lead(&mut self, row: usize, to: usize)
-        requires { row < length self.old.next.items }
-        ensures next { self.new.next.items ≡ slice_set self.old.next.items row to }
-        ensures rest { self.new ≡ record self.old { next = self.new.next } }
-        ensures room { vec_capacity self.new.next ≡ vec_capacity self.old.next }
-    {
-        self.next[row].lead(to);
-        if to < self.next.len() {
-            self.next[to].note(row);
-        }
     }
 
     /// Makes room for `more` more chains.

@@ -19,9 +19,9 @@ use Rattle.pending.specs.QueueEvent.{first_need, is_at, is_needed_by, queue_even
 use Rattle.pending.specs.QueueEvent.{log_writes_order, unless_stopped}
 use Rattle.pending.specs.CompletionList.{IsListedAt, completion_list, dm_log_writes, entry_at}
 use Rattle.pending.specs.CompletionList.{own_end}
-use Rattle.pending.proofs.Order.{ends-there, flush_submit-some, listed-queued, listed-sorted}
-use Rattle.pending.proofs.Order.{open-queue_event, own-queue_event, plain-queue_event}
-use Rattle.pending.proofs.Order.{queued-listed, queued-within, unstopped}
+use Rattle.pending.proofs.Order.{ends-there, flush_submit-some, listed_queued, listed_sorted}
+use Rattle.pending.proofs.Order.{open_queue_event, own_queue_event, plain-queue_event}
+use Rattle.pending.proofs.Order.{queued_listed, queued-within, unstopped}
 use Rattle.pending.proofs.LinkChains.{linked-here, needed-flush, needed-linked, needing-recorded}
 use Rattle.pending.proofs.LinkChains.{recorded-earlier}
 use Rattle.pending.proofs.OneStep.{is_at-some}
@@ -135,7 +135,7 @@ queued-by events id end event bio is ends after within needed logging =
       | inl own ↦ record {
         first_event = end;
         queued =
-            grind (arith, own-queue_event, in-time);
+            grind (arith, own_queue_event, in-time);
         order = omega arith;
       }
       | inr plain ↦
@@ -165,7 +165,7 @@ durable-queued events moment sector id safe durable =
     let there = durable.there in
     let bio = there.bio in
     elim (bool_cases (has_flush bio || has_fua bio)) [
-      | inl own ↦ grind (arith, own-queue_event, going-on)
+      | inl own ↦ grind (arith, own_queue_event, going-on)
       | inr plain ↦ elim durable.durable [
         | inl fua ↦ absurd (let either = second_holds (has_flush bio) (has_fua bio) fua in cc)
         | inr flushed ↦
@@ -279,7 +279,7 @@ pub found-queued : (events : List CoreEvent) (earlier later event : ℕ)
     → IsQueuedBy events earlier event
 found-queued events earlier later event found queued = elim (option_cases (end_of events later)) [
   | inl endless ↦
-      absurd (let none = open-queue_event events later found.second found.second_is endless in cc)
+      absurd (let none = open_queue_event events later found.second found.second_is endless in cc)
   | inr some ↦
       let stop = first_place is_stop events in
       let at =
@@ -297,7 +297,7 @@ pub found-first : (size : ℕ) (events : List CoreEvent) (earlier later i j : �
     → slice_get (completion_list (dm_log_writes size) events) j ≡ Some (later, y) → i < j
 found-first size events earlier later i j x y well_formed found first second =
     let profile = dm_log_writes size in
-    let queues = listed-queued profile events j (later, y) well_formed second in
+    let queues = listed_queued profile events j (later, y) well_formed second in
     let event = queues.1.0 in
     let queued = found-queued events earlier later event found queues.1.2.queues in
     let own = ends-there events earlier found.end found.ends in
@@ -308,7 +308,7 @@ found-first size events earlier later i j x y well_formed found first second =
             grind arith
         | inr swapped ↦
             let sorted =
-            listed-sorted profile events j i (later, y)
+            listed_sorted profile events j i (later, y)
             (earlier, x) well_formed swapped second first in
             let first_same : sorted.first_event ≡ event = let a = sorted.first_queued.queues in
             let b = queues.1.2.queues in cc in
@@ -334,10 +334,10 @@ pub found-stands : (size : ℕ) (events : List CoreEvent) (earlier later j : ℕ
     → (i : ℕ) × IsListedAt (completion_list (dm_log_writes size) events) earlier i × (i < j)
 found-stands size events earlier later j well_formed found listed =
     let queues =
-    listed-queued (dm_log_writes size) events j (later, listed.0) well_formed listed.1 in
+    listed_queued (dm_log_writes size) events j (later, listed.0) well_formed listed.1 in
     let queued = found-queued events earlier later queues.1.0 found queues.1.2.queues in
     let stands =
-    queued-listed (dm_log_writes size) events earlier queued.first_event queued.queued in
+    queued_listed (dm_log_writes size) events earlier queued.first_event queued.queued in
     let entry = entry_at size (slice_get events earlier) in (
       stands.0,
       (entry, stands.1),

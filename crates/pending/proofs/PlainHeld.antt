@@ -23,7 +23,7 @@ use Rattle.bio.specs.Requests.{has_fua}
 use Rattle.log_format.specs.declared.entry.Entry.{Entry}
 use Rattle.log_format.specs.Entries.{is_sector_size}
 use Rattle.log_format.specs.Replay.{replay}
-use Rattle.pending.proofs.Order.{ends-there, flush_submit-some, listed-queued}
+use Rattle.pending.proofs.Order.{ends-there, flush_submit-some, listed_queued}
 use Rattle.pending.proofs.Possibles.{aligned-at, entry-values, entry_values, last-value}
 use Rattle.pending.specs.CompletionList.{Item, completion_list, dm_log_writes, entries_at}
 use Rattle.pending.specs.CompletionList.{entries_of, entry_at, ids_of}
@@ -355,12 +355,12 @@ slice_get-beginning (suc n) k [] x is = cc
 slice_get-beginning (suc n) zero (y ∷ xs) x is = is
 slice_get-beginning (suc n) (suc k) (y ∷ xs) x is = slice_get-beginning n k xs x is
 
-pub first-entries : (size : ℕ) (events : List CoreEvent) (count : ℕ) → is_well_formed events ≡ true
+pub first_entries : (size : ℕ) (events : List CoreEvent) (count : ℕ) → is_well_formed events ≡ true
     → entries_of (take count (completion_list (dm_log_writes size) events))
     ≡ entries_at size events (take count (ids_of (completion_list (dm_log_writes size) events)))
-first-entries size events count well_formed =
+first_entries size events count well_formed =
     let items = completion_list (dm_log_writes size) events in
     entries-are size events (take count items)
-    (λ k item is. (listed-queued (dm_log_writes size) events k item well_formed
+    (λ k item is. (listed_queued (dm_log_writes size) events k item well_formed
     (slice_get-beginning count k items item is)).0)
     ∙ ap (entries_at size events) (sym (take-map (λ (item : Item). item.0) count items))

@@ -21,10 +21,10 @@ use Rattle.pending.specs.CompletionList.{dm_log_writes, entry_at, ids_of, own_en
 use Rattle.pending.specs.Plain.{AClose, AMark, AtClose, AtEnd, AtFlush, AtFua, Chain, Covers}
 use Rattle.pending.specs.Plain.{Direct, GoesOn, IsCompletionList, Later, Need, Overlap, Queued}
 use Rattle.pending.specs.Plain.{Queues, Submits, Through}
-use Rattle.pending.proofs.Order.{ends-there, listed-queued, listed-sorted, own-queue_event}
-use Rattle.pending.proofs.Order.{plain-queue_event, queued-listed, unstopped}
+use Rattle.pending.proofs.Order.{ends-there, listed_queued, listed_sorted, own_queue_event}
+use Rattle.pending.proofs.Order.{plain-queue_event, queued_listed, unstopped}
 use Rattle.pending.proofs.PlainHeld.{and_holds, puts-values, values-puts}
-use Rattle.pending.proofs.Words.{first-need-queues, need-recorded, recorded-need}
+use Rattle.pending.proofs.Words.{first_need_queues, need-recorded, recorded-need}
 
 covers-plain : (bio : Bio) (sector : ℕ) → covers bio sector ≡ true → Covers bio sector
 covers-plain bio sector covered =
@@ -160,7 +160,7 @@ plain-queued events id end place well_formed (AtEnd _ bio ok is ends own) goes =
     grind (
       arith,
       well_formed-end events end id ok well_formed ends,
-      own-queue_event,
+      own_queue_event,
       plain-goes_on,
     )
 plain-queued events id end place well_formed (Later _ _ bio ok is ends plain after need none) goes =
@@ -169,7 +169,7 @@ plain-queued events id end place well_formed (Later _ _ bio ok is ends plain aft
     let no = or_false (has_flush bio) (has_fua bio) plain in
     record {
       queues =
-          first-need-queues events id end place bio is no.0 no.1 ended.ends (record {
+          first_need_queues events id end place bio is no.0 no.1 ended.ends (record {
             within = stands.0;
             after = after;
             needs = plain-need events end bio place well_formed need;
@@ -189,7 +189,7 @@ submitted-plain events id end place bio well_formed is queued =
       | inl own ↦
           let found =
           unstopped (first_place is_stop events) (end_of events id) place
-          (sym (own-queue_event events id bio is own) ∙ queued.queues) in
+          (sym (own_queue_event events id bio is own) ∙ queued.queues) in
           let same : end ≡ place = let both : Some end ≡ Some place = sym ends ∙ found in cc in
           subst (λ p. Queues events id end p) same (AtEnd end bio there.2.0 is there.2.1 own)
       | inr plain ↦
@@ -276,12 +276,12 @@ list-plain size events well_formed =
     let items = completion_list (dm_log_writes size) events in
     record {
       has = λ id end place queued.
-          let listed = queued-listed (dm_log_writes size) events id place
+          let listed = queued_listed (dm_log_writes size) events id place
           (plain-queued events id end place well_formed queued.0 queued.1).queues in
           (listed.0, there-item items listed.0 (id, entry_at size (slice_get events id)) listed.1);
       only = λ n id is.
           let item = item-there items n id is in
-          let queued = (listed-queued (dm_log_writes size) events n item.0 well_formed item.1).1 in (
+          let queued = (listed_queued (dm_log_writes size) events n item.0 well_formed item.1).1 in (
             queued.1,
             queued.0,
             queued-plain events id queued.1 queued.0 well_formed
@@ -290,7 +290,7 @@ list-plain size events well_formed =
       sorted = λ m n a b end place other_end other_place less is_a is_b queued_a queued_b.
           let x = item-there items m a is_a in
           let y = item-there items n b is_b in
-          let order = listed-sorted (dm_log_writes size) events m n x.0 y.0 well_formed less x.1 y.1 in
+          let order = listed_sorted (dm_log_writes size) events m n x.0 y.0 well_formed less x.1 y.1 in
           sorted-of events x.0.0 y.0.0 a b end place other_end other_place x.2 y.2 order
           (plain-queued events a end place well_formed queued_a.0 queued_a.1)
           (plain-queued events b other_end other_place well_formed queued_b.0 queued_b.1);

@@ -27,8 +27,8 @@ use Rattle.log_format.specs.Replay.{kind_values, replay}
 use Rattle.pending.proofs.Durable.{IsDurableBefore, IsFound, IsMoment, durable-queued, found-first}
 use Rattle.pending.proofs.Durable.{queued-longer, queued-shorter}
 use Rattle.pending.proofs.MarkPlaces.{found-longer, well_formed-beginning}
-use Rattle.pending.proofs.Order.{ends-there, flush_submit-some, listed-queued, open-queue_event}
-use Rattle.pending.proofs.Order.{queued-after, queued-listed, queued-within}
+use Rattle.pending.proofs.Order.{ends-there, flush_submit-some, listed_queued, open_queue_event}
+use Rattle.pending.proofs.Order.{queued-after, queued_listed, queued-within}
 use Rattle.pending.proofs.LinkChains.{any_below-found, or_cases}
 use Rattle.pending.proofs.Prefix.{recorded_list_grows}
 use Rattle.pending.specs.CompletionList.{BelongsTo, Item, completion_list, dm_log_writes}
@@ -231,7 +231,7 @@ stands-before size events moment id event within queued less =
     grind (
       arith,
       take moment events,
-      queued-listed (dm_log_writes size) (take moment events) id
+      queued_listed (dm_log_writes size) (take moment events) id
           event (queued-shorter events moment id event within less queued),
       slice_get-within,
       recorded_list_grows size (take moment events) (drop moment events),
@@ -264,8 +264,8 @@ item-by size events moment k item well_formed is inside =
     let front_formed =
     well_formed-beginning front (drop (suc moment) events)
     (ap is_well_formed (take-append-drop (suc moment) events) ∙ well_formed) in
-    let listed = listed-queued (dm_log_writes size) front k item front_formed there in
-    let whole = listed-queued (dm_log_writes size) events k item well_formed is in
+    let listed = listed_queued (dm_log_writes size) front k item front_formed there in
+    let whole = listed_queued (dm_log_writes size) events k item well_formed is in
     let event = listed.1.0 in
     let less = queued-within front item.0 event listed.1.2.queues in
     let long = length-take (suc moment) events in record {
@@ -280,7 +280,7 @@ item-before : (events : List CoreEvent) (moment id : ℕ) (bio : Bio) (event : �
     → queue_event log_writes_order events id ≡ Some event → event ≤ moment → id < moment
 item-before events moment id bio event well_formed is queued by_then =
     elim (option_cases (end_of events id)) [
-      | inl endless ↦ absurd (let none = open-queue_event events id bio is endless in cc)
+      | inl endless ↦ absurd (let none = open_queue_event events id bio is endless in cc)
       | inr some ↦
           let after = queued-after events id some.0 event (Some (Submit bio)) is refl
           some.1 queued in

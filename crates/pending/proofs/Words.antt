@@ -116,12 +116,12 @@ no-need events id end k bio is none =
       | inr other ↦ other
     ]
 
-pub first-need-queues : (events : List CoreEvent) (id end event : ℕ) (bio : Bio)
+pub first_need_queues : (events : List CoreEvent) (id end event : ℕ) (bio : Bio)
     → slice_get events id ≡ Some (Submit bio) → has_flush bio ≡ false
     → has_fua bio ≡ false → end_of events id ≡ Some end → IsFirstNeed events end bio event
     → queue_event log_writes_order events id
     ≡ unless_stopped (first_place is_stop events) (Some event)
-first-need-queues events id end event bio is no_flush no_fua ends first =
+first_need_queues events id end event bio is no_flush no_fua ends first =
     plain-queue_event events id end bio is (ap (λ b. b || has_fua bio) no_flush ∙ no_fua) ends
     ∙ ap (unless_stopped (first_place is_stop events)) (
     is_first_below (λ k. nat_lt end k
@@ -137,12 +137,12 @@ first-need-queues events id end event bio is no_flush no_fua ends first =
           λ k less. no-need events id end k bio is (λ after need. first.first k after less need);
     }))
 
-pub no-need-unqueued : (events : List CoreEvent) (id end : ℕ) (bio : Bio)
+pub no_need_unqueued : (events : List CoreEvent) (id end : ℕ) (bio : Bio)
     → slice_get events id ≡ Some (Submit bio) → has_flush bio ≡ false
     → has_fua bio ≡ false → end_of events id ≡ Some end
     → ((event : ℕ) → end < event → event < length events → IsNeed events end bio event → ⊥)
     → queue_event log_writes_order events id ≡ None
-no-need-unqueued events id end bio is no_flush no_fua ends none =
+no_need_unqueued events id end bio is no_flush no_fua ends none =
     plain-queue_event events id end bio is (rw no_flush no_fua) ends
     ∙ ap (unless_stopped (first_place is_stop events)) (
     none_first_below (λ k. nat_lt end k
@@ -150,12 +150,12 @@ no-need-unqueued events id end bio is no_flush no_fua ends none =
     (λ k within. no-need events id end k bio is (λ after need. none k after within need)))
     ∙ unless_stopped-none (first_place is_stop events)
 
-pub flush-finds : (size : ℕ) (events : List CoreEvent) (earlier flush j : ℕ)
+pub flush_finds : (size : ℕ) (events : List CoreEvent) (earlier flush j : ℕ)
     → is_well_formed events ≡ true
     → is_flush_submit (slice_get events flush) ≡ true → is_before events earlier flush ≡ true
     → IsListedAt (completion_list (dm_log_writes size) events) flush j
     → (i : ℕ) × IsListedAt (completion_list (dm_log_writes size) events) earlier i × (i < j)
-flush-finds size events earlier flush j well_formed has before listed =
+flush_finds size events earlier flush j well_formed has before listed =
     let second = flush_submit-some (slice_get events flush) has in
     let end = (is_before-end events earlier flush).0 before in
     let there = ends-there events earlier end.0 end.1 in
@@ -171,14 +171,14 @@ flush-finds size events earlier flush j well_formed has before listed =
       why = inr second.2;
     }) listed
 
-pub overlap-finds : (size : ℕ) (events : List CoreEvent) (earlier later j : ℕ) (first second : Bio)
+pub overlap_finds : (size : ℕ) (events : List CoreEvent) (earlier later j : ℕ) (first second : Bio)
     → is_well_formed events ≡ true
     → slice_get events earlier ≡ Some (Submit first) → slice_get events later ≡ Some (Submit second)
     → overlaps first second ≡ true
     → is_before events earlier later ≡ true
     → IsListedAt (completion_list (dm_log_writes size) events) later j
     → (i : ℕ) × IsListedAt (completion_list (dm_log_writes size) events) earlier i × (i < j)
-overlap-finds size events earlier later j first second well_formed first_is second_is overlap before
+overlap_finds size events earlier later j first second well_formed first_is second_is overlap before
     listed =
     let end = (is_before-end events earlier later).0 before in
     found-stands size events earlier later j well_formed (record {

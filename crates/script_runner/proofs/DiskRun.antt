@@ -159,12 +159,8 @@ image_of disk = gather (shown_of disk).content 0 (shown_of disk).size
 pub image_long : (disk : SectorDisk) {sectors : ℕ} → (shown_of disk).size ≡ sectors
     → length (image_of disk) ≡ 512 * sectors
 image_long disk {sectors} size =
-    grind (
-      arith,
-      length-gather (shown_of disk).size (shown_of disk).content 0 (shown_of
-          disk).size (content_whole disk) (omega arith),
-      size,
-    )
+    length-gather (shown_of disk).size (shown_of disk).content 0 (shown_of disk).size
+    (content_whole disk) (omega arith) ∙ ap (λ (n : ℕ). 512 * n) size
 
 pub image_agrees : (left : Content) (disk : SectorDisk) {sectors : ℕ}
     → (shown_of disk).size ≡ sectors → AgreeBelow sectors left (shown_of disk).content
@@ -297,17 +293,11 @@ pub lines_together : {D L : Type 0} {d : Ghosts D} {l : Ghosts L} (m : Answering
     → RunsLines m names body text old new → old.recorder.store.moment ≡ old.moment
     → new.recorder.store.moment ≡ new.moment
 lines_together {D} {L} {d} {l} m names [] text old new ran same =
-    rw ran.1 same
+    subst (λ (end : Running D L d l). end.recorder.store.moment ≡ end.moment) (sym ran.1) same
 lines_together {D} {L} {d} {l} m names (command ∷ body) text old new ran same =
-    grind (
-      arith,
-      lines_together {d = d} {l = l} m names body ran.2 ran.0 new ran.5 (grind (
-        arith,
-        (ran.4).log_moment,
-        same,
-        sym (ran.4).moment,
-      )),
-    )
+    let line = ran.4 in
+    lines_together {d = d} {l = l} m names body ran.2 ran.0 new ran.5
+    (line.log_moment ∙ ap (λ (moment : ℕ). time_at moment command) same ∙ sym line.moment)
 
 -- The condition `Start` may be replaced by any condition that it implies.
 pub played_from : {D L : Type 0} {d : Ghosts D} {l : Ghosts L} (m : Answering D L)

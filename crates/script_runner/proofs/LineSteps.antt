@@ -217,13 +217,9 @@ byte_range sectors first count bytes passes is =
 pub filled : (new old : List ℕ) (n : ℕ) → length new ≡ length old → n ≡ length old
     → take n (new ++ drop (length new) old) ≡ new
 filled new old n same size =
-    grind (
-      arith,
-      drop_all (length new) old (omega arith),
-      ap (take n) (append-nil new),
-      take_all
-          n new (omega arith),
-    )
+    ap (λ (rest : List ℕ). take n (new ++ rest)) (drop_all (length new) old (omega arith))
+    ∙ ap (take n) (append-nil new)
+    ∙ take_all n new (omega arith)
 
 first_bytes-more : (n : ℕ) (bytes : List ℕ)
     → first_bytes (n + 1) bytes

@@ -331,12 +331,8 @@ lines_ask {D} {L} {d} {l} m names (commands.Step step ∷ body) text old new ran
 pub stays : (old new : List CoreEvent) (id : ℕ) (event : CoreEvent) → EventsGrow old new
     → slice_get old id ≡ Some event → slice_get new id ≡ Some event
 stays old new id event (more, is) stands =
-    grind (
-      arith,
-      is,
-      slice_get-append_front old more id (slice_get_within old id event stands),
-      stands,
-    )
+    ap (λ (es : List CoreEvent). slice_get es id) is
+    ∙ slice_get-append_front old more id (slice_get_within old id event stands) ∙ stands
 
 pub queued_stands : {L : Type 0} {l : Ghosts L} (text : List ℕ) (reply : Reply) (id : ℕ)
     (old new : Recorder L l) → Marks text reply old new → reply ≡ replies.Queued id
@@ -345,14 +341,10 @@ queued_stands {L} {l} text reply id old new marks queued = elim (bool_cases (is_
   | inl heard ↦ elim (bool_cases (is_recording (core_of old).events)) [
     | inl going ↦ elim (marks.recorded heard going) [
       | inl (place, is) ↦
-          grind (
-            arith,
-            ap (slice_get (core_of new).events) (queued_id id (length (core_of
-                old).events) (sym queued ∙ place)),
-            is,
-            slice_get-append_here (core_of old).events
-                (events.Mark text) [],
-          )
+          ap (λ (n : ℕ). slice_get (core_of new).events n)
+          (queued_id id (length (core_of old).events) (sym queued ∙ place))
+          ∙ ap (λ (c : CoreState). slice_get c.events (length (core_of old).events)) is
+          ∙ slice_get-append_here (core_of old).events (events.Mark text) []
       | inr refused ↦ absurd (not_refused id (sym queued ∙ refused.0))
     ]
     | inr over ↦ absurd (not_passed id (sym queued ∙ (marks.passed heard over).0))

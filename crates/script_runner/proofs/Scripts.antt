@@ -33,22 +33,20 @@ chain_snoc {S = S} Step [] c text more old mid new before step = (
   new,
   more,
   [],
-  grind (arith, before.0, sym (append-nil more)),
+  ap (λ (t : List ℕ). t ++ more) before.0 ∙ sym (append-nil more),
   from_start before.1,
   (refl, refl),
 )
   where
     from_start : mid ≡ old → Step c more old new
     from_start same = rw (← same) step
-chain_snoc Step (first ∷ cs) c text more old mid new before step =
-    grind (
-      arith,
-      chain_snoc Step cs c before.2 more before.0 mid new before.5 step,
-      append_assoc
-          before.1 before.2 more,
-      chain_snoc Step cs c before.2 more before.0 mid new before.5 step,
-    )
-
+chain_snoc Step (first ∷ cs) c text more old mid new before step = (
+  before.0,
+  before.1,
+  before.2 ++ more,
+  ap (λ (t : List ℕ). t ++ more) before.3 ∙ append_assoc before.1 before.2 more,
+  before.4,
+  chain_snoc Step cs c before.2 more before.0 mid new before.5 step,
 -- Each command may follow the commands before it.
 abbrev pub IsOrderlyScript : ScriptValue → Type 0
 IsOrderlyScript plan =
@@ -190,13 +188,12 @@ pub next_line_fits : (plan : ScriptValue) (items : List Command) (place bytes se
     → bytes ≡ bytes_of plan.log_size → sectors ≡ top_of plan.data_disk
     → FitsDevice bytes sectors (slice_index_or items place other)
 next_line_fits plan items place bytes sectors other same orderly within log_size size =
-    grind (
-      arith,
-      command_next plan items place other same orderly within,
-      slice_index_or items
-          place other,
-      next_fits,
-    )
+    let next = command_next plan items place other same orderly within in
+    subst (λ (n : ℕ). FitsDevice bytes n (slice_index_or items place other)) (sym size)
+    (subst (λ (n : ℕ). FitsDevice n (top_of plan.data_disk) (slice_index_or items place other))
+    (sym log_size)
+    (next_fits (bytes_of plan.log_size) (top_of plan.data_disk) (take place plan.commands)
+    (slice_index_or items place other) next.comes))
 
 pub next_line_text : (plan : ScriptValue) (items : List Command) (place : ℕ) (other : Command)
     → items ≡ plan.commands → IsOrderlyScript plan → place < length items
@@ -209,13 +206,10 @@ pub next_line_submitted : (plan : ScriptValue) (items : List Command) (place req
     → requests ≡ submissions (take place plan.commands)
     → EndsSubmitted requests (slice_index_or items place other)
 next_line_submitted plan items place requests other same orderly within counted =
-    grind (
-      arith,
-      command_next plan items place other same orderly within,
-      slice_index_or items
-          place other,
-      next_submitted,
-    )
+    let next = command_next plan items place other same orderly within in
+    subst (λ (n : ℕ). EndsSubmitted n (slice_index_or items place other)) (sym counted)
+    (next_submitted (bytes_of plan.log_size) (top_of plan.data_disk) (take place plan.commands)
+    (slice_index_or items place other) next.comes)
 
 pub next_line_named : (plan : ScriptValue) (items : List Command) (names : List ScriptId)
     (place requests : ℕ) (other : Command) → items ≡ plan.commands → IsPlan plan

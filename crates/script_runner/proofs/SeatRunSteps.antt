@@ -164,24 +164,17 @@ image_long : (disk : SectorDisk) (image : List ℕ) (sectors : ℕ)
     → image ≡ gather (shown_of disk).content 0 (shown_of disk).size → (shown_of disk).size ≡ sectors
     → length image ≡ 512 * sectors
 image_long disk image sectors is size =
-    grind (
-      arith,
-      ap length is,
-      length-gather (shown_of disk).size (shown_of disk).content 0
-          (shown_of disk).size (content_whole disk) (omega arith),
-      size,
-    )
+    ap (λ (bytes : List ℕ). length bytes) is
+    ∙ length-gather (shown_of disk).size (shown_of disk).content 0 (shown_of disk).size
+    (content_whole disk) (omega arith) ∙ ap (λ (n : ℕ). 512 * n) size
 
 image_agrees : (disk : SectorDisk) (image : List ℕ) (sectors : ℕ)
     → image ≡ gather (shown_of disk).content 0 (shown_of disk).size → (shown_of disk).size ≡ sectors
     → AgreeBelow sectors (shown_of disk).content (sector_of image)
 image_agrees disk image sectors is size sector below =
-    grind (
-      arith,
-      is,
-      sector_of-gather (shown_of disk).size (shown_of disk).content (content_whole
-          disk) sector (omega (arith, size, below)),
-    )
+    ap (λ (bytes : List ℕ). sector_of bytes sector) is
+    ∙ sector_of-gather (shown_of disk).size (shown_of disk).content (content_whole disk) sector
+    (omega (arith, size, below))
 
 -- `log` is the log's stack before its log is made, and `device` is this stack after the close.
 pub record IsLogStack (plan : RunPlan) (log device : Stack) (image : List ℕ) : Type 0 where
@@ -193,12 +186,8 @@ pub record IsLogStack (plan : RunPlan) (log device : Stack) (image : List ℕ) :
 disk_size : (plan : RunPlan) (log device : Stack) (image : List ℕ)
     → IsLogStack plan log device image → (shown_of (disk_of device)).size ≡ plan.log_disk.sectors
 disk_size plan log device image is =
-    grind (
-      arith,
-      sym (part_of_disk device).disk,
-      is.stands.place ∙ stack_place plan.log_disk log
-          is.blank,
-    )
+    sym (part_of_disk device).disk
+    ∙ ap (λ (p : Place). p.disk) (is.stands.place ∙ stack_place plan.log_disk log is.blank)
 
 leaves_image : (plan : RunPlan) (log device : Stack) (image : List ℕ) (few : ℕ) (core : CoreState)
     (end : Option End) → IsLogStack plan log device image

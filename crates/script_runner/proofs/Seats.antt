@@ -151,12 +151,8 @@ kept_more : (comes : List CallResult) (came : CallResult)
     → receipts_of (comes ++ came ∷ []) ≡ and_kept (receipts_of comes) came.receipt
 kept_more [] came = kept_alone came.receipt
 kept_more (first ∷ comes) came =
-    grind (
-      arith,
-      kept_more comes came,
-      kept_behind (and_kept [] first.receipt) (receipts_of
-          comes) came.receipt,
-    )
+    ap (λ (rest : List Receipt). and_kept [] first.receipt ++ rest) (kept_more comes came)
+    ∙ kept_behind (and_kept [] first.receipt) (receipts_of comes) came.receipt
 
 pub makes_request : (submission : Submission) (inside old : Player) (part : Part)
     (answer : Answer Receipt)

@@ -3,14 +3,15 @@
 
   bench/ready.py [--count]
         Says which files `rt fmt` would change (the gate refuses their crate whole), which edits, of must-fail/ and of planted.txt, name a text that isn't once in its
-        file, which edits have no entry in their crate's planted.txt, and if docs/lab/PLANTED.md has other counts than there are. --count writes the counts.
+        file, which edits have no entry in their crate's planted.txt, if docs/lab/PLANTED.md has other counts than there are, and if the page of the formats that
+        the program prints (crates/dmlw/src/formats.rt) isn't docs/FORMATS.md. --count writes the counts and that page.
         Says also where docs/HEADLINE.md isn't what bench/headline.py writes, which places the documents cite that aren't there, which definitions docs/ARCHITECTURE.md
         explains that aren't in the file that it names, which files have no head, which cite what another crate has in proofs/ or specs/inside/, and if release/ is there
         and isn't of the tree at hand (bench/release.py).
         Warns of house words in the comments and pages that changed since origin/main (else since the last commit), of sentences of over 25 words in the documents,
         and of documents of over 40,000 words. Warnings leave the exit status.
 
-The repository's files stay as they are, but for the counts. It needs the kit's `rt` on the PATH.
+The repository's files stay as they are, but for what --count writes. It needs the kit's `rt` on the PATH.
 """
 import collections, glob, os, re, shutil, subprocess, sys, tempfile
 
@@ -161,13 +162,28 @@ def headline_off():
     return said.split("\n")[:-1]
 
 
+def formats_off():
+    """If the page of the formats in the program isn't the document; --count writes it."""
+    place = f"{root}/crates/dmlw/src/formats.rt"
+    kept = text_of(place)
+    head, _, rest = kept.partition('r#"')
+    wanted = f'{head}r#"{text_of(f"{root}/docs/FORMATS.md")}{rest[rest.index(chr(34) + "#;"):]}'
+    if wanted == kept:
+        return []
+    if "--count" not in sys.argv:
+        return ["crates/dmlw/src/formats.rt: not docs/FORMATS.md; bench/ready.py --count writes it"]
+    with open(place, "w", encoding="utf-8") as it:
+        it.write(wanted)
+    return []
+
+
 def main():
     crates = sorted(os.listdir(f"{root}/crates"))
     bugs = {crate: list(planted.entries_of(crate)) for crate in crates}
     kept = [(edit.split("/")[-3], os.path.basename(edit)[:-5], text_of(edit).split("\n")) for edit in sorted(glob.glob(f"{root}/crates/*/must-fail/*.edit"))]
     more = [(crate, planted.slug_of(name), edit) for crate in crates for name, _, edit in bugs[crate] if edit]
     page = text_of(f"{root}/docs/lab/PLANTED.md")
-    found = [*not_laid_out(), *edits_off(kept + more), *cited(), *words_off(), *headline_off(), *sources_off(), *release.off()]
+    found = [*not_laid_out(), *edits_off(kept + more), *cited(), *words_off(), *headline_off(), *sources_off(), *formats_off(), *release.off()]
     for crate, name, _ in kept:
         if not any(planted.slug_of(bug) == name for bug, _, _ in bugs[crate]):
             found.append(f"crates/{crate}/must-fail/{name}.edit: no entry in planted.txt")

@@ -1,8 +1,8 @@
 //! Marks of the rows that are known to be in chain 1.
 //!
-//! A mark costs nothing to check, so a row can be taken out of the middle of chain 1 without a walk
-//! to it. A row of the chain may lack its mark.
-ghost use Rattle.std.specs.Prelude.{◌≡◌, ℕ, ◌≢◌, IfOk, true, false, length, replicate, slice_set};
+//! One look at a row's mark shows that the row is in chain 1. So a row can be taken out of the middle
+//! of this chain without a walk to it. A row of the chain may lack its mark.
+ghost use Rattle.std.specs.Prelude.{◌≡◌, ℕ, ◌≢◌, IfOk, true, false, slice_set};
 ghost use Rattle.pending.specs.inside.Tables.{is_marked};
 
 use std::alloc::{AllocError, Global};
@@ -11,13 +11,13 @@ use std::fmt::{self, Debug, Formatter};
 /// The chain whose rows are marked.
 pub const MARKED: usize = 1;
 
-/// How many hints there are, and for how many keys one is.
+/// How many hints there are.
 const HINTS: usize = 8_192;
-
+/// For how many successive keys one hint is.
 const KEYS: u64 = 16;
 
-/// A mark for each of the first rows; later rows are never marked. The values in the rows have keys,
-/// and for a key there is a hint at which row to begin to look for it.
+/// A mark for each of the first rows; later rows are never marked. The values in the rows have keys.
+/// For each key there is a hint: at which row to begin to look for it. Contracts don't see hints.
 #[derive(Drop)]
 pub struct Marks {
     pub rows: Vec<bool>,

@@ -4,8 +4,8 @@ ghost use Rattle.std.specs.Prelude.{◌≡◌, ◌≢◌, ℕ, ◌+◌, ◌<◌,
 ghost use Rattle.std.specs.Prelude.{◌++◌, length, slice_set, IfSome};
 ghost use Rattle.pending.specs.ChainsView.{chain_in, fronted, joined, lengthened, preceded};
 ghost use Rattle.pending.specs.ChainsView.{shortened};
-ghost use Rattle.pending.specs.inside.Tables.{Changes, IsIn, IsKept, IsLast, IsLoose, IsLooseRing, after};
-ghost use Rattle.pending.specs.inside.Tables.{last_in, Holds, IsRing};
+ghost use Rattle.pending.specs.inside.Tables.{Changes, IsIn, IsKept, IsLast, IsLoose, after};
+ghost use Rattle.pending.specs.inside.Tables.{last_in, Holds};
 
 use crate::chains::links::{Change, Links};
 
@@ -115,28 +115,6 @@ pub fn take_first(links: &mut Links, chain: usize) -> Option<usize>
     Some(first)
 }
 
-// Puts loose rows before the first row of a chain. The rows are a ring with the last row `moved`.
-// Makes at most 2 changes.
-fn put_ring(links: &mut Links, chain: usize, moved: usize)
-    requires { IsLooseRing links.old.next.items links.old.lasts.items chain moved }
-    ensures holds { (rows loose : List ℕ) (chains : List (List ℕ)) →
-        Holds links.old.next.items links.old.lasts.items (rows ++ loose) chains
-        → IsRing links.old.next.items moved rows →
-        Holds links.new.next.items links.new.lasts.items loose
-        (slice_set chains chain (rows ++ chain_in chains chain)) }
-    ensures changes { Changes links.old links.new 2 }
-{
-    match links.last(chain) {
-        Some(kept) => {
-            let first = links.next(kept);
-            let second = links.next(moved);
-            links.write(Change::Next(kept, second));
-            links.write(Change::Next(moved, first));
-        }
-        None => links.write(Change::Last(chain, Some(moved))),
-    }
-}
-
 /// Puts all rows of chain `from` before the first row of chain `onto`. Makes at most 3 changes.
 pub fn put_before(links: &mut Links, from: usize, onto: usize)
     requires kept { IsKept links.old.next.items links.old.lasts.items }
@@ -152,7 +130,15 @@ pub fn put_before(links: &mut Links, from: usize, onto: usize)
         return;
     };
     links.write(Change::Last(from, None));
-    put_ring(links, onto, moved);
+    match links.last(onto) {
+        Some(kept) => {
+            let first = links.next(kept);
+            let second = links.next(moved);
+            links.write(Change::Next(kept, second));
+            links.write(Change::Next(moved, first));
+        }
+        None => links.write(Change::Last(onto, Some(moved))),
+    }
 }
 
 /// Appends all rows of chain `from` to chain `onto`. Makes at most 4 changes.

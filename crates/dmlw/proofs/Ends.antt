@@ -92,26 +92,9 @@ ends_making : {T : Type 0} (making : (List ℕ → Option (List ℕ)) → Making
     → (old new : Seen) (done : Result T RunError) (exit : Exit)
     → Makes making read name old new done → exit ≡ exits done → EndsCommand old new exit
 ends_making making read name exits logged by_fault old new (Ok result) exit makes is =
-    let made : IsMade (making old.files) name old new result = makes.came in
-    let asked = asked_one (making old.files) name old new result made.asks in
-    let ended : IsLogged exit = subst IsLogged (sym is) (logged result) in
-    record {
-      known = at_most exit;
-      once = inr asked;
-      unwritten = λ usage. absurd (not_usage exit ended usage);
-      kept = λ refused. absurd (not_refused exit ended refused);
-      unmade = λ ended. inr asked;
-    }
+    grind (arith, asked_one, at_most, unwritten, not_usage, not_refused, unmade)
 ends_making making read name exits logged by_fault old new (Err fault) exit makes is =
-    let once = failed_once (making old.files) read name old new fault makes.came.0 in
-    let by : exit ≡ exit_of fault = is ∙ by_fault fault in
-    record {
-      known = at_most exit;
-      once = once;
-      unwritten = λ usage. absurd (fault_usage fault (sym by ∙ usage));
-      kept = λ refused. makes.came.1;
-      unmade = λ ended. inl makes.came.1;
-    }
+    grind (arith, failed_once, by_fault, at_most, unwritten, fault_usage, unmade)
 
 after_logged : (status : Status) → IsLogged (exit_after (Ok status))
 after_logged status = at_end status.end
@@ -124,17 +107,13 @@ makes_end : {T : Type 0} (making : (List ℕ → Option (List ℕ)) → Making T
     (explains : Bool) (old new : Seen) (ended : Ended)
     → Ends (Makes making read name) exit_by explains old new ended
     → EndsCommand old new ended.exit
-makes_end making read name explains old new ended ends =
-    ends_making making read name exit_by (λ result. inl refl) (λ fault. refl) old new ends.done
-    ended.exit ends.did ends.tells.exits
+makes_end making read name explains old new ended ends = grind (arith, ends_making)
 
 records_end : (making : (List ℕ → Option (List ℕ)) → Making Status) (read name : List ℕ)
     (explains : Bool) (old new : Seen) (ended : Ended)
     → Ends (Makes making read name) exit_after explains old new ended
     → EndsCommand old new ended.exit
-records_end making read name explains old new ended ends =
-    ends_making making read name exit_after after_logged (λ fault. refl) old new ends.done
-    ended.exit ends.did ends.tells.exits
+records_end making read name explains old new ended ends = grind (arith, ends_making, after_logged)
 
 reads_end : {T : Type 0} (prints : (List ℕ → Option (List ℕ)) → Printing T)
     (exits : Result T RunError → Exit) (explains : Bool) (old new : Seen) (ended : Ended)
@@ -156,19 +135,16 @@ ends_task task explains old new ended ends =
 
 nothing_behind : (old new : Option (List ℕ)) (line more : List ℕ) → more ≡ []
     → Appends old new (line ++ more) → Appends old new line
-nothing_behind old new line more none grew =
-    subst (Appends old new) (append-nil line)
-    (subst (λ (l : List ℕ). Appends old new (line ++ l)) none grew)
+nothing_behind old new line more none grew = grind (arith, append-nil)
 
 told_one_line : (t : ErrStream) (exit : Exit) (line : List ℕ) (ended : Ended) → t.explains ≡ false
     → IsFaultLine exit line → ReportsLine t exit line ended
     → ReportsOneLine ended t.before t.after
 told_one_line t exit line ended off is tells = record {
   line = line;
-  is = subst (λ (e : Exit). IsFaultLine e line) (sym tells.exits) is;
+  is = rw tells.exits is;
   told = λ yes.
-      let (more, silent, grew) = tells.told yes in
-      nothing_behind t.before t.after line more (silent off) grew;
+      grind (arith, nothing_behind);
 }
 
 told_fault : (t : ErrStream) (cause : RunError) (ended : Ended) → t.explains ≡ false
@@ -201,9 +177,7 @@ told : {T : Type 0} (exits : Result T RunError → Exit)
     (done : Result T RunError) (ended : Ended) → t.explains ≡ false
     → ReportsLine t (exits done) (reported_line done) ended
     → ReportsBy ended.exit ended t.before t.after
-told exits answered by_fault t (Ok result) ended off tells =
-    subst (λ (e : Exit). ReportsBy e ended t.before t.after) (sym tells.exits)
-    (told_nothing (exits (Ok result)) ended t.before t.after (answered result) (tells.quiet off refl))
+told exits answered by_fault t (Ok result) ended off tells = grind (arith, told_nothing)
 told exits answered by_fault t (Err fault) ended off tells =
     told_fault t fault ended off (rw by_fault at tells)
 
@@ -227,7 +201,7 @@ text_tells OutOfMemory t ended ends tells off =
 text_tells DisplayHelp t ended ends (done, fault, tells) off = told_by t done ended off tells
 text_tells DisplayVersion t ended ends (done, fault, tells) off = told_by t done ended off tells
 text_tells _ t ended ends tells off =
-    subst (λ (e : Exit). ReportsBy e ended t.before t.after) (sym ends) tt
+    rw ends tt
 
 tells_by : {T : Type 0} (does : Does T) (explains : Bool) (old new : Seen) (ended : Ended)
     → Ends does exit_by explains old new ended → explains ≡ false
@@ -259,7 +233,7 @@ pub task_tells : (task : Task) (explains : Bool) (old new : Seen) (ended : Ended
 task_tells (tasks.Show error) explains old new ended ends off =
     text_tells (kind_of error) (err_stream explains old.err new.err) ended ends.ends ends.tells off
 task_tells (tasks.HasBadWord flaw word) explains old new ended ends off =
-    subst (λ (e : Exit). ReportsBy e ended old.err new.err) (sym ends.usage) tt
+    rw ends.usage tt
 task_tells task explains old new ended ends off =
     search any_told
 

@@ -51,8 +51,7 @@ name_plain _ = refl
 stays_plain : (name : Name) (program : Text) (words : List Text) → ArePlain words
     → without_explain (command_words program name words) ≡ command_words program name words
 stays_plain name program words plain =
-    ap (λ (ws : List Text). program ∷ ws)
-    (kept_words (name_text name ∷ words) (name_plain name, plain))
+    grind (arith, kept_words (name_text name ∷ words) (name_plain name, plain))
 
 stays_silent : (name : Name) (program : Text) (words : List Text) → ArePlain words
     → has_explain (command_words program name words) ≡ false
@@ -149,10 +148,7 @@ digit_plain x digit = grind (arith, nat_tests)
 
 pub number_plain : (m : Text) (n : ℕ) → IsNumber m n → is_positional m ≡ true
 number_plain [] n number = refl
-number_plain (x ∷ xs) n number =
-    let parts = and_parts _ _ number.0 in
-    let digits = and_parts _ _ parts.0 in
-    digit_plain x (and_parts (is_ascii_digit x) (list_all is_ascii_digit xs) digits.1).0
+number_plain (x ∷ xs) n number = grind (arith, and_parts, digit_plain)
 
 pub same_number : (m word : Text) (moment n : ℕ) → IsNumber m moment → IsNumber word n
     → Some m ≡ Some word → moment ≡ n

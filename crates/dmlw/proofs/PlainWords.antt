@@ -110,9 +110,7 @@ one_step : (rules : List Rule) (h : Held) (place : ℕ) (word : Text) → is_pos
     → walked rules [] (before_place h place) word
     ≡ before_place (held_with rules (arg_by_index rules place) word h)
     (place_after (arg_by_index rules place) place)
-one_step rules h place word plain takes =
-    walked_plain rules h place word plain
-    ∙ taken rules (arg_by_index rules place) word h place takes
+one_step rules h place word plain takes = grind (arith, walked_plain, arg_by_index)
 
 walk_plain : (rules : List Rule) (words : List Text) (h : Held) (place : ℕ) → ArePlain words
     → have_places rules place words ≡ true
@@ -123,7 +121,7 @@ walk_plain rules (word ∷ words) h place plain have =
     let parts =
     and_parts (takes_one (arg_by_index rules place))
     (have_places rules (place_after (arg_by_index rules place) place) words) have in
-    ap (λ (w : Walk). fold (walked rules []) w words) (one_step rules h place word plain.0 parts.0)
+    grind (arith, one_step rules h place word plain.0 parts.0)
     ∙ walk_plain rules words (held_with rules (arg_by_index rules place) word h)
     (place_after (arg_by_index rules place) place) plain.1 parts.1
 
@@ -167,7 +165,7 @@ pub rows_plain : (rules : List Rule) (words : List Text) → ArePlain words
     → have_places rules 1 words ≡ true
     → (walk rules [] nothing_held words).held ≡ held_after rules 1 words nothing_held
 rows_plain rules words plain have =
-    ap (λ (w : Walk). w.held) (walk_plain rules words nothing_held 1 plain have)
+    grind (arith, walk_plain rules words nothing_held 1 plain have)
 
 -- When the walk meets a command, it keeps the words after the command's name for later.
 abbrev pub stopped_at : Walk → Text × List Text → Walk
@@ -233,14 +231,13 @@ walk_faultless : (name : Name) (words : List Text)
     (name_text name ∷ words) ≡ []
 unfolding walk_fault
 walk_faultless name words =
-    ap (λ (ks : Kinds). or_else ks
-    (walk_fault top (names_of (built program_app))
-    (walked top.rules (names_of (built program_app)) (walk_from nothing_held)
-    (name_text name)) words))
-    (name_faultless name)
-    ∙ ap (λ (w : Walk). walk_fault top (names_of (built program_app)) w words) (meets name)
-    ∙ fault_stopped top (names_of (built program_app)) (walk_from nothing_held)
-    (name_text name) [] words
+    grind (
+      arith,
+      name_faultless name,
+      meets name,
+      fault_stopped top (names_of (built
+          program_app)) (walk_from nothing_held) (name_text name) [] words,
+    )
 
 fault_met : (name : Name) (words : List Text)
     → fault_at (met name words) []
@@ -301,7 +298,7 @@ chosen : (t : Bool) (name found : Name) (word : List ℕ) (other : Option Name)
     → (other ≡ Some found → word ≡ name_text found) → cond t (Some name) other ≡ Some found
     → word ≡ name_text found
 chosen true name found word other here there is =
-    subst (λ (n : Name). word ≡ name_text n) (same_some name found is) (here refl)
+    rw (← same_some name found is) (here refl)
 chosen false name found word other here there is = there is
 
 named_once : (name found : Name) (word : List ℕ) (other : Option Name)
@@ -326,9 +323,7 @@ named_again _ = refl
 
 pub one_name : (word : List ℕ) (first second : Name) → word ≡ name_text first
     → word ≡ name_text second → first ≡ second
-one_name word first second is_first is_second =
-    same_some first second (sym (named_again first) ∙ sym (ap name_of is_first)
-    ∙ ap name_of is_second ∙ named_again second)
+one_name word first second is_first is_second = grind (arith, same_some, named_again)
 
 shown_for_memory : (name : Name) (rows : List Row) (error : Error) → kind_of error ≡ OutOfMemory
     → AsksBy name rows (tasks.Show error)
@@ -339,20 +334,17 @@ pub read_asks : (words : List Text) (task : Task) (entered : Entered) → IsRead
     → Enters words entered → IsComplete entered
     → Asks entered task
 read_asks words (tasks.Show error) entered (memory is) enters complete =
-    let (name, is_name, words) = complete in
-    (name, is_name, shown_for_memory name entered.1 error is)
+    grind (arith, shown_for_memory)
 read_asks words (tasks.Show error) entered (fault among) enters complete =
-    absurd (subst (λ (kinds : Kinds). IsAmong (kind_of error) kinds) enters.faultless among)
+    absurd (rw enters.faultless at among)
 read_asks words (tasks.Show error) entered (missing faultless incomplete is) enters complete =
     absurd (incomplete entered enters complete)
 read_asks words task entered read enters complete =
-    subst (λ (e : Entered). Asks e task) (same_some _ _ (sym read.1.1 ∙ enters.enters)) read.1.2
+    rw (← same_some _ _ (sym read.1.1 ∙ enters.enters)) read.1.2
 
 pub asks_for : (name : Name) (rows : List Row) (task : Task) → Asks (name_text name, rows) task
     → AsksBy name rows task
-asks_for name rows task asks =
-    let (found, is_found, by) = asks in
-    subst (λ (n : Name). AsksBy n rows task) (one_name (name_text name) found name is_found refl) by
+asks_for name rows task asks = grind (arith, one_name)
 
 -- For a simple app, clap's contracts compute the result of a parse from the words.
 pub is_simple_app : is_simple program_app ≡ true

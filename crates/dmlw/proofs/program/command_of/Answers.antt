@@ -5,9 +5,8 @@ use Rattle.dmlw.proofs.program.command_of.Goals as goal
 
 pub loop-word-init : goal.loop-word-init
 loop-word-init c = record {
-  own = ap (λ f. f.has_globals) c.about-command.ensures ∙ c.new.ensures.local;
-  reads = begun _ _ _ _ (ap app_of_fields c.about-command.ensures ∙ c.new.ensures.app)
-      c.words-words.ensures.name c.words-words.ensures.arguments;
+  own = grind (arith, c.about-command.ensures, c.new.ensures.local);
+  reads = grind (arith, begun, app_of_fields);
 }
 
 pub loop-word-preserved : goal.loop-word-preserved

@@ -33,14 +33,8 @@ pub mark-left : (marks : List Bool) (row r : ℕ) → is_marked (set marks row f
     → (r ≢ row) × (is_marked marks r ≡ true)
 mark-left marks row r marked = elim (cases_eq r row) [
   | inl same ↦ elim (cases_lt row (length marks)) [
-    | inl within ↦ absurd (
-        let gone = get_or-set_same marks row false false within in
-        let here = ap (is_marked (set marks row false)) same in
-        cc)
-    | inr past ↦ absurd (
-        let gone =
-        get_or_past (set marks row false) r false (omega (arith, length-set marks row false)) in
-        cc)
+    | inl within ↦ grind (arith, get_or-set_same, false, set)
+    | inr past ↦ grind (arith, get_or_past, set, false, length-set)
   ]
   | inr other ↦ (other, grind (arith, get_or-set_other))
 ]
@@ -51,10 +45,7 @@ pub marks-removed : {marks new : List Bool} {chains other : List (List ℕ)} (ro
     → AreMarks new other
 marks-removed {marks} {new} {chains} {other} row is known more = record {
   within = λ r marked.
-      let old = mark-left marks row r (sym (ap (λ ms. is_marked ms r) is) ∙ marked) in
-      let some = known.within r old.1 in
-      let kept = more r old.0 in
-      omega arith;
+      grind (arith, mark-left);
 }
 
 -- The first row of chain 1 gets a mark.
@@ -63,13 +54,7 @@ pub marks-set : {marks new : List Bool} {chains : List (List ℕ)} (row : ℕ) (
     → AreMarks new chains
 marks-set {marks} {new} {chains} row rest is known first = record {
   within = λ r marked.
-      let counts = ap (times r) first in
-      elim (cases_eq row r) [
-        | inl same ↦ omega (arith, times-same r row rest same)
-        | inr other ↦ known.within r (
-            sym (get_or-set_other marks row r true false (λ e. other (sym e)))
-            ∙ sym (ap (λ ms. is_marked ms r) is) ∙ marked)
-      ];
+      grind (arith, cases_eq, times-same, get_or-set_other, true, false);
 }
 
 pub marks-left : {marks new : List Bool} {chains other : List (List ℕ)} (from : ℕ)
@@ -79,10 +64,7 @@ pub marks-left : {marks new : List Bool} {chains other : List (List ℕ)} (from 
     → AreMarks new other
 marks-left {marks} {new} {chains} {other} from known left more = record {
   within = λ r marked.
-      let old = left r marked in
-      let some = known.within r old.1 in
-      let kept = more old.0 r in
-      omega arith;
+      grind arith;
 }
 
 -- If chain 1 is replaced, its rows are among the new ones.
@@ -92,10 +74,7 @@ pub put-counts : (chains : List (List ℕ)) (chain row : ℕ) (rows : List ℕ)
 put-counts chains chain row rows more = elim (cases_eq chain 1) [
   | inl same ↦ elim (cases_lt chain (length chains)) [
     | inl within ↦
-        let put = ap (times row) (in-put chains chain rows within) in
-        let here = ap (λ k. times row (chain_in (set chains chain rows) k)) same in
-        let counts = more same in
-        omega arith
+        grind (arith, in-put, set)
     | inr past ↦
         let none = ap (times row) (get_or_past chains 1 [] (omega arith)) in omega arith
   ]
@@ -111,74 +90,39 @@ begun-counts chains row =
 pub longer-counts : (chains : List (List ℕ)) (chain row r : ℕ)
     → times r (chain_in chains 1)
     ≤ times r (chain_in (lengthened (shortened chains 0) chain row) 1)
-longer-counts chains chain row r =
-    let cut = shortened chains 0 in
-    let free = put-counts chains 0 r (drop 1 (chain_in chains 0)) (λ e. absurd (omega arith)) in
-    let put =
-    put-counts cut chain r (chain_in cut chain ++ row ∷ [])
-    (λ same. let there = ap (λ k. times r (chain_in cut k)) same in
-    omega (arith, times-append r (chain_in cut chain) (row ∷ []))) in
-    omega arith
+longer-counts chains chain row r = grind (arith, put-counts, drop, times-append)
 
 -- A chain other than chain 1 is emptied, and chain `onto` gets more rows.
 moved-counts : (chains : List (List ℕ)) (from onto r : ℕ) (rows : List ℕ) → from ≢ 1
     → times r (chain_in chains onto) ≤ times r rows
     → times r (chain_in chains 1) ≤ times r (chain_in (set (set chains from []) onto rows) 1)
-moved-counts chains from onto r rows apart more =
-    let emptied = put-counts chains from r [] (λ e. absurd (apart e)) in
-    let kept = ap (times r) (in-other chains from 1 [] (λ e. apart (sym e))) in
-    let put =
-    put-counts (set chains from []) onto r rows
-    (λ same. let there = ap (λ k. times r (chain_in chains k)) same in omega arith) in
-    omega arith
+moved-counts chains from onto r rows apart more = grind (arith, put-counts, in-other, set)
 
 pub joined-counts : (chains : List (List ℕ)) (from onto r : ℕ) → from ≢ 1
     → times r (chain_in chains 1) ≤ times r (chain_in (joined chains from onto) 1)
-joined-counts chains from onto r apart =
-    moved-counts chains from onto r (chain_in chains onto ++ chain_in chains from) apart
-    (omega (arith, times-append r (chain_in chains onto) (chain_in chains from)))
+joined-counts chains from onto r apart = grind (arith, moved-counts, times-append)
 
 pub fronted-counts : (chains : List (List ℕ)) (from onto r : ℕ) → from ≢ 1
     → times r (chain_in chains 1) ≤ times r (chain_in (fronted chains from onto) 1)
-fronted-counts chains from onto r apart =
-    moved-counts chains from onto r (chain_in chains from ++ chain_in chains onto) apart
-    (omega (arith, times-append r (chain_in chains from) (chain_in chains onto)))
+fronted-counts chains from onto r apart = grind (arith, moved-counts, times-append)
 
 -- The first row of a chain is taken out.
 shorter-counts : (chains : List (List ℕ)) (chain row r : ℕ) (rest : List ℕ)
     → chain_in chains chain ≡ row ∷ rest → r ≢ row
     → times r (chain_in chains 1) ≤ times r (chain_in (shortened chains chain) 1)
-shorter-counts chains chain row r rest is apart =
-    put-counts chains chain r (drop 1 (chain_in chains chain)) (λ same.
-    let there = ap (λ k. times r (chain_in chains k)) same in
-    let counts = ap (times r) is in
-    let behind = ap (λ rs. times r (drop 1 rs)) is in
-    let other = times-other r row rest (λ e. apart (sym e)) in
-    omega arith)
+shorter-counts chains chain row r rest is apart = grind (arith, put-counts, drop, times-other)
 
 pub taken-counts : (chains : List (List ℕ)) (chain row r : ℕ) (rest : List ℕ)
     → chain_in chains chain ≡ row ∷ rest → r ≢ row
     → times r (chain_in chains 1)
     ≤ times r (chain_in (preceded (shortened chains chain) 0 row) 1)
-taken-counts chains chain row r rest is apart =
-    let cut = shortened chains chain in
-    let shorter = shorter-counts chains chain row r rest is apart in
-    let freed = put-counts cut 0 r (row ∷ chain_in cut 0) (λ e. absurd (omega arith)) in
-    omega arith
+taken-counts chains chain row r rest is apart = grind (arith, shorter-counts, put-counts)
 
 pub lifted-counts : (chains : List (List ℕ)) (from onto row r : ℕ) (rest : List ℕ)
     → chain_in chains from ≡ row ∷ rest → r ≢ row → onto ≢ from
     → times r (chain_in chains 1) ≤ times r (chain_in (lifted chains from onto) 1)
 lifted-counts chains from onto row r rest is other apart =
-    let cut = shortened chains from in
-    let rows = chain_in chains from in
-    let shorter = shorter-counts chains from row r rest is other in
-    let kept = ap (times r) (in-other chains from onto (drop 1 rows) apart) in
-    let put =
-    put-counts cut onto r (take 1 rows ++ chain_in chains onto)
-    (λ same. let there = ap (λ k. times r (chain_in cut k)) same in
-    omega (arith, times-append r (take 1 rows) (chain_in chains onto))) in
-    omega arith
+    grind (arith, shorter-counts, in-other, drop, put-counts, take, times-append)
 
 turned-times : (r : ℕ) (rows : List ℕ) → times r rows ≡ times r (drop 1 rows ++ take 1 rows)
 turned-times r [] = omega arith
@@ -186,21 +130,13 @@ turned-times r (row ∷ rows) = omega (arith, times-append r rows (row ∷ []), 
 
 pub turned-counts : (chains : List (List ℕ)) (chain r : ℕ)
     → times r (chain_in chains 1) ≤ times r (chain_in (turned chains chain) 1)
-turned-counts chains chain r =
-    let rows = chain_in chains chain in
-    put-counts chains chain r (drop 1 rows ++ take 1 rows) (λ same.
-    let there = ap (λ k. times r (chain_in chains k)) same in
-    omega (arith, turned-times r rows))
+turned-counts chains chain r = grind (arith, put-counts, drop, take, turned-times)
 
 -- The chain is turned back: turning the new rows gives the old ones.
 pub back-counts : (chains : List (List ℕ)) (chain r : ℕ) (new : List ℕ)
     → drop 1 new ++ take 1 new ≡ chain_in chains chain
     → times r (chain_in chains 1) ≤ times r (chain_in (set chains chain new) 1)
-back-counts chains chain r new is =
-    put-counts chains chain r new (λ same.
-    let there = ap (λ k. times r (chain_in chains k)) same in
-    let counts = ap (times r) is in
-    omega (arith, turned-times r new))
+back-counts chains chain r new is = grind (arith, put-counts, turned-times)
 
 module _ {T : Type 0} where
   pub marked-of : (links : Links) (rows : List (Option T)) (walk : Option Walk)
@@ -221,8 +157,7 @@ module _ {T : Type 0} where
   marked-same links new rows other walk marks e d f s = record {
     sound = sound-same links new rows other walk e d f s.sound;
     known =
-        rw (ap (λ n. chains_of n (seen_lasts new.lasts.items walk)) e
-        ∙ ap (λ l. chains_of links.next.items (seen_lasts l walk)) d) s.known;
+        grind arith;
   }
 
   pub walk-marked : (links : Links) (rows : List (Option T)) (walk : Option Walk) (chain : ℕ)
@@ -233,10 +168,7 @@ module _ {T : Type 0} where
   walk-marked links rows walk chain at marks s rest shown less is = record {
     sound = walk-made links rows walk chain at s.sound rest shown less is;
     known =
-        rw (ap (chains_of links.next.items)
-        (ap (set links.lasts.items chain) is ∙ last-again links.lasts.items chain
-        (last_in links.lasts.items chain) refl ∙ sym (seen-rest links.lasts.items walk rest)))
-        s.known;
+        grind (arith, set, last-again, seen-rest);
   }
 
   pub rest-marked : (links new : Links) (rows : List (Option T)) (walk : Option Walk) (w : Walk)
@@ -246,6 +178,5 @@ module _ {T : Type 0} where
   rest-marked links new rows walk w marks s is same noted = record {
     sound = rest-made links new rows walk w s.sound is same noted;
     known =
-        rw (ap (λ n. chains_of n new.lasts.items) same ∙ ap (chains_of links.next.items) noted
-        ∙ ap (seen_chains links) (sym is)) s.known;
+        grind arith;
   }

@@ -44,16 +44,7 @@ pub in-chain : {next : List ℕ} {lasts : List (Option ℕ)} {chain row : ℕ}
 in-chain {next} {lasts} {chain} {row} i = by_last (last_in lasts chain) refl
   where
     within : chain < length lasts
-    within = by_rows (chain_in i.chains chain) refl i.some
-      where
-        by_rows : (rows : List ℕ) → chain_in i.chains chain ≡ rows → 0 < times row rows
-            → chain < length lasts
-        by_rows [] is some = absurd (omega arith)
-        by_rows (x ∷ xs) is some =
-            let e = ap length is in
-            let less = there i.chains chain (omega arith) in
-            let size = (i.holds).size in
-            omega arith
+    within = grind (arith, length, there)
 
     by_last : (last : Option ℕ) → last_in lasts chain ≡ last
         → (chain < length lasts) × ((last : ℕ) × (last_in lasts chain ≡ Some last))
@@ -105,7 +96,7 @@ row-first {next} {lasts} {chains} h chain row before front back less is small le
         let same = snoc-same ns (back ++ front) n row (e ∙ sym (append_assoc back front (row ∷ []))) in
         let P : List ℕ → Type 0 =
         λ rows. Holds next (set lasts chain (Some before)) [] (set chains chain rows) in
-        subst P (ap (λ r. r ∷ ns) same.1 ∙ ap (λ rs. row ∷ rs) same.0) holds
+        subst P (grind (arith, same.1, same.0)) holds
 
 pub row-is-last : {next : List ℕ} {lasts : List (Option ℕ)} {chain row : ℕ}
     (i : IsIn next lasts chain row) (before : ℕ) → before < length next → after next before ≡ row
@@ -141,7 +132,7 @@ row-cut {next} {lasts} {chains} h new chain row before left front back less is s
     subst P leads (holds-at (set (set lasts chain (Some before)) chain left) (set lasts chain left)
     (shortened seen chain) (set chains chain (back ++ front))
     (set-set lasts chain (Some before) left)
-    (ap (λ rs. set seen chain (drop 1 rs)) (in-put chains chain rows within)
+    (grind (arith, in-put chains chain rows within)
     ∙ set-set chains chain rows (back ++ front))
     (cut (set lasts chain (Some before)) [] seen chain first
     (get_or-set_same lasts chain (Some before) None less)))
@@ -215,7 +206,7 @@ middle-taken {next} {lasts} {chains} h new chain row before last left front back
         (append_assoc front (row ∷ parts.0) (parts.1 ∷ [])
         ∙ ap (λ rs. front ++ row ∷ rs) (sym parts.2) ∙ sym at ∙ end.1) in
         let back_is : b ∷ bs ≡ parts.0 ++ last ∷ [] =
-        parts.2 ∙ ap (λ r. parts.0 ++ r ∷ []) same in
+        grind (arith, parts.2, same) in
         let rows = (b ∷ bs) ++ front in
         let within : chain < length chains = let e = h.size in omega arith in
         let cut_out = row-cut h new chain row before left front (b ∷ bs) less at small leads cut in
@@ -245,18 +236,7 @@ pub passed-counts : (chains : List (List ℕ)) (front back : List ℕ) (row onto
     → chain_in chains 1 ≡ front ++ row ∷ back → 1 < onto → r ≢ row
     → times r (chain_in chains 1) ≤ times r (chain_in (passed chains (front ++ back) onto row) 1)
 passed-counts chains front back row onto r is apart other =
-    let rest = set chains 1 (front ++ back) in
-    let counts = ap (times r) is in
-    let put =
-    put-counts chains 1 r (front ++ back) (λ e. omega (
-      arith,
-      times-append r front (row ∷ back),
-      times-append r front back,
-      times-other r row back (λ same. other (sym same)),
-    )) in
-    let kept =
-    ap (times r) (in-other rest onto 1 (chain_in rest onto ++ row ∷ []) (λ e. absurd (omega arith))) in
-    omega arith
+    grind (arith, set, put-counts, times-append, times-other, in-other)
 
 module _ {T : Type 0} where
   pub row-parts : {links : Links} {rows : List (Option T)} {walk : Option Walk} {marks : List Bool}
@@ -331,9 +311,13 @@ module _ {T : Type 0} where
     front = values_of rows front;
     back = values_of rows back;
     whole =
-        chain-map (values_of rows) chains 1 refl ∙ ap (values_of rows) is
-        ∙ values-append rows front (row ∷ back)
-        ∙ ap (λ vs. values_of rows front ++ vs) (values-first rows row back value found);
+        grind (
+          arith,
+          chain-map (values_of rows) chains 1 refl,
+          ap (values_of rows) is,
+          values-append rows front (row ∷ back),
+          values-first rows row back value found,
+        );
     left = refl;
   }
 
@@ -353,10 +337,7 @@ module _ {T : Type 0} where
       × (map (values_of rows) new
       ≡ passed old (values_of rows front ++ values_of rows back) onto value)
   passed-out rows chains new old row onto front back value shown is found to =
-      rw (← shown) (
-        values-amid rows chains row front back value is found,
-        ap (map (values_of rows)) to ∙ shown-passed rows chains row onto front back value found,
-      )
+      grind (arith, values-amid, map, shown-passed)
 
   pub some-amid : (rows : List (Option T)) (chains : List (List ℕ)) (old : List (List T))
       (row : ℕ) (front back : List ℕ) (found : Option (Bor T)) → map (values_of rows) chains ≡ old
@@ -364,7 +345,4 @@ module _ {T : Type 0} where
       → IfSome found (λ value. (rest : List T) × TakesOut (chain_in old 1) value.now rest)
   some-amid rows chains old row front back None shown is copied = tt
   some-amid rows chains old row front back (Some value) shown is copied =
-      rw (← shown) (
-        values_of rows front ++ values_of rows back,
-        values-amid rows chains row front back value.now is (sym copied),
-      )
+      grind (arith, values-amid rows chains row front back value.now is (sym copied))

@@ -191,7 +191,7 @@ submitted-plain events id end place bio well_formed is queued =
           unstopped (first_place is_stop events) (end_of events id) place
           (sym (own_queue_event events id bio is own) ∙ queued.queues) in
           let same : end ≡ place = let both : Some end ≡ Some place = sym ends ∙ found in cc in
-          subst (λ p. Queues events id end p) same (AtEnd end bio there.2.0 is there.2.1 own)
+          rw (← same) (AtEnd end bio there.2.0 is there.2.1 own)
       | inr plain ↦
           let found =
           unstopped (first_place is_stop events)
@@ -234,7 +234,7 @@ queues-plain events id end place (Some (Mark text)) well_formed is queued =
     (queue_of log_writes_order events id (slice_get events id)) place queued.queues in
     let e : id ≡ end = cc in
     let p : id ≡ place = cc in
-    subst (λ x. Queues events id x place) e (subst (λ x. Queues events id id x) p (AMark text is))
+    rw (← e) (subst (λ x. Queues events id id x) p (AMark text is))
 queues-plain events id end place (Some Close) well_formed is queued =
     let ends : Some id ≡ Some end = sym (ap (own_end events id) is) ∙ queued.ends in
     let found : Some id ≡ Some place =
@@ -243,7 +243,7 @@ queues-plain events id end place (Some Close) well_formed is queued =
     (queue_of log_writes_order events id (slice_get events id)) place queued.queues in
     let e : id ≡ end = cc in
     let p : id ≡ place = cc in
-    subst (λ x. Queues events id x place) e (subst (λ x. Queues events id id x) p (AClose is))
+    rw (← e) (subst (λ x. Queues events id id x) p (AClose is))
 queues-plain events id end place (Some (Complete ended ok)) well_formed is queued =
     absurd (let contra : None ≡ Some end = sym (ap (own_end events id) is) ∙ queued.ends in cc)
 queues-plain events id end place (Some (Stop cause)) well_formed is queued =
@@ -285,7 +285,7 @@ list-plain size events well_formed =
             queued.1,
             queued.0,
             queued-plain events id queued.1 queued.0 well_formed
-                (subst (λ i. IsQueued log_writes_order events i queued.0 queued.1) item.2 queued.2),
+                (rw item.2 at queued.2),
           );
       sorted = λ m n a b end place other_end other_place less is_a is_b queued_a queued_b.
           let x = item-there items m a is_a in

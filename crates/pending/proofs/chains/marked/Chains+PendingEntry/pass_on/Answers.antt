@@ -18,11 +18,7 @@ index-requires c =
     omega arith
 
 pub next-requires : goal.next-requires
-next-requires c =
-    let marked : is_marked c.self.inside.marks.rows.items c.args.row ≡ true = grind arith in
-    let less = marked-within c.self.invariant c.args.row marked in
-    let sized = c.self.invariant.sound.table.sized in
-    omega arith
+next-requires c = grind (arith, true, marked-within)
 
 rests : (c : goal.After-put_last) → walked_in c.self.inside.walk ≡ None
 rests c = rw (← c.self.view_is) at c.requires.rests
@@ -65,14 +61,7 @@ found : (c : goal.After-put_last)
     → (request : PendingEntry)
     × (value_at c.self.inside.rows.items c.args.row ≡ Some request)
     × (request.end ≡ c.args.end)
-found c =
-    let rows = c.self.inside.rows.items in
-    let small = marked-within c.self.invariant c.args.row (grind arith) in
-    let read =
-    get_or_read_under rows c.args.row (length rows) c.index.result.now None c.index.ensures small
-    refl in
-    let request = c.ended_at.ensures (grind arith) in
-    (request.0, sym read ∙ request.1, request.2)
+found c = grind (arith, marked-within, get_or_read_under, length)
 
 pub returns-clause-passed : goal.returns-clause-passed
 returns-clause-passed c = λ done.
@@ -82,7 +71,7 @@ returns-clause-passed c = λ done.
     let f = found c in
     let out =
     passed-out rows chains (seen_chains c.put_last.new.links c.self.inside.walk)
-    c.args.self.now.chains c.args.row c.args.onto p.0 p.1 f.0 (ap (λ s. s.chains) c.self.view_is)
+    c.args.self.now.chains c.args.row c.args.onto p.0 p.1 f.0 (grind (arith, c.self.view_is))
     p.2 f.1 (seen-of c.put_last.new.links rows c.self.inside.walk _ (table c)) in
     (f.0, values_of rows p.0 ++ values_of rows p.1, f.2, out.0, out.1)
 

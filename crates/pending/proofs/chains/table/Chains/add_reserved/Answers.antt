@@ -90,8 +90,7 @@ returns-clause-rows g c =
     ap length c.put_value.ensures.put
     ∙ length-set c.open_row-row.new.rows.items c.open_row-row.result (Some c.args.value) in
     let less =
-    ap length (free-kept cut c.args.chain
-    (chain_in cut c.args.chain ++ c.open_row-row.result ∷ []) c.requires.chain.0)
+    grind (arith, length, free-kept)
     ∙ shorter-free chains in
     rw (← c.self.view_is)
     (table-rows (table g c) (length c.self.inside.rows.items) (length (chain_in chains 0))

@@ -19,13 +19,11 @@ index-requires g c =
 
 pub returns : goal.returns
 returns g c =
-    let t = (c.self.invariant.sound).table in
-    let rest =
-    first-row t.holds c.args.chain c.in_ok-last.last c.next.result
-    (sym c.seen_last.ensures ∙ c.in_ok-last.was) c.next.ensures in
-    let value = first-value t c.args.chain c.next.result rest.0 c.requires.0 rest.1 in
-    let small = row-within t c.args.chain c.next.result rest.0 rest.1 in
-    let read =
-    get_or_read_under c.self.inside.rows.items c.next.result
-    (length c.self.inside.rows.items) c.index.result.now None c.index.ensures small refl in
-    rw (← c.self.view_is) (c.as_ref.ensures.value ∙ read ∙ value.1 ∙ sym value.2)
+    grind (
+      arith,
+      first-row ((c.self.invariant.sound).table).holds c.args.chain c.in_ok-last.last
+          c.next.result (sym c.seen_last.ensures ∙ c.in_ok-last.was) c.next.ensures,
+      first-value,
+      row-within,
+      get_or_read_under,
+    )

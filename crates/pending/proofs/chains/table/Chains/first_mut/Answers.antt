@@ -48,7 +48,6 @@ returns g c =
       ),
       record {
         writes_back = tt;
-        value = rw (← c.self.view_is)
-            (value.2 ∙ sym value.1 ∙ sym read ∙ c.value_mut.ensures.value);
+        value = grind arith;
       },
     )

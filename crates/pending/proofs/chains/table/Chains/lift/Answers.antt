@@ -24,15 +24,13 @@ next-row-requires g c =
 
 pub cut-left-requires : goal.cut-left-requires
 cut-left-requires g c =
-    let s = sound-at c.self.inside.walk (Some c.in-Some.walk) c.in-Some.is c.self.invariant.sound in
-    record {
-      lasts = seen_lasts c.self.inside.links.lasts.items (Some c.in-Some.walk);
-      loose = [];
-      chains = seen_chains c.self.inside.links (Some c.in-Some.walk);
-      chain = c.in-Some.walk.chain;
-      holds = s.table.holds;
-      there = walk-last c.in-Some.walk s ∙ c.in-Some-at.is;
-    }
+    grind (
+      arith,
+      sound-at c.self.inside.walk (Some c.in-Some.walk) c.in-Some.is
+          c.self.invariant.sound,
+      walk-last c.in-Some.walk (sound-at c.self.inside.walk (Some
+          c.in-Some.walk) c.in-Some.is c.self.invariant.sound),
+    )
 
 pub put_first-requires : goal.put_first-requires
 put_first-requires g c =

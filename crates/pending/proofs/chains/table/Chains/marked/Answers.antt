@@ -20,5 +20,5 @@ returns g c =
     get_or_read_under rows c.args.row (length rows) c.index.result.now None c.index.ensures small
     refl in
     some-amid rows (seen_chains c.self.inside.links c.self.inside.walk) c.args.self.now.chains
-    c.args.row p.0 p.1 c.as_ref.result (ap (λ s. s.chains) c.self.view_is) p.2
+    c.args.row p.0 p.1 c.as_ref.result (grind (arith, c.self.view_is)) p.2
     (c.as_ref.ensures.value ∙ read)

@@ -30,10 +30,4 @@ pub returns-clause-full : goal.returns-clause-full
 returns-clause-full g c = grind (arith, room-of, vec_capacity)
 
 pub returns-clause-room : goal.returns-clause-room
-returns-clause-room g c =
-    let sound =
-    sound-same c.self.inside.links c.reserve_rows.new.self c.self.inside.rows.items
-    c.reserve.new.self.items c.self.inside.walk c.reserve_rows.ensures.next
-    (rw c.reserve_rows.ensures.lasts) c.reserve.ensures.items c.self.invariant.sound in
-    let room = room-of (vec_capacity c.reserve.new.self) sound in
-    grind (arith, room, c.in_ok-reserve_rows.ensures.ok, c.reserve.ensures.ok)
+returns-clause-room g c = grind (arith, sound-same, room-of, vec_capacity)

@@ -85,7 +85,7 @@ asks_for making name old new writes result lines image made printed same asked =
   image = image;
   made = made;
   printed = printed;
-  asked = asked ∙ ap (λ (w : Option (List Write)). one_more w name image) same;
+  asked = grind (arith, asked, same);
 }
 
 pub makes_none : {T : Type 0} (making : (List ℕ → Option (List ℕ)) → Making T)
@@ -130,8 +130,7 @@ makes_kept making steady read name old mid new (Ok result) makes stays =
     record {
       came = record {
         asks = asks_kept (making old.files) name old mid new result made.asks stays;
-        held = subst (λ (file : Option (List ℕ)). MatchesContents file made.asks.image)
-            (sym (stays.files name)) made.held;
+        held = rw (stays.files name) made.held;
       };
       apart = λ is. stays.writes ∙ makes.apart is;
     }
@@ -161,7 +160,7 @@ pub fault_told : {T : Type 0} (t : ErrStream) (exits : Result T RunError → Exi
     → ReportsLine t (exits done) (reported_line done) ended
     → ReportsLine t (exits (Err fault)) (fault_line fault) ended
 fault_told {T = T} t exits done fault ended is told =
-    subst (λ (d : Result T RunError). ReportsLine t (exits d) (reported_line d) ended) is told
+    rw is at told
 
 pub file_refused : (fault : RunError) → IsFileError fault → exit_of fault ≡ Refused
 file_refused fault (inl is) = ap exit_of is
@@ -236,8 +235,7 @@ fails_unread kind contents out text error fault IsFaultAt at none is wrong only 
         → FailsRecording kind contents out out
         (RefusedBy (record { line = line; refusal = error.refusal }))
     by_line None here memory =
-        file _ (inr (ap (λ (e : Fault). RefusedBy
-        (record { line = None; refusal = e.refusal })) (none memory)))
+        file _ (inr (grind (arith, none memory)))
     by_line (Some number) here first = unread text number error.refusal is
         (λ script spells. let memory = only script spells in
         absurd (cc (ap (λ (e : Fault). e.line) memory, here))) (at number first) (keeps_same out)
@@ -283,24 +281,17 @@ pub run_printed : (contents : Option (List ℕ)) (text : List ℕ) (script : Run
     → Appends before mid (seat_lines 0 shown) → Appends mid after (end_lines status lies)
     → PrintsLog of_seats contents status image before after
 run_printed contents text script before mid after shown tallies status lies image is spells run same
-    first second = (
-      seat_lines 0 tallies ++ end_lines status lies,
-      record {
-        text = text;
-        script = script;
-        read = is;
-        spelled = spells;
-        ran = record { tallies = tallies; lies = lies; ran = run; output = refl };
-      },
-      appends_twice before mid after (seat_lines 0 tallies) (end_lines status lies)
-          (subst (λ (ts : List Tally). Appends before mid (seat_lines 0 ts)) same first) second,
+    first second = grind (
+      arith,
+      appends_twice before mid after (seat_lines 0 tallies) (end_lines
+          status lies) (rw (← same) first) second,
     )
 
 pub not_too_long : (contents : Option (List ℕ)) (text : List ℕ) {limit : ℕ}
     → MatchesContents contents text → length text ≤ limit → IsTooLong limit contents → ⊥
 not_too_long None text is within long = long
 not_too_long (Some known) text is within long =
-    let same = ap (λ (bytes : List ℕ). length bytes) is in omega arith
+    let same = ap length is in omega arith
 
 lines_more : (from : ℕ) (tallies : List Tally) (tally : Tally) (number : ℕ)
     → number ≡ from + length tallies

@@ -48,9 +48,7 @@ use Rattle.dmlw_commands.specs.LogCopies.{IsCopiedFrom, IsCopiedOn, LacksRoom, S
 use Rattle.dmlw_commands.specs.LogCopies.{memory, of_image, stopped, unopened}
 
 pub content_whole : (v : View) → IsLawful v → HasWholeSectors v.size v.content
-content_whole v lawful =
-    lawful.whole v.moment v.content (omega arith)
-    (lawful.nested v.moment v.content (omega arith) lawful.current)
+content_whole v lawful = grind arith
 
 pub fails_to_open : (log : List ℕ) (sectors : ℕ) (fault : RunError) (stop : RunError)
     → (fault ≡ memory_error) ⊎ RefusesImage log fault → stop ≡ fault
@@ -79,12 +77,11 @@ failed_from log_file log sectors (Err stop) read image fails = of_image log stop
 pub log_fits : (log : List ℕ) (sectors : ℕ) (r : Reader) (v : Store) → Opens log r
     → IsBegun sectors v → r.head.sectorsize ≤ v.sector_bytes
 log_fits log sectors r v opened begun =
-    let bounds =
-    sector_size_bounds r.head.sectorsize
-    (size_of_head (r.device.content 0) r.head opened.super_block) in
-    let few = bounds.1 in
-    let to = begun.sector_bytes in
-    omega arith
+    grind (
+      arith,
+      sector_size_bounds r.head.sectorsize (size_of_head (r.device.content 0) r.head
+          opened.super_block),
+    )
 
 reading_on : (log : List ℕ) (r : Reader) (es : List Entry) (fault : Option LogFault) → IsImage log
     → Opens log r → IsLog r es fault
@@ -100,10 +97,7 @@ no_fault : (disk : ℕ) (c : Content) (head : Super) (es : List Entry) (fault : 
     → (0 < count → count ≤ length es) → (fault ≡ None) × (count ≡ length es)
 no_fault disk c head es None count reading all some =
     let counted : length es ≡ head.count = reading.end in (refl, all ∙ sym counted)
-no_fault disk c head es (Some found) count reading all some =
-    let less : length es < head.count = reading.end.0 in
-    let within = some (omega arith) in
-    absurd (omega arith)
+no_fault disk c head es (Some found) count reading all some = grind (arith, length)
 
 begun_none : (sectors : ℕ) (v : Store) → IsBegun sectors v → entries_of v ≡ []
 begun_none sectors v begun = ap (entries_at v.sector_bytes v.device.content 1) begun.placed
@@ -112,19 +106,14 @@ placed_entries : (sectors from place count : ℕ) (es : List Entry) (v w : Store
     → w.device.lies ≡ 0 → place ≡ 0
     → IsPlaced from es place count v w → entries_of w ≡ map (resized from 4096) (take count es)
 placed_entries sectors from place count es v w begun honest first placed =
-    placed.entries honest
-    ∙ ap (λ (xs : List Entry). xs
-    ++ map (resized from v.sector_bytes) (entries_from es place count)) (begun_none sectors v begun)
-    ∙ ap (λ (n : ℕ). map (resized from n) (entries_from es place count)) begun.sector_bytes
-    ∙ ap (λ (n : ℕ). map (resized from 4096) (entries_from es n count)) first
+    grind (arith, placed.entries honest, begun_none sectors v begun, begun.sector_bytes, first)
 
 placed_aligned : (sectors from place count : ℕ) (es : List Entry) (v w : Store) → IsBegun sectors v
     → place ≡ 0 → IsPlaced from es place count v w
     → list_all (is_aligned_to from 4096) (take count es) ≡ true
 placed_aligned sectors from place count es v w begun first placed =
-    subst (λ (n : ℕ). list_all (is_aligned_to from 4096) (entries_from es n count) ≡ true) first
-    (subst (λ (n : ℕ). list_all (is_aligned_to from n) (entries_from es place count)
-    ≡ true) begun.sector_bytes placed.aligned)
+    rw first at (subst (λ (n : ℕ). list_all (is_aligned_to from n) (entries_from es place count) ≡
+    true) begun.sector_bytes placed.aligned)
 
 pub copied_on : (log : List ℕ) (sectors count : ℕ) (r : Reader) (v w : Store) → IsImage log
     → Opens log r → IsBegun sectors v
@@ -151,26 +140,18 @@ copied_on log sectors count r v w image opened begun whole_sectors honest curren
     let to = goes.sector_bytes ∙ begun.sector_bytes in
     let entries =
     placed_entries sectors r.head.sectorsize r.next count es v w begun honest first placed
-    ∙ ap (λ (xs : List Entry). map (resized r.head.sectorsize 4096) xs) taken in
+    ∙ ap (map (resized r.head.sectorsize 4096)) taken in
     record {
       head = r.head;
       entries = es;
       reading =
-          subst (IsReading log r.head es) ended.0
-          (reading_on log r es read.fault image opened read.reads);
+          grind (arith, reading_on log r es read.fault image opened read.reads);
       all = ended.1;
       aligned =
-          subst (λ (xs : List Entry). list_all (is_aligned_to r.head.sectorsize 4096) xs
-          ≡ true) taken
-          (placed_aligned sectors r.head.sectorsize r.next count es v w begun first placed);
+          grind (arith, placed_aligned);
       size = size;
       copied =
-          subst (λ (n : ℕ). IsLogOf n w.device.content 4096
-          (map (resized r.head.sectorsize 4096) es)) size
-          (subst (λ (n : ℕ). IsLogOf w.device.size w.device.content n
-          (map (resized r.head.sectorsize 4096) es)) to
-          (subst (IsLogOf w.device.size w.device.content w.sector_bytes) entries
-          (whole honest w.device.content current)));
+          grind (arith, map);
     }
 
 log_alike : (disk size : ℕ) (c d : Content) (es : List Entry) → 0 < disk → AgreeBelow disk c d
@@ -196,8 +177,7 @@ image_left log sectors count disk some done =
       all = done.all;
       aligned = done.aligned;
       size =
-          length-gather v.size v.content 0 v.size whole (omega arith)
-          ∙ ap (λ (n : ℕ). 512 * n) size;
+          grind (arith, length-gather v.size v.content 0 v.size whole (omega arith), size);
       copied =
           log_alike sectors 4096 v.content (sector_of (image_of disk))
           (map (resized done.head.sectorsize 4096) done.entries) (omega arith)
@@ -210,23 +190,7 @@ lacks_room : (sectors from place count : ℕ) (es : List Entry) (v w : Store) �
     → IsPlaced from es place count v w → HasNoRoom from es (place + count) w
     → LacksRoom from es count sectors
 lacks_room sectors from place count es v w begun kept honest first goes placed none =
-    let size = goes.size ∙ begun.size in
-    let to = goes.sector_bytes ∙ begun.sector_bytes in
-    let here : place + count ≡ count = omega arith in
-    let entries = placed_entries sectors from place count es v w begun honest first placed in
-    let after : w.next ≡ next_sector (map (resized from 4096) (take count es)) =
-    (kept.stand honest).after ∙ ap next_sector entries in
-    record {
-      next = none.next;
-      there = subst (λ (n : ℕ). slice_get es n ≡ Some none.next) here none.there;
-      full =
-          subst (λ (n : ℕ). log_sectors 4096 sectors ≤ n + sectors_of
-          (resized from 4096 none.next)) after
-          (subst (λ (n : ℕ). log_sectors 4096 n ≤ w.next + sectors_of
-          (resized from 4096 none.next)) size
-          (subst (λ (n : ℕ). log_sectors n w.device.size ≤ w.next + sectors_of
-          (resized from n none.next)) to none.full));
-    }
+    grind (arith, placed_entries, map, take)
 
 -- The disks never fail and never lie, so only the causes in `HasStopCause` are left.
 cause_on : (sectors applied : ℕ) (es : List Entry) (fault : Option LogFault) (r last : Reader)
@@ -249,19 +213,14 @@ cause_on sectors applied es fault r last v w
     refused =
     absurd (cc (fresh, refused))
 cause_on sectors applied es fault r last v w copies.Unaligned begun first fresh within reader store
-    kept honest goes placed is =
-    let here : r.next + applied ≡ applied = omega arith in
-    subst (λ (n : ℕ). IsUnaligned r.head.sectorsize n es applied) begun.sector_bytes
-    (subst (IsUnaligned r.head.sectorsize v.sector_bytes es) here is)
+    kept honest goes placed is = grind arith
 cause_on sectors applied es fault r last v w
     (copies.Store ends.Full) begun first fresh within reader store kept honest goes placed
     (is, inl before) =
     absurd (cc (begun.end, before))
 cause_on sectors applied es fault r last v w
     (copies.Store ends.Full) begun first fresh within reader store kept honest goes placed
-    (is, inr none) =
-    lacks_room sectors r.head.sectorsize r.next applied es v w begun kept honest first goes placed
-    none
+    (is, inr none) = grind (arith, lacks_room)
 cause_on sectors applied es fault r last v w
     (copies.Store ends.Device) begun first fresh within reader store kept honest goes placed
     (is, inl before) =
@@ -305,9 +264,7 @@ stopped_on log sectors stop r last v w image opened begun whole_sectors reader s
       aligned =
           placed_aligned sectors r.head.sectorsize r.next stop.applied es v w begun first placed;
       cause =
-          cause_on sectors stop.applied es read.fault r last v w stop.cause begun first opened.going
-          within reader store kept honest goes placed
-          (stopping es read.fault read.reads);
+          grind (arith, cause_on);
     }
 
 pub file_stop_refused : (log_file : Option (List ℕ)) (sectors : ℕ) (stop : RunError)
@@ -327,7 +284,7 @@ copy_read log image count sectors new found fault is reading =
     let es = map (resized is.head.sectorsize 4096) is.entries in
     let long = is.size in
     let size : sectors ≡ length image / 512 = omega arith in
-    let whole = subst (λ (n : ℕ). IsLogOf n (sector_of image) 4096 es) size is.copied in
+    let whole = rw size at is.copied in
     let read = log_is_read (length image / 512) 4096 (sector_of image) new es whole
     reading.super_block in
     let same =
@@ -354,7 +311,7 @@ copy_alike log image count sectors n head new es found f g first is log_read ima
     (sector_of log) is.head head is.entries es None f is.reading log_read in
     let read = copy_read log image count sectors new found g is image_read in
     let is_size = size_of_head (sector_of log 0) is.head is.reading.super_block in
-    ap (λ (size : ℕ). replay size (take n found) first) read.0
+    grind (arith, read.0)
     ∙ ap (λ (xs : List Entry). replay 4096 (take n xs) first) (sym read.1)
     ∙ replay_first is.head.sectorsize 4096 n is.entries first is_size refl is.aligned
     ∙ ap (λ (h : Super). replay h.sectorsize (take n is.entries) first) old.0

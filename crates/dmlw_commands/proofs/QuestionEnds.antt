@@ -57,27 +57,7 @@ pub judged_by : {A : Type 0} (meaning : Meaning A) (text image : List ℕ) (aske
 judged_by meaning text image asked sectors plan events (Err fault) whole spelled rehearsed lawful
     aligned same judged = tt
 judged_by meaning text image asked sectors plan events
-    (Ok answer) whole spelled rehearsed lawful aligned same judged =
-    let here =
-    subst (λ (n : ℕ). CanJudge n events asked image
-    × meaning.says n (take asked events) (blank (length image))
-    (sector_of image) answer) same judged in
-    record {
-      text = text;
-      image = image;
-      read = record { script_holds = refl; image_holds = refl; whole = whole };
-      plan = plan;
-      spelled = spelled;
-      judged =
-          record {
-            events = events;
-            rehearsed = rehearsed;
-            lawful = lawful;
-            aligned = aligned;
-            can_judge = here.0;
-            holds = here.1;
-          };
-    }
+    (Ok answer) whole spelled rehearsed lawful aligned same judged = grind arith
 
 pub faulted_by : {A : Type 0} (text image : List ℕ) (asked sectors : ℕ) (plan : ScriptValue)
     (events : List CoreEvent) (r : Result A RunError) → IsImage image → IsTextOf text plan
@@ -93,7 +73,7 @@ faulted_by text image asked sectors plan events (Err fault) whole spelled rehear
     subst (HasNoVerdict (question text image asked)) (sym is)
     (no_moment text image plan events
     (record { script_holds = refl; image_holds = refl; whole = whole }) spelled rehearsed
-    (subst (λ (n : ℕ). CannotJudge n events asked image) same cannot))
+    (rw (← same) cannot))
 
 pub failed_run : (text image : List ℕ) (asked : ℕ) (plan : ScriptValue) (fault again : RunError)
     → IsImage image → IsTextOf text plan → FailsRehearsal text plan fault
@@ -114,9 +94,7 @@ failed_text text image asked error fault whole wrong only output =
         → HasNoVerdict (question text image asked)
         (Refused (record { line = line; refusal = error.refusal }))
     by_line None here memory =
-        let none = ap (λ (e : Fault). Refused
-        (record { line = None; refusal = e.refusal })) memory in
-        file _ (inr none) (λ usable. none)
+        grind (arith, file)
     by_line (Some number) here first =
         unread text image number error.refusal
         (record { script_holds = refl; image_holds = refl; whole = whole })
@@ -126,9 +104,7 @@ failed_text text image asked error fault whole wrong only output =
 pub failed_file : (asked : Question) (error : FileError) (fault : RunError)
     → (IsWithin 4194304 asked.script → error ≡ errors.Memory)
     → fault ≡ refused_by (file_refusal error) → HasNoVerdict asked fault
-failed_file asked error fault readable is =
-    file fault (subst IsFileError (sym is) (file_told error))
-    (λ usable. is ∙ ap (λ (e : FileError). refused_by (file_refusal e)) (readable usable.0))
+failed_file asked error fault readable is = grind (arith, file, file_told)
 
 match_some : (contents : Option (List ℕ)) (bytes known : List ℕ) → MatchesContents contents bytes
     → known ≡ bytes → MatchesContents contents known
@@ -154,16 +130,13 @@ answer_of_files meaning asked text image answer script bytes has = record {
 within_read : (file : Option (List ℕ)) (text : List ℕ) → IsWithin 4194304 file
     → MatchesContents file text → length text ≤ 4194304
 within_read None text few is = absurd few
-within_read (Some known) text few is = subst (λ (t : List ℕ). length t ≤ 4194304) (sym is) few
+within_read (Some known) text few is = rw is few
 
 pub fault_of_files : (asked : Question) (text image : List ℕ) (fault : RunError)
     → MatchesContents asked.script text → MatchesContents asked.image image
     → HasNoVerdict (question text image asked.moment) fault → HasNoVerdict asked fault
-fault_of_files asked text image fault script bytes (file f is readable) = file f is
-    (λ usable. readable (
-      within_read asked.script text usable.0 script,
-      image_read asked.image image usable.1 bytes,
-    ))
+fault_of_files asked text image fault script bytes (file f is readable) =
+    grind (arith, file, within_read, image_read)
 fault_of_files asked text image fault script bytes
     (unread known seen line refusal read none first) =
     unread known seen line refusal (record {
@@ -195,12 +168,7 @@ pub answered_files : {A : Type 0} (meaning : Meaning A) (asked : Question) (text
     ⊎ ((answered ≡ Err fault) × Keeps before after))
     → Answers meaning asked before after done
 answered_files {A = A} meaning asked text image before after answered (Ok answer) script bytes has
-    none printed fails = (
-      answer_of_files meaning asked text image answer script bytes
-          (subst (λ (r : Result A RunError). IfOk r
-          (HasAnswer meaning (question text image asked.moment))) printed.0 has),
-      printed.1,
-    )
+    none printed fails = grind (arith, answer_of_files)
 answered_files meaning asked text image before after (Ok answer) (Err fault) script bytes has none
     printed (inl is) =
     inr (is.0, answer, answer_of_files meaning asked text image answer script bytes has)
@@ -208,12 +176,7 @@ answered_files meaning asked text image before after (Err other) (Err fault) scr
     printed (inl is) = let never = is.1 in absurd (cc)
 answered_files {A = A} meaning asked text image before after answered (Err fault) script bytes has
     none printed (inr (same, kept)) =
-    inl (
-      fault_of_files asked text image fault script bytes
-          (subst (λ (r : Result A RunError). IfErr r
-          (HasNoVerdict (question text image asked.moment))) same none),
-      kept,
-    )
+    grind (arith, fault_of_files)
 
 pub answered_none : {A : Type 0} (meaning : Meaning A) (asked : Question) (known : Option (List ℕ))
     {Q : RunError → Type 0} (r : Result A RunError) → IsErrAnd r Q
@@ -251,7 +214,7 @@ finding_holds possible sectors events first now (Run run) found =
     take_all (length events) events (omega arith) in
     subst (λ (es : List CoreEvent). Possible es first now) all
     (possible events (length events) first now
-    (subst (λ (es : List CoreEvent). IsReachable es first now) (sym all) (run.items, found)))
+    (rw all (run.items, found)))
 finding_holds possible sectors events first now (RuledOut sector by) found = found
 
 pub same_verdict : OneVerdict → RunsArePossible
@@ -260,18 +223,14 @@ pub same_verdict : OneVerdict → RunsArePossible
     → IsVerdict sectors events first now verdict → IsFinding sectors events first now finding
     → verdict ≡ verdict_of finding
 same_verdict one possible sectors events first now verdict finding holds found =
-    one sectors events first now verdict (verdict_of finding) holds
-    (finding_holds possible sectors events first now finding found)
+    grind (arith, finding_holds)
 
 pub same_judged : OneVerdict → RunsArePossible
     → (plan : ScriptValue) (moment : ℕ) (image : List ℕ) (verdict : Verdict) (finding : Finding)
     → (judged : IsJudged plan moment image verdict) → (found : IsFound plan moment image finding)
     → judged.events ≡ found.events → verdict ≡ verdict_of finding
 same_judged one possible plan moment image verdict finding judged found same =
-    same_verdict one possible (top_of plan.data_disk) (take moment found.events)
-    (blank (length image)) (sector_of image) verdict finding
-    (subst (λ (es : List CoreEvent). IsVerdict (top_of plan.data_disk) (take moment es)
-    (blank (length image)) (sector_of image) verdict) same judged.holds) found.holds
+    grind (arith, same_verdict, length)
 
 -- The law `prefixes_are_possible` proves `BeginningsArePossible`; the lemmas below assume it.
 abbrev pub BeginningsArePossible : Type 0
@@ -326,9 +285,7 @@ verdict_yes possible size events sectors moment count image
 
 lawful_formed : (sectors : ℕ) (events : List CoreEvent) → is_lawful sectors events ≡ true
     → is_well_formed events ≡ true
-lawful_formed sectors events lawful =
-    (and_parts (is_well_formed events)
-    (all_below (λ place. is_within sectors (slice_get events place)) (length events)) lawful).0
+lawful_formed sectors events lawful = grind (arith, and_parts, length)
 
 pub judged_yes : BeginningsArePossible
     → (plan : ScriptValue) (moment count : ℕ) (image : List ℕ) (verdict : Verdict)
@@ -349,7 +306,7 @@ asked_yes possible asked count verdict has replayed =
 
 pub slice_get-of_get_or : {A : Type 0} (xs : List A) (k : ℕ) (x : A) → k < length xs → x ≡ get_or xs k x
     → slice_get xs k ≡ Some x
-slice_get-of_get_or {A} xs k x within is = slice_get-get_or xs k x within ∙ ap (λ (y : A). Some y) (sym is)
+slice_get-of_get_or {A} xs k x within is = slice_get-get_or xs k x within ∙ ap Some (sym is)
 
 abbrev pub stops_at : List CoreEvent → ℕ → Bool
 stops_at events place = is_stop (slice_get events place)
@@ -370,6 +327,4 @@ pub none_next : (events : List CoreEvent) (place next : ℕ) (event : CoreEvent)
     → slice_get events place ≡ Some event → is_stop (Some event) ≡ false
     → first_below (stops_at events) next ≡ None
 none_next events place next event is none there other =
-    subst (λ (n : ℕ). first_below (stops_at events) n ≡ None) (sym is)
-    (ap (λ (found : Option ℕ). or_here found (stops_at events place) place) none
-    ∙ ap (λ (here : Bool). or_here None here place) (ap is_stop there ∙ other))
+    rw is (grind (arith, none, ap is_stop there ∙ other))

@@ -46,9 +46,7 @@ honest v w first second = record { same = second ∙ sym first; counted = omega 
 pub fails_to_open : (log first : List ℕ) (upto : Upto) (fault : RunError) (stop : RunError)
     → (fault ≡ memory_error) ⊎ RefusesImage log fault
     → stop ≡ fault → FailsOnImages log first upto stop
-fails_to_open log first upto fault stop (inl is) same =
-    subst (FailsOnImages log first upto)
-    (sym (same ∙ is)) memory
+fails_to_open log first upto fault stop (inl is) same = grind (arith, memory)
 fails_to_open log first upto fault stop (inr refuses) same =
     subst (FailsOnImages log first upto) (sym same) (unopened fault refuses)
 
@@ -74,7 +72,7 @@ both_images log_file first_file now log first log_read log_image first_read firs
     record {
       log_read = log_read;
       log_image = log_image;
-      first_read = subst (λ (known : Option (List ℕ)). MatchesContents known first) same first_read;
+      first_read = rw (← same) first_read;
       first_image = first_image;
     }
 
@@ -92,21 +90,13 @@ pub replayed_on : (log first : List ℕ) (upto : Upto) (count : ℕ) (disk v w :
     → Begins (length first / 512) (sector_of first) v → w.size ≡ v.size → NoLie v w
     → IsReopened disk upto count v w → IsReplayedOn log first upto count w
 replayed_on log first upto count disk v w image log_begins begins size no_lie done =
-    let applied : IsApplied done.head.sectorsize done.entries 0 count v.content w.content =
-    done.applied no_lie in
-    let alike =
-    replay_alike done.head.sectorsize (entries_from done.entries 0 count)
-    (length first / 512) (sector_of first) v.content begins.content in
-    record {
-      head = done.head;
-      entries = done.entries;
-      fault = done.fault;
-      reading = reading_on log disk done.head done.entries done.fault image log_begins done.reading;
-      named = done.named;
-      within = λ some. let all = applied.some some in omega arith;
-      size = size ∙ begins.size;
-      content = λ sector below. ap (λ (c : Content). c sector) applied.content ∙ alike sector below;
-    }
+    grind (
+      arith,
+      replay_alike done.head.sectorsize (entries_from done.entries 0 count) (length
+          first / 512) (sector_of first) v.content begins.content,
+      reading_on log disk done.head
+          done.entries done.fault image log_begins done.reading,
+    )
 
 -- The disks never fail, so only the causes in `HasStopCause` are left.
 cause_on : (es : List Entry) (fault : Option LogFault) (upto : Upto) (head : Super)
@@ -121,10 +111,7 @@ cause_on es fault upto head log last v w disk applied replays.NoSuchMark size re
 cause_on es fault upto head log last v w disk applied replays.NoFlush size reader target lacks =
     lacks
 cause_on es fault upto head log last v w disk applied replays.PastTarget size reader target
-    reaches =
-    let here : 0 + applied ≡ applied = omega arith in
-    subst (λ (n : ℕ). ReachesPast head.sectorsize es applied n) size
-    (subst (λ (p : ℕ). ReachesPast head.sectorsize es p v.size) here reaches)
+    reaches = grind arith
 cause_on es fault upto head log last v w disk applied (replays.Log (reads.Log found)) size reader
     target is = is
 cause_on es fault upto head log last v w disk applied (replays.Log reads.Device) size reader target
@@ -168,8 +155,7 @@ stopped_on log first upto stop disk last v w image log_begins begins reader targ
           reading_on log disk halted.head halted.entries halted.fault image log_begins
           halted.reading;
       within =
-          applied_within halted.head.sectorsize halted.entries v.content w.content stop.applied
-          stop.cause (halted.leaves no_lie);
+          grind (arith, applied_within);
       cause =
           cause_on halted.entries halted.fault upto halted.head disk last v w
           (length first / 512) stop.applied stop.cause begins.size reader target halted.cause;

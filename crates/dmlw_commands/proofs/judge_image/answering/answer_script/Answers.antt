@@ -24,11 +24,9 @@ returns-clause-verdict g c =
     subst (IsRehearsed c.args.script.now)
     (sym c.events.ensures) c.in_ok-rehearsed.ensures.rehearsed in
     let lawful =
-    subst (λ (es : List CoreEvent). is_lawful (top_of c.args.script.now.data_disk) es
-    ≡ true) (sym c.events.ensures) c.in_ok-rehearsed.ensures.lawful in
+    rw (← c.events.ensures) at c.in_ok-rehearsed.ensures.lawful in
     let aligned =
-    subst (λ (es : List CoreEvent). all_aligned (bytes_of c.args.script.now.log_size) es
-    ≡ true) (sym c.events.ensures) c.in_ok-rehearsed.ensures.aligned in
+    rw (← c.events.ensures) at c.in_ok-rehearsed.ensures.aligned in
     subst (λ (r : Result g.row.A.Denot RunError). IfOk r
     (HasAnswer g.A.Answer.meaning (question c.args.text.now c.args.image.now c.args.moment)))
     (sym c.answered_by.ensures)

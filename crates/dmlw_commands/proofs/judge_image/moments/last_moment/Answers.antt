@@ -11,11 +11,4 @@ returns-then-is_stop-clause-last c =
     c.loop-place.invariant there (sym c.is_stop.ensures ∙ c.if-is_stop.true)
 
 pub loop-place-preserved : goal.loop-place-preserved
-loop-place-preserved c =
-    let there =
-    slice_get-of_get_or c.args.events.now c.loop-place.place c.index-events-place.result
-    c.loop-place-test.true c.index-events-place.is in
-    none_next c.args.events.now c.loop-place.place
-    (c.loop-place.place + 1) c.index-events-place.result
-    (omega arith) c.loop-place.invariant there
-    (sym c.is_stop.ensures ∙ c.if-is_stop.false)
+loop-place-preserved c = grind (arith, slice_get-of_get_or, none_next)

@@ -1,5 +1,5 @@
 -- Proves how every task ends: its exit, its file writes, and its lines on the error stream.
-use Rattle.std.proofs.Common.{◌≡◌, ◌∙◌, ◌≤◌, ◌⊎◌, ◌++◌, ℕ, [], append-nil, Bool, false, true, List}
+use Rattle.std.proofs.Common.{◌≡◌, ◌≤◌, ◌⊎◌, ◌++◌, ℕ, [], append-nil, Bool, false, List}
 use Rattle.std.proofs.Common.{Option, Some, None, Result, Ok, Err, arith, inl, inr, refl, subst}
 use Rattle.std.proofs.Common.{sym}
 use Rattle.refusals.specs.declared.run_error.End.{End}
@@ -15,7 +15,7 @@ use Rattle.dmlw_commands.specs.Ends.{exit_after, exit_at, exit_by, exit_of, faul
 use Rattle.dmlw_commands.specs.Ends.{reported_line, status_of}
 use Rattle.dmlw_commands.specs.declared.ending.Ended.{Ended}
 use Rattle.dmlw_files.specs.Files.{KeepsFiles}
-use Rattle.dmlw_commands.specs.Makings.{Asks, FailsMaking, IsMade, Makes, Making, taken, unmade}
+use Rattle.dmlw_commands.specs.Makings.{Asks, FailsMaking, Makes, Making, taken, unmade}
 use Rattle.dmlw_commands.specs.Makings.{unprinted, unwritten}
 use Rattle.dmlw_commands.specs.Seen.{Does, OnlyReads, Printing, Seen}
 use Rattle.world.specs.declared.reaching.Finding.{Finding}
@@ -23,12 +23,10 @@ use Rattle.world.specs.declared.reaching.Finding.TheVariants as findings
 use Rattle.dmlw_commands.specs.Judgements.{Meaning, exit_answered, finding_meaning, verdict_meaning}
 use Rattle.judge.specs.declared.verdict.Verdict.{Verdict}
 use Rattle.judge.specs.declared.verdict.Verdict.TheVariants as verdicts
-use Rattle.dmlw.specs.CommandLine.{IsRead, IsReadAs, is_formats, memory}
 use Rattle.dmlw.specs.Commands.{EndsTask}
 use Rattle.dmlw.specs.Endings.{AsksForOneWrite, EndsCommand, EndsUntasked, IsFaultLine, ReportsBy}
 use Rattle.dmlw.specs.Endings.{ReportsOneLine, ReportsUntasked}
-use Rattle.clap.specs.Words.{Text, kind_of}
-use Rattle.clap.specs.declared.error.Error.{Error}
+use Rattle.clap.specs.Words.{kind_of}
 use Rattle.clap.specs.declared.error.kind.ErrorKind.{ErrorKind}
 use Rattle.clap.specs.declared.error.kind.ErrorKind.TheVariants.{DisplayHelp, DisplayVersion}
 use Rattle.clap.specs.declared.error.kind.ErrorKind.TheVariants.{OutOfMemory}
@@ -236,12 +234,3 @@ task_tells (tasks.HasBadWord flaw word) explains old new ended ends off =
     rw ends.usage tt
 task_tells task explains old new ended ends off =
     search any_told
-
-pub memory_read : (words : List Text) (error : Error) → kind_of error ≡ OutOfMemory
-    → IsRead words (tasks.Show error)
-memory_read words error is = read_as (is_formats words) words error is
-  where
-    read_as : (formats : Bool) (words : List Text) (error : Error) → kind_of error ≡ OutOfMemory
-        → IsReadAs formats words (tasks.Show error)
-    read_as true words error is = is
-    read_as false words error is = memory is

@@ -1,5 +1,5 @@
 -- Proves how clap parses a command's name and plain words, which don't begin with a hyphen.
-use Rattle.std.proofs.Common.{false, not, List, refl, subst, sym, ◌&&◌, ◌≡◌, ◌∙◌}
+use Rattle.std.proofs.Common.{false, not, List, refl, sym, ◌&&◌, ◌≡◌, ◌∙◌}
 use Rattle.std.proofs.Common.{◌==◌, ℕ, Bool, true, [], ◌∷◌, ◌++◌, Some, None, ap, cond, drop}
 use Rattle.std.proofs.Common.{map, arith, fold, is_some, length, get_or, Option, ◌+◌, ◌<◌}
 use Rattle.clap.proofs.OnLiterals.{clap_on_literals}
@@ -13,7 +13,7 @@ use Rattle.clap.specs.Simple.{Shape, built, built_leaf, entered, names_of}
 use Rattle.clap.specs.Walk.{Held, Names, Rule, Walk, arg_by_index, finished, idle, is_multiple}
 use Rattle.clap.specs.Walk.{next_position, nothing_held, positional_held, rows_after, settled}
 use Rattle.clap.specs.Walk.{to_positional, value, walk, walk_from, walked}
-use Rattle.clap.specs.Words.{App, IsAmong, Row, Text, is_simple}
+use Rattle.clap.specs.Words.{App, Row, Text, is_simple}
 use Rattle.clap.specs.Words.{is_simple_and_free, kind_of, new_app, with_rule}
 use Rattle.std.proofs.lemmas.Bool.{and_parts}
 use Rattle.std.proofs.lemmas.List.{append_assoc, append-nil, drop_more}

@@ -1,6 +1,6 @@
 -- Proves how every command ends, and how `record` and `run` end.
 -- The end is reported after the command's work, so what the work did must still hold then.
-use Rattle.std.proofs.Common.{arith, ◌≤◌, ◌++◌, append_assoc, append-nil, refl, slice_get, subst}
+use Rattle.std.proofs.Common.{arith, ◌++◌, append_assoc, append-nil, refl, slice_get, subst}
 use Rattle.std.proofs.Common.{sym, take, ◌≡◌, ◌∙◌, ◌⊎◌, ℕ, zero, suc, ◌+◌, Bool, List, [], ◌∷◌}
 use Rattle.std.proofs.Common.{None, Option, Some, Result, Ok, Err, ap, inl, inr, length}
 use Rattle.std.specs.Io.KnownBytes.{Appends, Keeps}
@@ -23,7 +23,7 @@ use Rattle.script_runner.specs.Runs.{EndsRun, close, file as by_file, message}
 use Rattle.script_runner.specs.SeatRuns.{FailsRun, IsRun}
 use Rattle.dmlw_files.specs.declared.files.FileError.{FileError}
 use Rattle.dmlw_files.specs.declared.files.FileError.TheVariants as errors
-use Rattle.dmlw_files.specs.Files.{IsTooLong, KeepsFiles, MatchesContents, Write, file_refusal}
+use Rattle.dmlw_files.specs.Files.{KeepsFiles, MatchesContents, Write, file_refusal}
 use Rattle.dmlw_files.specs.Files.{one_more}
 use Rattle.dmlw_commands.specs.declared.ending.Ended.{Ended}
 use Rattle.dmlw_commands.specs.declared.exit.Exit.{Exit}
@@ -286,12 +286,6 @@ run_printed contents text script before mid after shown tallies status lies imag
       appends_twice before mid after (seat_lines 0 tallies) (end_lines
           status lies) (rw (← same) first) second,
     )
-
-pub not_too_long : (contents : Option (List ℕ)) (text : List ℕ) {limit : ℕ}
-    → MatchesContents contents text → length text ≤ limit → IsTooLong limit contents → ⊥
-not_too_long None text is within long = long
-not_too_long (Some known) text is within long =
-    let same = ap length is in omega arith
 
 lines_more : (from : ℕ) (tallies : List Tally) (tally : Tally) (number : ℕ)
     → number ≡ from + length tallies

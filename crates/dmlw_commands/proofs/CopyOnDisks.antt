@@ -1,8 +1,7 @@
 -- Proves the result of copying the log in an image, on disks in memory.
 use Rattle.std.proofs.Common.{arith, inl, inr, length, refl, subst, sym, map, take, Option, None}
-use Rattle.std.proofs.Common.{Some, Result, Ok, Err, IfErr, IfOk, ap, ◌⊎◌, ◌≡◌, ◌∙◌, ℕ, ◌+◌, ◌*◌}
-use Rattle.std.proofs.Common.{◌/◌, ◌<◌, ◌≤◌, true, false, List, [], ◌++◌}
-use Rattle.std.specs.Prelude.{slice_get}
+use Rattle.std.proofs.Common.{Some, Result, Ok, Err, IfErr, IfOk, ap, ◌⊎◌, ◌≡◌, ◌∙◌, ℕ, ◌+◌}
+use Rattle.std.proofs.Common.{◌/◌, ◌<◌, ◌≤◌, true, false, List, []}
 use Rattle.std.proofs.lemmas.List.{length-map, take_all}
 use Rattle.std.proofs.Math.Nat.{eq-zero-or-pos}
 use Rattle.std.specs.List.{list_all}
@@ -17,9 +16,8 @@ use Rattle.sector_disk.specs.declared.disk.SectorDisk.{SectorDisk}
 use Rattle.sector_disk.specs.DiskView.{shown_of}
 use Rattle.log_format.specs.declared.decode.Super.{Super}
 use Rattle.log_format.specs.declared.entry.Entry.{Entry}
-use Rattle.log_format.specs.Entries.{sectors_of}
 use Rattle.log_format.specs.EntryLaws.{sector_size_bounds}
-use Rattle.log_format.specs.LogOf.{IsLogOf, entries_at, log_sectors, next_sector}
+use Rattle.log_format.specs.LogOf.{IsLogOf, entries_at}
 use Rattle.log_format.specs.Replay.{replay}
 use Rattle.log_store.specs.Calls.{HasFailed, StoreFrame}
 use Rattle.log_store.specs.Store.{Store, StoreInvariant, entries_of}
@@ -30,7 +28,7 @@ use Rattle.log_reader.specs.DiskLog.{IsReading, Reads}
 use Rattle.log_reader.specs.DiskLogLaws.{log_is_read, same_reading, size_of_head}
 use Rattle.log_reader.specs.Reader.{HasFaulted, Reader}
 use Rattle.log_reader.specs.SameDiskLaws.{reads_alike}
-use Rattle.replay.specs.Copies.{HasNoRoom, IsCopied as IsPlaced, IsLog, IsUnaligned, StopsBy}
+use Rattle.replay.specs.Copies.{HasNoRoom, IsCopied as IsPlaced, IsLog, StopsBy}
 use Rattle.replay.specs.Copies.{entries_from, is_aligned_to, resized}
 use Rattle.replay.specs.declared.fault.CopyError.{CopyError}
 use Rattle.replay.specs.declared.fault.CopyError.TheVariants as copies

@@ -15,9 +15,9 @@ use Rattle.refusals.specs.declared.run_error.RunError.TheVariants.{Refused}
 use Rattle.refusals.specs.Errors.{IsFileError, memory_error, refused_by}
 use Rattle.bio.specs.Content.{Content, sector_of}
 use Rattle.bio.specs.declared.event.CoreEvent.{CoreEvent}
-use Rattle.bio.specs.Events.{all_aligned, is_lawful, is_stop, is_well_formed, is_within}
+use Rattle.bio.specs.Events.{all_aligned, is_lawful, is_stop, is_well_formed}
 use Rattle.bio.specs.PlaceLaws.{first_below-none, is_first_below}
-use Rattle.bio.specs.Places.{all_below, first_below, or_here}
+use Rattle.bio.specs.Places.{first_below}
 use Rattle.bio.specs.Possible.{Possible, PossibleAt, has_kept, is_replaced, values_at}
 use Rattle.bio.specs.Requests.{bytes_of}
 use Rattle.log_format.specs.AlignmentLaws.{right_size}

@@ -23,7 +23,7 @@ use Rattle.replay.specs.declared.fault.ReplayError.{ReplayError}
 use Rattle.replay.specs.declared.fault.ReplayError.TheVariants as replays
 use Rattle.replay.specs.declared.fault.ReplayFault.{ReplayFault}
 use Rattle.replay.specs.declared.replaying.Upto.{Upto}
-use Rattle.replay.specs.Replays.{HasReplayCause, IsApplied, LeavesBy, ReachesPast, entries_from}
+use Rattle.replay.specs.Replays.{HasReplayCause, LeavesBy, entries_from}
 use Rattle.headline.specs.declared.reopening.ReopenError.{ReopenError}
 use Rattle.headline.specs.declared.reopening.ReopenError.TheVariants as reopens
 use Rattle.headline.specs.ReopenedLog.{IsRefused, IsReplayed as IsReopened, IsStopped, first_reader}

@@ -1,4 +1,4 @@
-use Rattle.std.proofs.Common.{◌∙◌, ap, arith, refl}
+use Rattle.std.proofs.Common.{◌∙◌, arith, refl}
 use Rattle.clap.specs.Simple.{app_of_fields}
 use Rattle.dmlw.proofs.PlainWords.{begun, one_argument}
 use Rattle.dmlw.proofs.program.command_of.Goals as goal

@@ -1,7 +1,6 @@
-use Rattle.std.proofs.Common.{◌∙◌, ap, arith}
+use Rattle.std.proofs.Common.{arith}
 use Rattle.std.proofs.lemmas.List.{drop_more}
-use Rattle.clap.specs.Words.{App, app_of, with_subcommand}
-use Rattle.dmlw.specs.declared.program.Name.TheVariants as names
+use Rattle.clap.specs.Words.{app_of, with_subcommand}
 use Rattle.dmlw.proofs.program.program_command.Goals as goal
 
 pub loop-name-preserved : goal.loop-name-preserved

@@ -1,7 +1,4 @@
-use Rattle.std.proofs.Common.{◌≡◌, ◌∙◌, true, IfErr, IfOk, List, Result, ap, subst, sym}
-use Rattle.bio.specs.declared.event.CoreEvent.{CoreEvent}
-use Rattle.bio.specs.Events.{all_aligned, is_lawful}
-use Rattle.bio.specs.Requests.{bytes_of}
+use Rattle.std.proofs.Common.{◌∙◌, IfErr, IfOk, Result, ap, subst, sym}
 use Rattle.dmlw_script.specs.Plans.{top_of}
 use Rattle.refusals.specs.declared.run_error.RunError.{RunError}
 use Rattle.script_runner.specs.CallLaws.{on_error}

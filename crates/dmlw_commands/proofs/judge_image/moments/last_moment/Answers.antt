@@ -1,4 +1,4 @@
-use Rattle.std.proofs.Common.{◌∙◌, ◌+◌, arith, sym}
+use Rattle.std.proofs.Common.{◌∙◌, arith, sym}
 use Rattle.dmlw_commands.proofs.QuestionEnds.{none_next, slice_get-of_get_or, stop_is_last}
 use Rattle.dmlw_commands.proofs.judge_image.moments.last_moment.Goals as goal
 

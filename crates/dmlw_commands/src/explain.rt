@@ -19,3 +19,4 @@ pub use explaining::{
     CopyNames, ReplayNames, explain_copying, explain_judging, explain_reading, explain_recording,
     explain_replaying, explain_running,
 };
+pub(crate) use script_text::is_event;

@@ -1,5 +1,6 @@
 //! A script as text: finds lines by number and first word, and the ids of requests. The explanation
 //! of one line uses this to look at the other lines.
+use dmlw_script::recorder_forms;
 use refusals::number_of;
 
 /// The two kinds of script.
@@ -192,10 +193,30 @@ pub(crate) fn open_requests(text: &[u8], before: u64) -> u64 {
     open
 }
 
-/// Returns the id of the request that a line submits, if it submits one.
+/// Returns the id of the request that a line of a recorder's script submits, if it submits one.
 pub(crate) fn submitted_by(line: &[u8]) -> Option<&[u8]> {
-    if begins_with(line, b"w") || begins_with(line, b"f") || begins_with(line, b"d") {
-        return word_at(line, 1);
+    if begins_with(line, b"c") || !has_id(line) {
+        return None;
     }
-    None
+    word_at(line, 1)
+}
+
+// Returns whether the second word of a line is an id, by the form of lines with its first word.
+fn has_id(line: &[u8]) -> bool {
+    let Some(first) = word_at(line, 0) else {
+        return false;
+    };
+    for form in recorder_forms() {
+        let form = form.as_bytes();
+        if begins_with(form, first) && word_at(form, 1) == Some(b"<id>".as_slice()) {
+            return true;
+        }
+    }
+    false
+}
+
+/// Returns whether a line of a recorder's script is an event: it submits or ends a request, or is a
+/// mark or the close.
+pub(crate) fn is_event(line: &[u8]) -> bool {
+    has_id(line) || begins_with(line, b"mark") || begins_with(line, b"close")
 }

@@ -10,6 +10,7 @@ ghost use Rattle.std.specs.Prelude.{◌≡◌, [], false};
 ghost use Rattle.std.specs.String.{string_bytes};
 ghost use Rattle.dmlw_files.specs.Files.{KeepsFiles};
 
+use crate::explain::is_event;
 use bio::Id;
 use dmlw_files::{Files, read_text};
 use std::alloc::{AllocError, Global};
@@ -138,22 +139,6 @@ fn event_lines(alloc: Global, text: &[u8]) -> Result<Vec<EventLine<'_>>, AllocEr
 // Returns whether a byte ends a line.
 fn is_line_feed(byte: &u8) -> bool {
     *byte == b'\n'
-}
-
-// Returns whether a byte ends a word.
-fn is_space(byte: &u8) -> bool {
-    *byte == b' '
-}
-
-// Returns whether a line of a script is an event of its run.
-fn is_event(line: &[u8]) -> bool {
-    let word = line.split(is_space).next().unwrap_or_default();
-    word == b"w".as_slice()
-        || word == b"f".as_slice()
-        || word == b"d".as_slice()
-        || word == b"c".as_slice()
-        || word == b"mark".as_slice()
-        || word == b"close".as_slice()
 }
 
 // Writes each step of a run with its line.

@@ -16,9 +16,8 @@ use Rattle.bio.specs.declared.outcome.Status.{Status}
 use Rattle.bio.specs.declared.request.SectorSize.{SectorSize}
 use Rattle.bio.specs.declared.request.SectorSize.TheVariants as sizes
 use Rattle.bio.specs.Events.{has_no_close}
-use Rattle.bio.specs.Refusals.{end_cause}
 use Rattle.bio.specs.Requests.{bytes_of}
-use Rattle.blockdev.specs.View.{Call, Place, Writes}
+use Rattle.blockdev.specs.View.{Call, Writes}
 use Rattle.blockdev.specs.declared.device.BlockDev.{Ghosts}
 use Rattle.blockdev.specs.Law.{DeviceFrame}
 use Rattle.sector_disk.specs.CandidateLaws.{content_whole, disk_lawful, is_current, picks_leave_one}
@@ -27,7 +26,7 @@ use Rattle.sector_disk.specs.DiskView.{Begins, cache_of, shown_of, start_of, ste
 use Rattle.layer_table.specs.declared.layer_spec.LayerSpec.{LayerSpec}
 use Rattle.layer_table.specs.declared.stack.Stack.{Stack}
 use Rattle.layer_table.specs.Layers.{on_stack, AreOver, LayersDo, layers_of, layers_under}
-use Rattle.layer_table.specs.Layers.{stack_does, stack_shown, disk_of, top_origin, top_sectors}
+use Rattle.layer_table.specs.Layers.{stack_does, stack_shown, disk_of, top_origin}
 use Rattle.layer_table.specs.Layers.{IsAllowed, IsSeenAs, Layer}
 use Rattle.layer_table.specs.TableLines.{IsLayerSpec}
 use Rattle.layer_table.specs.StackLaws.{part_of_disk}

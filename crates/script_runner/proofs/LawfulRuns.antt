@@ -19,7 +19,7 @@ use Rattle.bio.specs.declared.request.Bio.TheVariants as bios
 use Rattle.bio.specs.PlaceLaws.{bool_cases, well_formed-lawful}
 use Rattle.bio.specs.Events.{has_no_close, is_lawful, is_open_at, is_recording, is_text}
 use Rattle.bio.specs.Events.{is_well_formed, is_within}
-use Rattle.bio.specs.RequestLaws.{check_answer-larger, sized_passed, sized_passes}
+use Rattle.bio.specs.RequestLaws.{sized_passed, sized_passes}
 use Rattle.bio.specs.Requests.{bytes_of, check_answer, check_sized_answer, range_answer}
 use Rattle.bio.specs.Requests.{unless_unaligned}
 use Rattle.blockdev.specs.declared.device.BlockDev.{Ghosts}

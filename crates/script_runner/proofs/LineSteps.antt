@@ -1,9 +1,9 @@
 -- Proves what one line of a script does, and what it prints.
-use Rattle.std.proofs.Common.{add-one, ◌<◌, ◌≤◌, Bool, ℕ, ◌+◌, ◌*◌, zero, suc, ◌&&◌, true, false}
+use Rattle.std.proofs.Common.{add-one, ◌<◌, ◌≤◌, Bool, ℕ, ◌+◌, ◌*◌, zero, suc, true, false}
 use Rattle.std.proofs.Common.{not, None, Option, Some, append_assoc, drop, refl, subst}
 use Rattle.std.proofs.Common.{if◌then◌else◌, sym, inl, inr, ◌≡◌, ◌∙◌, List, [], ◌∷◌, ◌++◌}
 use Rattle.std.proofs.Common.{encode_utf8_all, ap, arith, length, take, replicate}
-use Rattle.std.specs.Prelude.{nat_lt, slice_get, codes, decimal, option_map, slice_index_or, ◌==◌}
+use Rattle.std.specs.Prelude.{slice_get, codes, decimal, option_map, slice_index_or, ◌==◌}
 use Rattle.std.specs.Prelude.{Err, IfErr, IfOk, Ok, OnOk, Result}
 use Rattle.std.proofs.lemmas.Bool.{and_from, and_parts, ltb-true}
 use Rattle.std.proofs.lemmas.Bool.Decides.{nat_tests}

@@ -1,7 +1,7 @@
 -- Proves what a script's lines do to the log, and what happens to the requests that they submit.
 -- After a close, the store has placed the whole log, unless logging ended (`IsWritten`).
 use Rattle.std.proofs.Common.{append_assoc, None, inl, ◌∙◌, ◌⊎◌, ap, refl, length, ℕ, Bool, true}
-use Rattle.std.proofs.Common.{false, not, ◌&&◌, Option, Some, arith, inr, subst, sym, List, [], ◌∷◌}
+use Rattle.std.proofs.Common.{false, not, Option, Some, arith, inr, subst, sym, List, [], ◌∷◌}
 use Rattle.std.proofs.Common.{◌++◌, Result, Ok, Err, ◌≡◌}
 use Rattle.std.specs.Prelude.{is_ok, slice_get}
 use Rattle.std.proofs.lemmas.Bool.{and_parts}

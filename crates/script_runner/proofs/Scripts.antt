@@ -47,6 +47,8 @@ chain_snoc Step (first ∷ cs) c text more old mid new before step = (
   ap (λ (t : List ℕ). t ++ more) before.3 ∙ append_assoc before.1 before.2 more,
   before.4,
   chain_snoc Step cs c before.2 more before.0 mid new before.5 step,
+)
+
 -- Each command may follow the commands before it.
 abbrev pub IsOrderlyScript : ScriptValue → Type 0
 IsOrderlyScript plan =

@@ -11,7 +11,7 @@ use Rattle.blockdev.specs.View.{Place}
 use Rattle.dmlw_script.specs.Plans.{top_of, Disk}
 use Rattle.dmlw_script.specs.RunPlans.{RunPlan}
 use Rattle.layer_table.specs.declared.stack.Stack.{Stack}
-use Rattle.layer_table.specs.Layers.{disk_of, stack_shown, top_origin, top_sectors}
+use Rattle.layer_table.specs.Layers.{disk_of, stack_shown, top_origin}
 use Rattle.layer_table.specs.StackLaws.{part_of_disk}
 use Rattle.lock_state.specs.Comparison.{Receipt}
 use Rattle.lock_state.specs.History.{Part}
@@ -34,7 +34,7 @@ use Rattle.bio.specs.ContentLaws.{length-gather, sector_of-gather}
 use Rattle.script_runner.specs.declared.tally.Tally.{Tally}
 use Rattle.script_runner.specs.inside.{AreNewPlayers, FitsRecorder, HavePlayed, Player, new_player}
 use Rattle.script_runner.specs.SeatRuns.{FailsRun, HasRun, IsClosed, IsForeignClose, IsRun}
-use Rattle.script_runner.specs.SeatRuns.{IsSeatRun, IsUnclosed, IsUnplayed, busy, foreign, joined}
+use Rattle.script_runner.specs.SeatRuns.{IsUnclosed, IsUnplayed, busy, foreign, joined}
 use Rattle.script_runner.specs.SeatRuns.{memory, thread}
 use Rattle.script_runner.proofs.Seats.{take_next}
 use Rattle.shared.specs.Close.{LeavesLog}

@@ -14,7 +14,7 @@ use Rattle.dmlw_script.specs.declared.run_line.Call.TheVariants.{Mark, Submit}
 use Rattle.dmlw_script.specs.declared.run_line.SeatCall.{SeatCall}
 use Rattle.dmlw_script.specs.Words.{is_line_byte, is_line_text}
 use Rattle.lock_state.specs.Comparison.{Receipt}
-use Rattle.lock_state.specs.History.{Part, new_part, one_if}
+use Rattle.lock_state.specs.History.{Part, one_if}
 use Rattle.script_runner.specs.declared.tally.Outcome.{Outcome}
 use Rattle.script_runner.specs.declared.tally.Outcome.TheVariants.{Done, Failed, Logged, NotLogged}
 use Rattle.script_runner.specs.declared.tally.Outcome.TheVariants.{Refused}

@@ -1,9 +1,7 @@
 use Rattle.std.proofs.Common.{◌≡◌, ◌∙◌, Ok, ap, inl, inr, refl, subst, sym}
 use Rattle.bio.specs.declared.request.Bio.{Bio}
 use Rattle.bio.specs.Requests.{check_sized_answer, has_data}
-use Rattle.recorder.specs.Calls.{Submits, core_of}
-use Rattle.refusals.specs.declared.refusal.Refusal.TheVariants.{Memory}
-use Rattle.recorder.specs.declared.reply.Reply.TheVariants as replies
+use Rattle.recorder.specs.Calls.{core_of}
 use Rattle.script_runner.proofs.LineSteps.{refused-only}
 use Rattle.script_runner.proofs.LawfulRuns.{bio_suits, has_some}
 use Rattle.script_runner.proofs.asking.ask.Goals as goal

@@ -1,10 +1,5 @@
-use Rattle.std.proofs.Common.{◌≡◌, ◌∙◌, ℕ, ◌*◌, ◌≤◌, ◌++◌, Global, Option, Result, Vec, ap, arith}
-use Rattle.std.proofs.Common.{drop, inl, inr, length, refl, rules, subst, sym, take}
-use Rattle.std.specs.Prelude.{IfSome, option_map}
-use Rattle.bio.specs.declared.ms.Ms.{Ms}
-use Rattle.bio.specs.declared.outcome.DevError.{DevError}
-use Rattle.blockdev.specs.View.{Reads}
-use Rattle.script_runner.specs.Lines.{ReadsSectors}
+use Rattle.std.proofs.Common.{◌≤◌, arith}
+use Rattle.std.proofs.Common.{drop, inl, length, refl, take}
 use Rattle.script_runner.proofs.LineSteps.{byte_range, filled, range_parts}
 use Rattle.script_runner.proofs.handing.read_sectors.Goals as goal
 

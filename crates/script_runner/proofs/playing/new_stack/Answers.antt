@@ -1,5 +1,3 @@
-use Rattle.std.proofs.Common.{◌≡◌, ℕ, subst}
-use Rattle.layer_table.specs.Layers.{layers_of, layers_under}
 use Rattle.script_runner.proofs.DiskRun.{asked, stacked, stands}
 use Rattle.script_runner.proofs.playing.new_stack.Goals as goal
 

@@ -1,7 +1,5 @@
-use Rattle.std.proofs.Common.{◌∙◌, ◌≤◌, ap, subst, sym}
-use Rattle.std.specs.Prelude.{◌/◌}
+use Rattle.std.proofs.Common.{◌∙◌, ap, subst, sym}
 use Rattle.bio.specs.Requests.{bytes_of}
-use Rattle.bio.specs.declared.request.SectorSize.{SectorSize}
 use Rattle.script_runner.specs.CallLaws.{on_error}
 use Rattle.script_runner.specs.inside.{FailsPlaying, run}
 use Rattle.script_runner.proofs.DiskRun.{fails_at_start, start_bytes, started, unstarted}

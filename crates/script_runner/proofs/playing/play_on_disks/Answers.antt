@@ -1,8 +1,8 @@
-use Rattle.std.proofs.Common.{◌≡◌, arith, inr, subst, sym}
-use Rattle.dmlw_script.specs.Plans.{top_of, Disk}
+use Rattle.std.proofs.Common.{arith, subst}
+use Rattle.dmlw_script.specs.Plans.{Disk}
 use Rattle.script_runner.specs.CallLaws.{on_error}
-use Rattle.layer_table.specs.Layers.{on_stack, stack_shown}
-use Rattle.script_runner.specs.DiskRun.{stack_answering, FailsOnDisks, IsStackOf, file}
+use Rattle.layer_table.specs.Layers.{on_stack}
+use Rattle.script_runner.specs.DiskRun.{stack_answering, IsStackOf, file}
 use Rattle.script_runner.proofs.DiskRun.{all_played, beside_starts, fails_on_disks, stack_size}
 use Rattle.script_runner.proofs.LineSteps.{if_err, if_failed}
 use Rattle.script_runner.proofs.playing.play_on_disks.Goals as goal

@@ -4,7 +4,6 @@ use Rattle.script_runner.specs.DiskRun.{DiskRecorder, FailsOnDisks, IsCounted}
 use Rattle.log_format.specs.LogOf.{status_of}
 use Rattle.log_store.specs.Calls.{store_of}
 use Rattle.log_store.specs.Store.{entries_of}
-use Rattle.pending.specs.CoreState.{IsSound}
 use Rattle.recorder.specs.Growth.{ReplaysToPossible}
 use Rattle.recorder.specs.Calls.{core_of, recorder_view}
 use Rattle.layer_table.specs.Layers.{stack_shown}

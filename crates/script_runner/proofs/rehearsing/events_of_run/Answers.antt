@@ -1,9 +1,8 @@
-use Rattle.std.proofs.Common.{◌≡◌, ◌⊎◌, ◌&&◌, ℕ, ◌∙◌, Bool, Err, IfErr, IfOk, List, Ok, Result}
+use Rattle.std.proofs.Common.{◌≡◌, ◌⊎◌, ◌&&◌, ℕ, ◌∙◌, Bool, Err, IfErr, IfOk, Ok, Result}
 use Rattle.std.proofs.Common.{true, false, ap, inl, inr, not, refl, subst, sym}
 use Rattle.std.proofs.lemmas.Bool.{and_parts}
 use Rattle.std.specs.List.{list_all, list_any}
-use Rattle.bio.specs.declared.event.CoreEvent.{CoreEvent}
-use Rattle.bio.specs.Events.{all_aligned, is_lawful, is_well_formed}
+use Rattle.bio.specs.Events.{all_aligned, is_lawful}
 use Rattle.bio.specs.RequestLaws.{lawful_parts}
 use Rattle.bio.specs.Requests.{bytes_of}
 use Rattle.dmlw_script.specs.Plans.{top_of}

@@ -1,4 +1,4 @@
-use Rattle.std.proofs.Common.{◌≡◌, inr, refl, subst}
+use Rattle.std.proofs.Common.{◌≡◌, inr, refl}
 use Rattle.shared.specs.Close.{IfForeign}
 use Rattle.shared.specs.declared.closing.Unclosed.{Unclosed}
 use Rattle.shared.specs.declared.closing.Unclosed.TheVariants.{Foreign}

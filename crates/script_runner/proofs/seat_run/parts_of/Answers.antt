@@ -1,5 +1,4 @@
-use Rattle.std.proofs.Common.{List, ◌++◌, ap, ◌∙◌}
-use Rattle.lock_state.specs.Comparison.{Receipt}
+use Rattle.std.proofs.Common.{ap, ◌∙◌}
 use Rattle.script_runner.specs.inside.{Player}
 use Rattle.script_runner.proofs.SeatRunSteps.{joined_next, mapped_next}
 use Rattle.script_runner.proofs.seat_run.parts_of.Goals as goal

@@ -1,8 +1,5 @@
-use Rattle.std.proofs.Common.{◌∙◌, ap}
+use Rattle.std.proofs.Common.{◌∙◌}
 use Rattle.script_runner.specs.CallLaws.{on_error}
-use Rattle.sector_disk.specs.declared.disk.SectorDisk.{SectorDisk}
-use Rattle.sector_disk.specs.DiskView.{shown_of}
-use Rattle.bio.specs.Content.{gather}
 use Rattle.script_runner.proofs.SeatRunSteps.{fails_memory, fails_unclosed, fails_unplayed, is_run}
 use Rattle.script_runner.proofs.seat_run.run_on.Goals as goal
 

@@ -1,5 +1,4 @@
-use Rattle.std.proofs.Common.{◌≡◌, ◌∙◌, arith, length, ap, subst, sym}
-use Rattle.script_runner.specs.inside.{AreNewPlayers, new_player}
+use Rattle.std.proofs.Common.{arith, length}
 use Rattle.script_runner.proofs.SeatRunSteps.{long_push, players_push}
 use Rattle.script_runner.proofs.seat_run.works_of.Goals as goal
 

@@ -1,4 +1,4 @@
-use Rattle.std.proofs.Common.{◌∙◌, ◌||◌, Bool, ap, refl}
+use Rattle.std.proofs.Common.{◌∙◌, ap, refl}
 use Rattle.script_runner.specs.Lines.{is_memory_end}
 use Rattle.script_runner.proofs.LineSteps.{closed-only}
 use Rattle.script_runner.proofs.running.Running.close.Goals as goal

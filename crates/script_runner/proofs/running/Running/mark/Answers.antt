@@ -1,4 +1,4 @@
-use Rattle.std.proofs.Common.{◌||◌, Bool, List, ap, refl, subst, ℕ}
+use Rattle.std.proofs.Common.{List, refl, subst, ℕ}
 use Rattle.recorder.specs.Calls.{Marks}
 use Rattle.script_runner.specs.inside.{mark_outcome}
 use Rattle.script_runner.proofs.LineSteps.{mark_prints, on_ok}

@@ -1,17 +1,9 @@
-use Rattle.std.proofs.Common.{◌≡◌, ◌∙◌, List, [], Result, Ok, Err, ap, refl, subst, sym, ℕ}
-use Rattle.std.specs.Prelude.{IsTrue}
-use Rattle.std.specs.List.{list_all}
+use Rattle.std.proofs.Common.{◌≡◌, ◌∙◌, List, [], Result, Ok, ap, refl, subst, sym, ℕ}
 use Rattle.blockdev.specs.declared.message.MessageError.{MessageError}
 use Rattle.dmlw_script.specs.declared.command.DiskName.{DiskName}
-use Rattle.pending.specs.CoreState.{CoreShown}
-use Rattle.recorder.specs.Growth.{RecorderFrame}
-use Rattle.recorder.specs.Calls.{recorder_view}
-use Rattle.script_runner.specs.declared.running.Running.{Running}
 use Rattle.script_runner.specs.declared.step_error.StepError.TheVariants.{AtLine}
-use Rattle.script_runner.specs.Submissions.{fits_device}
-use Rattle.script_runner.specs.Lines.{RefusesMessage, SendsToData, SendsToLog, SendsToLayer}
+use Rattle.script_runner.specs.Lines.{RefusesMessage, SendsToLayer}
 use Rattle.script_runner.specs.Lines.{answering}
-use Rattle.script_runner.specs.inside.{StepKeeps}
 use Rattle.script_runner.proofs.running.Running.message.Goals.{in-Data, in-Log}
 use Rattle.script_runner.proofs.running.Running.message.Goals as goal
 

@@ -1,9 +1,7 @@
-use Rattle.std.proofs.Common.{[], inl, inr, subst, sym}
-use Rattle.std.specs.Prelude.{OnOk}
-use Rattle.dmlw_script.specs.declared.command.Command.{Command}
+use Rattle.std.proofs.Common.{[], inl, inr}
 use Rattle.dmlw_script.specs.declared.command.Step.TheVariants as steps
 use Rattle.script_runner.specs.CallLaws.{keeps_same}
-use Rattle.script_runner.specs.Lines.{PrintsLine, SendsToLayer, answering}
+use Rattle.script_runner.specs.Lines.{SendsToLayer, answering}
 use Rattle.script_runner.proofs.LineSteps.{appends_none, both_ok, if_err, is_close_step, is_step}
 use Rattle.script_runner.proofs.LineSteps.{on_ok, step_runs}
 use Rattle.script_runner.proofs.running.Running.run_line.Goals as goal

@@ -1,10 +1,7 @@
-use Rattle.std.proofs.Common.{◌≡◌, ◌∙◌, ap, arith, inr, length, refl, subst, sym}
-use Rattle.std.specs.Io.KnownBytes.{Appends}
+use Rattle.std.proofs.Common.{arith, length, refl, subst, sym}
 use Rattle.std.specs.Prelude.{is_ok}
-use Rattle.dmlw_script.specs.declared.script_id.ScriptId.{ScriptId}
-use Rattle.dmlw_script.specs.Plans.{name_at}
 use Rattle.script_runner.specs.CallLaws.{on_error}
-use Rattle.script_runner.specs.Lines.{StopsForFile, submission_text}
+use Rattle.script_runner.specs.Lines.{StopsForFile}
 use Rattle.script_runner.proofs.LineSteps.{on_failed}
 use Rattle.script_runner.proofs.LawfulRuns.{fits_larger, pushed_fit}
 use Rattle.script_runner.proofs.running.Running.submit.Goals as goal

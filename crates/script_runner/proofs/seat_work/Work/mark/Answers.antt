@@ -1,6 +1,4 @@
-use Rattle.std.proofs.Common.{List, ap, ◌∙◌}
-use Rattle.lock_state.specs.Comparison.{Receipt}
-use Rattle.script_runner.specs.SeatRuns.{and_kept}
+use Rattle.std.proofs.Common.{◌∙◌}
 use Rattle.script_runner.proofs.Seats.{line_is_text, makes_mark}
 use Rattle.script_runner.proofs.seat_work.Work.mark.Goals as goal
 

@@ -1,5 +1,4 @@
-use Rattle.std.proofs.Common.{◌≡◌, List, Ok, ap, subst, sym, ◌∙◌}
-use Rattle.bio.specs.Requests.{check_sized_answer}
+use Rattle.std.proofs.Common.{List, ap, subst, ◌∙◌}
 use Rattle.bio.specs.declared.request.Bio.{Bio}
 use Rattle.lock_state.specs.Comparison.{Receipt}
 use Rattle.script_runner.specs.SeatRuns.{and_kept}

@@ -160,7 +160,7 @@ A status such as 3 4 says: 3 entries, of which the last uses sector 4.";
 
 // The help of `judge` and `path` on events.
 const EVENTS: &str = "\
-An event is a line of the script that submits a request (w, f, d) or ends one (c), a mark, or the
+An event is a line of the script with an id, which submits a request or ends one, a mark, or the
 close; so is the end of logging, if that comes first. Events count from 0. Other lines aren't events.
 
   data 16

@@ -1,13 +1,5 @@
 //! dmlw records block requests in a log, as the kernel's dm-log-writes does, and reads such logs
-//! back.
-//!
-//! `dmlw record SCRIPT LOG` runs a script of requests and their ends, and writes its log. `dmlw run
-//! SCRIPT LOG` runs a script of several seats, each in a thread. `dmlw list LOG` prints a log's
-//! entries up to the first fault. `dmlw status LOG` prints how many entries it has and how far they
-//! reach. `dmlw replay LOG FIRST OUT WHAT` replays a prefix of a log on an image. `dmlw copy LOG
-//! OUT SECTORS` copies a log to one with sectors of 4,096 bytes. `dmlw judge SCRIPT M IMAGE` says
-//! whether an image could have been on the device, had power failed after M events. `dmlw path
-//! SCRIPT M IMAGE` prints how.
+//! back. `dmlw help` prints its commands.
 //!
 //! The program calls `dmlw::execute` with the system's files and streams. Nothing is proved
 //! about what these hold.

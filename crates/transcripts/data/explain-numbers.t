@@ -243,19 +243,6 @@ A count of none, a number past the largest, a pick that is none, and a script th
   !   script ends before its line 2; a script begins with the lines `data` and `log`:
   !     data <sectors>
   !     log <sectors> [4096]
-  !     data-layer 0 <length> <target> ..
-  !     log-layer 0 <length> <target> ..
-  !     at <ms>
-  !     w <id> <first> <count> <byte> [flush] [fua] [meta]
-  !     f <id>
-  !     d <id> <first> <count>
-  !     c <id>
-  !     r <first> <count>
-  !     turn
-  !     mark <text>
-  !     message <disk> <layer> <text>
-  !     close
-  !     crash <pick> ..
   [1]
 Scripts of seats: a seat that isn't there, too many seats, a request past the end, two spaces.
 

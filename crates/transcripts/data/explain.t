@@ -131,30 +131,6 @@ What --explain adds behind a fault.
   $ write script
   > data 16
   > log 32
-  > markx
-  $ dmlw --explain record script log
-  ! dmlw: line 3: 30 BadLine
-  !   line 3 of script: markx
-  !   no line begins with the word `markx`; the lines are:
-  !     data <sectors>
-  !     log <sectors> [4096]
-  !     data-layer 0 <length> <target> ..
-  !     log-layer 0 <length> <target> ..
-  !     at <ms>
-  !     w <id> <first> <count> <byte> [flush] [fua] [meta]
-  !     f <id>
-  !     d <id> <first> <count>
-  !     c <id>
-  !     r <first> <count>
-  !     turn
-  !     mark <text>
-  !     message <disk> <layer> <text>
-  !     close
-  !     crash <pick> ..
-  [1]
-  $ write script
-  > data 16
-  > log 32
   > mark café
   $ dmlw --explain record script log
   ! dmlw: line 3: 30 BadLine
@@ -181,30 +157,6 @@ What --explain adds behind a fault.
   !   line 3 of script: w a five 1 41
   !   the word `five` isn't <first>: a decimal number below 2^64
   !   the form of the line: w <id> <first> <count> <byte> [flush] [fua] [meta]
-  [1]
-  $ write script
-  > data 16
-  > log 32
-  > write a 5 1 41
-  $ dmlw --explain record script log
-  ! dmlw: line 3: 30 BadLine
-  !   line 3 of script: write a 5 1 41
-  !   no line begins with the word `write`; the lines are:
-  !     data <sectors>
-  !     log <sectors> [4096]
-  !     data-layer 0 <length> <target> ..
-  !     log-layer 0 <length> <target> ..
-  !     at <ms>
-  !     w <id> <first> <count> <byte> [flush] [fua] [meta]
-  !     f <id>
-  !     d <id> <first> <count>
-  !     c <id>
-  !     r <first> <count>
-  !     turn
-  !     mark <text>
-  !     message <disk> <layer> <text>
-  !     close
-  !     crash <pick> ..
   [1]
   $ write script
   > data 16
@@ -291,52 +243,6 @@ What --explain adds behind a fault.
   !   line 3 of script: f \xc3\xa9
   !   it has a byte that isn't ASCII text
   !   the form of the line: f <id>
-  [1]
-  $ write script
-  > data 16
-  > log 32
-  > seats 1
-  > s0 f
-  $ dmlw --explain record script log
-  ! dmlw: line 3: 30 BadLine
-  !   line 3 of script: seats 1
-  !   this line belongs to a script of `dmlw run`, not of `dmlw record`
-  !   no line begins with the word `seats`; the lines are:
-  !     data <sectors>
-  !     log <sectors> [4096]
-  !     data-layer 0 <length> <target> ..
-  !     log-layer 0 <length> <target> ..
-  !     at <ms>
-  !     w <id> <first> <count> <byte> [flush] [fua] [meta]
-  !     f <id>
-  !     d <id> <first> <count>
-  !     c <id>
-  !     r <first> <count>
-  !     turn
-  !     mark <text>
-  !     message <disk> <layer> <text>
-  !     close
-  !     crash <pick> ..
-  [1]
-  $ write script
-  > data 16
-  > log 32
-  > seats 1
-  > w a 5 1 41
-  $ dmlw --explain run script log
-  ! dmlw: line 4: 30 BadLine
-  !   line 4 of script: w a 5 1 41
-  !   this line belongs to a script of `dmlw record`, not of `dmlw run`
-  !   no line begins like this; a script of seats has these lines, and its first seat is s0:
-  !     data <sectors>
-  !     log <sectors> [4096]
-  !     seats <n>
-  !     data-layer 0 <length> <target> ..
-  !     log-layer 0 <length> <target> ..
-  !     s<k> w <first> <count> <byte> [flush] [fua] [meta]
-  !     s<k> f
-  !     s<k> d <first> <count>
-  !     s<k> mark <text>
   [1]
   $ image image 4096 0:=7268737766736a00 8:2,1,512,0
   $ dmlw --explain status image

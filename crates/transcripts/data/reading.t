@@ -1067,3 +1067,99 @@ A request begins and ends at a sector of the log, a read too: that is tested beh
   w a 8 7 41
   r 4 8
   d b 0 1
+What --explain adds about a line that begins like no line.
+
+  $ write script
+  > data 16
+  > log 32
+  > markx
+  $ dmlw --explain record script log
+  ! dmlw: line 3: 30 BadLine
+  !   line 3 of script: markx
+  !   no line begins with the word `markx`; the lines are:
+  !     data <sectors>
+  !     log <sectors> [4096]
+  !     data-layer 0 <length> <target> ..
+  !     log-layer 0 <length> <target> ..
+  !     at <ms>
+  !     w <id> <first> <count> <byte> [flush] [fua] [meta]
+  !     f <id>
+  !     d <id> <first> <count>
+  !     c <id>
+  !     r <first> <count>
+  !     turn
+  !     mark <text>
+  !     message <disk> <layer> <text>
+  !     close
+  !     crash <pick> ..
+  [1]
+  $ write script
+  > data 16
+  > log 32
+  > write a 5 1 41
+  $ dmlw --explain record script log
+  ! dmlw: line 3: 30 BadLine
+  !   line 3 of script: write a 5 1 41
+  !   no line begins with the word `write`; the lines are:
+  !     data <sectors>
+  !     log <sectors> [4096]
+  !     data-layer 0 <length> <target> ..
+  !     log-layer 0 <length> <target> ..
+  !     at <ms>
+  !     w <id> <first> <count> <byte> [flush] [fua] [meta]
+  !     f <id>
+  !     d <id> <first> <count>
+  !     c <id>
+  !     r <first> <count>
+  !     turn
+  !     mark <text>
+  !     message <disk> <layer> <text>
+  !     close
+  !     crash <pick> ..
+  [1]
+  $ write script
+  > data 16
+  > log 32
+  > seats 1
+  > s0 f
+  $ dmlw --explain record script log
+  ! dmlw: line 3: 30 BadLine
+  !   line 3 of script: seats 1
+  !   this line belongs to a script of `dmlw run`, not of `dmlw record`
+  !   no line begins with the word `seats`; the lines are:
+  !     data <sectors>
+  !     log <sectors> [4096]
+  !     data-layer 0 <length> <target> ..
+  !     log-layer 0 <length> <target> ..
+  !     at <ms>
+  !     w <id> <first> <count> <byte> [flush] [fua] [meta]
+  !     f <id>
+  !     d <id> <first> <count>
+  !     c <id>
+  !     r <first> <count>
+  !     turn
+  !     mark <text>
+  !     message <disk> <layer> <text>
+  !     close
+  !     crash <pick> ..
+  [1]
+  $ write script
+  > data 16
+  > log 32
+  > seats 1
+  > w a 5 1 41
+  $ dmlw --explain run script log
+  ! dmlw: line 4: 30 BadLine
+  !   line 4 of script: w a 5 1 41
+  !   this line belongs to a script of `dmlw record`, not of `dmlw run`
+  !   no line begins like this; a script of seats has these lines, and its first seat is s0:
+  !     data <sectors>
+  !     log <sectors> [4096]
+  !     seats <n>
+  !     data-layer 0 <length> <target> ..
+  !     log-layer 0 <length> <target> ..
+  !     s<k> w <first> <count> <byte> [flush] [fua] [meta]
+  !     s<k> f
+  !     s<k> d <first> <count>
+  !     s<k> mark <text>
+  [1]

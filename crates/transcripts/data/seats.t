@@ -278,12 +278,6 @@ What `--explain` says of such a script.
   !     data <sectors>
   !     log <sectors> [4096]
   !     seats <n>
-  !     data-layer 0 <length> <target> ..
-  !     log-layer 0 <length> <target> ..
-  !     s<k> w <first> <count> <byte> [flush] [fua] [meta]
-  !     s<k> f
-  !     s<k> d <first> <count>
-  !     s<k> mark <text>
   [1]
   $ write script
   > data 16

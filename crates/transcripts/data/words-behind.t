@@ -7,57 +7,18 @@ Command lines with `--explain`, behind two hyphens, and of words that are none.
   !   script is empty; a script begins with the lines `data` and `log`:
   !     data <sectors>
   !     log <sectors> [4096]
-  !     data-layer 0 <length> <target> ..
-  !     log-layer 0 <length> <target> ..
-  !     at <ms>
-  !     w <id> <first> <count> <byte> [flush] [fua] [meta]
-  !     f <id>
-  !     d <id> <first> <count>
-  !     c <id>
-  !     r <first> <count>
-  !     turn
-  !     mark <text>
-  !     message <disk> <layer> <text>
-  !     close
-  !     crash <pick> ..
   [1]
   $ dmlw record --explain script log
   ! dmlw: line 1: 30 BadLine
   !   script is empty; a script begins with the lines `data` and `log`:
   !     data <sectors>
   !     log <sectors> [4096]
-  !     data-layer 0 <length> <target> ..
-  !     log-layer 0 <length> <target> ..
-  !     at <ms>
-  !     w <id> <first> <count> <byte> [flush] [fua] [meta]
-  !     f <id>
-  !     d <id> <first> <count>
-  !     c <id>
-  !     r <first> <count>
-  !     turn
-  !     mark <text>
-  !     message <disk> <layer> <text>
-  !     close
-  !     crash <pick> ..
   [1]
   $ dmlw record script log --explain
   ! dmlw: line 1: 30 BadLine
   !   script is empty; a script begins with the lines `data` and `log`:
   !     data <sectors>
   !     log <sectors> [4096]
-  !     data-layer 0 <length> <target> ..
-  !     log-layer 0 <length> <target> ..
-  !     at <ms>
-  !     w <id> <first> <count> <byte> [flush] [fua] [meta]
-  !     f <id>
-  !     d <id> <first> <count>
-  !     c <id>
-  !     r <first> <count>
-  !     turn
-  !     mark <text>
-  !     message <disk> <layer> <text>
-  !     close
-  !     crash <pick> ..
   [1]
   $ write script
   > data 16
@@ -198,19 +159,6 @@ What editors do to a script.
   !   script ends before its line 2; a script begins with the lines `data` and `log`:
   !     data <sectors>
   !     log <sectors> [4096]
-  !     data-layer 0 <length> <target> ..
-  !     log-layer 0 <length> <target> ..
-  !     at <ms>
-  !     w <id> <first> <count> <byte> [flush] [fua] [meta]
-  !     f <id>
-  !     d <id> <first> <count>
-  !     c <id>
-  !     r <first> <count>
-  !     turn
-  !     mark <text>
-  !     message <disk> <layer> <text>
-  !     close
-  !     crash <pick> ..
   [1]
   $ escaped script
   > \xef\xbb\xbfdata 16

@@ -354,7 +354,7 @@ Command lines and their texts.
   Options:
     -h, --help  Print help
   
-  An event is a line of the script that submits a request (w, f, d) or ends one (c), a mark, or the
+  An event is a line of the script with an id, which submits a request or ends one, a mark, or the
   close; so is the end of logging, if that comes first. Events count from 0. Other lines aren't events.
   
     data 16
@@ -380,7 +380,7 @@ Command lines and their texts.
   Options:
     -h, --help  Print help
   
-  An event is a line of the script that submits a request (w, f, d) or ends one (c), a mark, or the
+  An event is a line of the script with an id, which submits a request or ends one, a mark, or the
   close; so is the end of logging, if that comes first. Events count from 0. Other lines aren't events.
   
     data 16
@@ -557,7 +557,7 @@ Command lines and their texts.
   Options:
     -h, --help  Print help
   
-  An event is a line of the script that submits a request (w, f, d) or ends one (c), a mark, or the
+  An event is a line of the script with an id, which submits a request or ends one, a mark, or the
   close; so is the end of logging, if that comes first. Events count from 0. Other lines aren't events.
   
     data 16
@@ -583,7 +583,7 @@ Command lines and their texts.
   Options:
     -h, --help  Print help
   
-  An event is a line of the script that submits a request (w, f, d) or ends one (c), a mark, or the
+  An event is a line of the script with an id, which submits a request or ends one, a mark, or the
   close; so is the end of logging, if that comes first. Events count from 0. Other lines aren't events.
   
     data 16

@@ -65,7 +65,7 @@ fn write_unknown<W: Write>(grammar: Grammar, line: &[u8], to: &mut W) -> fmt::Re
             "  no line begins like this; a script of seats has these lines, and its first seat is s0:"
         )?,
     }
-    write_forms(grammar, to)
+    write_forms(grammar, usize::MAX, to)
 }
 
 // Returns the other kind of script.
@@ -76,9 +76,9 @@ fn other_of(grammar: Grammar) -> Grammar {
     }
 }
 
-/// Writes the forms of the lines that a script can have.
-pub(crate) fn write_forms<W: Write>(grammar: Grammar, to: &mut W) -> fmt::Result {
-    for form in forms_of(grammar) {
+/// Writes the forms of the lines that a script can have, but at most the first `most`.
+pub(crate) fn write_forms<W: Write>(grammar: Grammar, most: usize, to: &mut W) -> fmt::Result {
+    for form in forms_of(grammar).iter().take(most) {
         writeln!(to, "    {form}")?;
     }
     Ok(())

@@ -48,11 +48,11 @@ pub(crate) fn write_line<W: Write>(
     }
 }
 
-// Returns the lines with which a script begins.
-fn head_of(grammar: Grammar) -> &'static str {
+// Returns the lines with which a script begins, and how many they are.
+fn head_of(grammar: Grammar) -> (&'static str, usize) {
     match grammar {
-        Grammar::Recorder => "`data` and `log`",
-        Grammar::Seats => "`data`, `log` and `seats`",
+        Grammar::Recorder => ("`data` and `log`", 2),
+        Grammar::Seats => ("`data`, `log` and `seats`", 3),
     }
 }
 
@@ -72,14 +72,14 @@ fn write_too_short<W: Write>(
     number: u64,
     to: &mut W,
 ) -> fmt::Result {
-    let head = head_of(grammar);
+    let (head, lines) = head_of(grammar);
     if text.is_empty() {
         write!(to, "  {script} is empty")?;
     } else {
         write!(to, "  {script} ends before its line {number}")?;
     }
     writeln!(to, "; a script begins with the lines {head}:")?;
-    write_forms(grammar, to)
+    write_forms(grammar, lines, to)
 }
 
 // Writes why an id can't be submitted or ended: an earlier line did it, or no line submitted the

@@ -157,7 +157,7 @@ pub start-put : (calls : List Call) (call : Call) (base : List ℕ) → AreWithi
     → content_at (calls ++ call ∷ []) base ≡ content_at calls base
 start-put calls call base within = grind (arith, same_content, value-kept)
 
-values-in : (call : Call) (sector : ℕ) → call.first ≤ sector
+pub values-in : (call : Call) (sector : ℕ) → call.first ≤ sector
     → sector < call.first + count_of call.change
     → (value : List ℕ) × (values_of call sector ≡ Some value)
 values-in call sector low high = at call.change high
@@ -177,7 +177,7 @@ values-in call sector low high = at call.change high
     at (Image bytes) less = within (length bytes / 512) (sector_of bytes) less
     at (Discard count) less = within count (λ _. replicate 512 0) less
 
-values-out : (call : Call) (sector : ℕ)
+pub values-out : (call : Call) (sector : ℕ)
     → (sector < call.first) ⊎ (call.first + count_of call.change ≤ sector)
     → values_of call sector ≡ None
 values-out call sector outside = at call.change outside

@@ -4,4 +4,6 @@ pub mod DeviceLaw
 pub mod NewPast
 pub mod Examples
 pub mod PackedParts
+pub mod Ram
+pub mod RamLaw
 mod ImageBack

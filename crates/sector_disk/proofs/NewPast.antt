@@ -161,7 +161,7 @@ pub begins_same : (n : ℕ) (c d : Content) (v : View) → ((s : ℕ) → s < n 
     → Begins n d v
 begins_same n c d v same begins = grind arith
 
-begins_fresh : (n : ℕ) (start content : Content) → ((s : ℕ) → s < n → start s ≡ content s)
+pub begins_fresh : (n : ℕ) (start content : Content) → ((s : ℕ) → s < n → start s ≡ content s)
     → Begins n content (view_of n start [])
 begins_fresh n start content same = record {
   size = refl;

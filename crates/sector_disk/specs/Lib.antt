@@ -2,4 +2,5 @@
 pub mod Candidates
 pub mod CandidateLaws
 pub mod DiskView
+pub mod RamView
 pub mod inside

@@ -1,12 +1,12 @@
 //! The writes and discards that a disk stores as its past, and reads of the values that they put in
 //! sectors.
-ghost use Rattle.std.specs.Prelude.{true, ◌∷◌, ◌++◌, ◌≡◌, ◌%◌, ◌*◌, ◌+◌, ◌/◌, ◌≤◌, IfOk};
+ghost use Rattle.std.specs.Prelude.{ℕ, false, true, ◌∷◌, ◌++◌, ◌≡◌, ◌%◌, ◌*◌, ◌+◌, ◌/◌, ◌≤◌, IfOk};
 ghost use Rattle.std.specs.Prelude.{None, OnErr, OnOk, Some, [], drop, length};
 ghost use Rattle.std.specs.Prelude.{replicate, slice_get, take, unwrap_or};
-ghost use Rattle.sector_disk.specs.inside.Storage.{IsFilled, before_at, content_at, count_of};
+ghost use Rattle.sector_disk.specs.inside.Storage.{AreWithin, IsFilled, before_at, content_at, count_of};
 ghost use Rattle.sector_disk.specs.inside.Storage.{is_image_in, is_open, is_write_of, place_of};
 ghost use Rattle.sector_disk.specs.inside.Storage.{put_over, value_at, value_in};
-ghost use Rattle.bio.specs.Content.{gather, writes};
+ghost use Rattle.bio.specs.Content.{gather, put, writes};
 
 use crate::filled::FilledBytes;
 use crate::pieces::Image;
@@ -17,6 +17,9 @@ use std::mem;
 
 /// The size of a sector in bytes.
 pub const SECTOR: usize = SECTOR_BYTES as usize;
+
+// The number of sectors of a piece of an image.
+const PIECE_SECTORS: usize = 128;
 
 /// The values that a call puts in its sectors.
 #[derive(Debug, Drop)]
@@ -133,6 +136,84 @@ pub fn read_places(calls: &[Call], places: &[usize], first: usize, buffer: &mut 
             &mut buffer[from..from + SECTOR],
         );
     }
+}
+
+// Puts a part of 65,536 bytes from sector `first` on into the call's image. Returns whether the call
+// is an image from sector 0 on that has a piece there. If not, nothing is changed.
+fn replace_in(alloc: Global, call: &mut Call, first: usize, part: &[u8]) -> Result<bool, AllocError>
+    requires part { length part.now ≡ 65536 }
+    requires place { first % 128 ≡ 0 }
+    ensures done { IfOk result (λ done. done ≡ true → (sector : ℕ) →
+        value_in (Some call.new) sector ≡ put (writes first part.now) (value_in (Some call.old)) sector) }
+    ensures other { IfOk result (λ done. done ≡ false → call.new ≡ call.old) }
+    ensures err { OnErr result (call.new ≡ call.old) }
+{
+    if call.first != 0 {
+        return Ok(false);
+    }
+    let Change::Image(image) = &mut call.change else {
+        return Ok(false);
+    };
+    if (image.len() / SECTOR).saturating_sub(first) < PIECE_SECTORS {
+        return Ok(false);
+    }
+    image.replace(alloc, first * SECTOR, part)?;
+    Ok(true)
+}
+
+// Does what `put_piece` does to the calls in a slice.
+fn put_piece_in(
+    alloc: Global,
+    calls: &mut [Call],
+    newest: &mut Vec<usize>,
+    first: usize,
+    part: &[u8],
+) -> Result<bool, AllocError>
+    requires { first + length part.now / 512 ≤ length newest.old.items }
+    ensures done { IfOk result (λ done. done ≡ true → (sector : ℕ) →
+        content_at calls.new newest.new.items sector
+        ≡ put (writes first part.now) (content_at calls.old newest.old.items) sector) }
+    ensures other { IfOk result (λ done. done ≡ false →
+        (calls.new ≡ calls.old) × (newest.new.items ≡ newest.old.items)) }
+    ensures err { OnErr result
+        ((calls.new ≡ calls.old) × (newest.new.items ≡ newest.old.items)) }
+    ensures table { length newest.new.items ≡ length newest.old.items }
+    ensures within { AreWithin calls.old newest.old.items → AreWithin calls.new newest.new.items }
+{
+    if part.len() != PIECE_SECTORS * SECTOR || first % PIECE_SECTORS != 0 {
+        return Ok(false);
+    }
+    let Some(call) = calls.first_mut() else {
+        return Ok(false);
+    };
+    let done = replace_in(alloc, call, first, part)?;
+    if done {
+        fill_places(newest, first, PIECE_SECTORS, 0);
+    }
+    Ok(done)
+}
+
+/// Puts a part from sector `first` on into the image that the first call is, if the part is one of
+/// its pieces. Returns whether it is. If not, or if an allocation fails, nothing is changed.
+pub fn put_piece(
+    alloc: Global,
+    calls: &mut Vec<Call>,
+    newest: &mut Vec<usize>,
+    first: usize,
+    part: &[u8],
+) -> Result<bool, AllocError>
+    requires { first + length part.now / 512 ≤ length newest.old.items }
+    ensures done { IfOk result (λ done. done ≡ true → (sector : ℕ) →
+        content_at calls.new.items newest.new.items sector
+        ≡ put (writes first part.now) (content_at calls.old.items newest.old.items) sector) }
+    ensures other { IfOk result (λ done. done ≡ false →
+        (calls.new.items ≡ calls.old.items) × (newest.new.items ≡ newest.old.items)) }
+    ensures err { OnErr result
+        ((calls.new.items ≡ calls.old.items) × (newest.new.items ≡ newest.old.items)) }
+    ensures table { length newest.new.items ≡ length newest.old.items }
+    ensures within { AreWithin calls.old.items newest.old.items → AreWithin calls.new.items newest.new.items }
+{
+    put_piece_in(alloc, calls, newest, first, part)
 }
 
 /// Returns whether the first call is a write of `sectors` sectors from sector 0 on.

@@ -4,12 +4,14 @@ ghost use Rattle.std.specs.Prelude.{◌≤◌, length, vec_capacity};
 ghost use Rattle.sector_disk.specs.inside.Storage.{IsKept};
 
 use crate::call::Call;
+pub use ram::RamDisk;
 use std::alloc::Global;
 
 mod device;
 mod image;
 mod messages;
 mod power;
+mod ram;
 
 /// A disk in memory, of 1 to 1,048,576 sectors of 512 bytes, with a cache that `crash` loses.
 ///

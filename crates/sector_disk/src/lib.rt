@@ -5,7 +5,7 @@
 //! picks name (`specs/Candidates`).
 #![tactic(auto)]
 
-pub use disk::SectorDisk;
+pub use disk::{RamDisk, SectorDisk};
 pub use pieces::Image;
 
 mod call;

@@ -41,6 +41,11 @@ fn count_held(sector: &[u8]) -> usize
     ensures within { result ≤ 512 }
     ensures filled { refilled (take result sector.now) ≡ sector.now }
 {
+    if let [.., before, last] = sector {
+        if before != last {
+            return SECTOR;
+        }
+    }
     let last = sector.last().copied().unwrap_or(0);
     (count_before(sector, last) + 1).min(SECTOR)
 }

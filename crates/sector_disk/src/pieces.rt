@@ -1,7 +1,7 @@
 //! A long list of bytes, in pieces. A repeated byte at the end of a piece takes no memory.
 ghost use Rattle.std.specs.Prelude.{◌≡◌, ◌<◌, ◌≤◌, ◌+◌, ◌++◌, ◌%◌, IfOk, OnErr, OnOk, [], drop, length};
 ghost use Rattle.std.specs.Prelude.{take};
-ghost use Rattle.sector_disk.specs.inside.Pieces.{AreWhole, joined};
+ghost use Rattle.sector_disk.specs.inside.Pieces.{AreWhole, joined, with_piece};
 
 use crate::piece::Piece;
 use std::alloc::{AllocError, Global};
@@ -127,6 +127,27 @@ impl Image {
     {
         self.pieces.push(Piece::from_slice(alloc, piece)?)?;
         self.count += piece.len();
+        Ok(())
+    }
+
+    /// Replaces the 65,536 bytes from byte `from` on, which are one piece, by those of `piece`.
+    ///
+    /// # Errors
+    ///
+    /// An allocation fails; then nothing is changed.
+    pub(crate) fn replace(
+        &mut self,
+        alloc: Global,
+        from: usize,
+        piece: &[u8],
+    ) -> Result<(), AllocError>
+        requires place { from % 65536 ≡ 0 }
+        requires piece { length piece.now ≡ 65536 }
+        requires within { from + 65536 ≤ length self.old }
+        ensures ok { OnOk result (self.new ≡ with_piece from piece.now self.old) }
+        ensures err { OnErr result (self.new ≡ self.old) }
+    {
+        self.pieces[from / PIECE] = Piece::from_slice(alloc, piece)?;
         Ok(())
     }
 

@@ -9,7 +9,7 @@ ghost use Rattle.dmlw_commands.specs.Replays.{FailsOnImages, IsReplayed, stop_by
 use headline::{ReopenError, reopen_and_replay};
 use refusals::{Refusal, RunError};
 use replay::Upto;
-use sector_disk::{Image, SectorDisk};
+use sector_disk::{Image, RamDisk, SectorDisk};
 use std::alloc::Global;
 
 /// The result of a replay.
@@ -37,10 +37,10 @@ pub(crate) fn replay_images(
     ensures fails { IfErr result (FailsOnImages log first upto.now) }
 {
     let log = disk_of(alloc, log)?;
-    let mut disk = disk_of(alloc, first)?;
+    let mut disk = RamDisk::from_image(alloc, first)?;
     let (_log, done) = reopen_and_replay(alloc, log, &mut disk, upto);
     match done {
-        Ok(count) => Ok(Replayed { count, disk }),
+        Ok(count) => Ok(Replayed { count, disk: disk.into_disk() }),
         Err(error) => Err(stop_of(error)),
     }
 }

@@ -1,5 +1,5 @@
 -- A list of bytes in pieces of 65,536 bytes; the last piece may have fewer.
-use Rattle.std.specs.Prelude.{◌≡◌, ℕ, ◌<◌, ◌≤◌, List, [], ◌∷◌, ◌++◌, length}
+use Rattle.std.specs.Prelude.{◌≡◌, ℕ, ◌<◌, ◌≤◌, List, [], ◌∷◌, ◌++◌, ◌+◌, drop, length, take}
 use Rattle.sector_disk.specs.declared.piece.Held.{Held}
 use Rattle.sector_disk.specs.declared.piece.Held.TheVariants.{Filled, Packed}
 
@@ -18,6 +18,10 @@ AreWhole (piece ∷ (next ∷ rest)) = (length piece ≡ 65536) × AreWhole (nex
 pub record IsHeldIn (pieces : List (List ℕ)) (count : ℕ) : Type 0 where
   pub whole : AreWhole pieces
   pub counted : count ≡ length (joined pieces)
+
+-- the bytes with those of `piece` in place of the 65,536 from byte `from` on
+abbrev pub with_piece : ℕ → List ℕ → List ℕ → List ℕ
+with_piece from piece bytes = take from bytes ++ (piece ++ drop (from + 65536) bytes)
 
 -- The bytes of a piece, in either of the ways in which it is stored.
 

@@ -137,6 +137,13 @@ pub record IsKept (sectors : ℕ) (calls : List Call) (newest base : List ℕ) (
   pub base_within : AreWithin calls base
   pub placed : ArePlaced calls synced sectors newest (cache_of calls base begun flushed)
 
+-- the invariant of the fields of a `RamDisk`: the table has an index of a call for each sector
+pub record IsRam (sectors : ℕ) (calls : List Call) (newest : List ℕ) : Type 0 where
+  pub some : 0 < sectors
+  pub few : sectors ≤ 1048576
+  pub table : length newest ≡ sectors
+  pub within : AreWithin calls newest
+
 -- The number of sectors of a change, and the table of newest calls after a call is added.
 
 -- the number of sectors that a change covers

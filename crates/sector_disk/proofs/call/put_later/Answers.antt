@@ -1,4 +1,4 @@
-use Rattle.std.proofs.Common.{◌≡◌, ◌+◌, ◌*◌, ◌∙◌, ◌-◌, ap, arith, drop, length, sym, take}
+use Rattle.std.proofs.Common.{◌≡◌, ◌+◌, ◌*◌, ◌∙◌, ap, arith, drop, length, sym, take}
 use Rattle.sector_disk.specs.inside.Storage.{place_of, put_over}
 use Rattle.sector_disk.proofs.ImageBack.{gather-kept, gather-next, left_first, left_later}
 use Rattle.sector_disk.proofs.ImageBack.{length-value_at, rest-next, rest-put}

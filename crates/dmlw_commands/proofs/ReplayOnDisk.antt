@@ -10,6 +10,15 @@ use Rattle.bio.specs.declared.outcome.DevError.TheVariants as devices
 use Rattle.sector_disk.specs.declared.disk.SectorDisk.{SectorDisk}
 use Rattle.sector_disk.specs.DiskView.{Begins, shown_of}
 use Rattle.sector_disk.specs.CandidateLaws.{content_whole}
+use Rattle.sector_disk.specs.RamView.{DoesInRam, HoldsImage, ram_view}
+use Rattle.sector_disk.specs.declared.disk.ram.RamDisk.{RamDisk}
+use Rattle.blockdev.specs.View.{DoesInTurn}
+use Rattle.log_format.specs.Entries.{kind_of}
+use Rattle.log_format.specs.declared.entry.Kind.{Kind}
+use Rattle.log_format.specs.declared.entry.Kind.TheVariants as kinds
+use Rattle.replay.specs.Calls.{CallsBy, kind_calls}
+use Rattle.headline.specs.ReopenedLog.{DoesReplay}
+use Rattle.std.specs.Prelude.{◌==◌, Bool, [], false, if◌then◌else◌, true}
 use Rattle.log_format.specs.declared.decode.Super.{Super}
 use Rattle.log_format.specs.declared.entry.Entry.{Entry}
 use Rattle.log_reader.specs.declared.fault.LogFault.{LogFault}
@@ -87,7 +96,7 @@ reading_on log v head es fault image begins reads =
 
 pub replayed_on : (log first : List ℕ) (upto : Upto) (count : ℕ) (disk v w : View) → IsImage log
     → Begins (length log / 512) (sector_of log) disk
-    → Begins (length first / 512) (sector_of first) v → w.size ≡ v.size → NoLie v w
+    → HoldsImage first v → w.size ≡ v.size → NoLie v w
     → IsReopened disk upto count v w → IsReplayedOn log first upto count w
 replayed_on log first upto count disk v w image log_begins begins size no_lie done =
     grind (
@@ -101,7 +110,7 @@ replayed_on log first upto count disk v w image log_begins begins size no_lie do
 -- The disks never fail, so only the causes in `HasStopCause` are left.
 cause_on : (es : List Entry) (fault : Option LogFault) (upto : Upto) (head : Super)
     (log last v w : View) (disk applied : ℕ) (cause : ReplayError)
-    → v.size ≡ disk → (HasFaulted log last → ⊥) → (HasFaulted v w → ⊥)
+    → v.size ≡ disk → (HasFaulted log last → ⊥) → (cause ≡ replays.Target devices.Io → ⊥)
     → HasReplayCause es fault upto (first_reader log head)
     (first_reader last head) v w applied cause → HasStopCause upto head es fault disk applied cause
 cause_on es fault upto head log last v w disk applied replays.PastEntries size reader target asks =
@@ -121,7 +130,7 @@ cause_on es fault upto head log last v w disk applied (replays.Log reads.Memory)
 cause_on es fault upto head log last v w disk applied (replays.Log reads.Failed) size reader
     target refused = cc
 cause_on es fault upto head log last v w disk applied (replays.Target devices.Io) size reader target
-    failed = absurd (target (failed refl))
+    failed = absurd (target refl)
 cause_on es fault upto head log last v w disk applied (replays.Target devices.Memory) size reader
     target is = tt
 
@@ -143,8 +152,8 @@ applied_within size es old new applied (replays.Target error) leaves more =
 
 pub stopped_on : (log first : List ℕ) (upto : Upto) (stop : ReplayFault) (disk last v w : View)
     → IsImage log → Begins (length log / 512) (sector_of log) disk
-    → Begins (length first / 512) (sector_of first) v → (HasFaulted disk last → ⊥)
-    → (HasFaulted v w → ⊥) → NoLie v w → IsStopped disk last upto v w stop
+    → HoldsImage first v → (HasFaulted disk last → ⊥)
+    → (stop.cause ≡ replays.Target devices.Io → ⊥) → NoLie v w → IsStopped disk last upto v w stop
     → StopsReplay log first upto stop
 stopped_on log first upto stop disk last v w image log_begins begins reader target no_lie halted =
     record {
@@ -161,22 +170,60 @@ stopped_on log first upto stop disk last v w image log_begins begins reader targ
           (length first / 512) stop.applied stop.cause begins.size reader target halted.cause;
     }
 
+-- What a replay asks of a `RamDisk` never fails with Io.
+by_kind : (size : ℕ) (e : Entry) (mid new : RamDisk) (none : Bool) (kind : Kind)
+    → DoesInTurn DoesInRam 0 (if none then [] else kind_calls size kind e) mid (Err devices.Io) new
+    → ⊥
+by_kind size e mid new true kind never = never
+by_kind size e mid new false kinds.Mark never = never
+by_kind size e mid new false kinds.Discard (inl never) = never
+by_kind size e mid new false kinds.Discard (inr (next, ends, never)) = never
+by_kind size e mid new false kinds.Write (inl never) = never
+by_kind size e mid new false kinds.Write (inr (next, ends, never)) = never
+
+no_io : (size : ℕ) (es : List Entry) (old new : RamDisk) (applied : ℕ) (cause : ReplayError)
+    → CallsBy DoesInRam size es 0 old new applied cause → cause ≡ replays.Target devices.Io → ⊥
+no_io size es old new applied (replays.Target devices.Io) calls is =
+    by_kind size calls.next calls.mid new (calls.next.nr_sectors == 0)
+    (kind_of calls.next.flags) calls.refused
+no_io size es old new applied other calls is = cc
+
 pub fails_on : (log first : List ℕ) (upto : Upto) (error : ReopenError) (stop : RunError)
-    (disk last v w : View) → IsImage log
-    → Begins (length log / 512) (sector_of log) disk
-    → Begins (length first / 512) (sector_of first) v → (HasFaulted disk last → ⊥)
-    → (HasFaulted v w → ⊥) → NoLie v w
-    → IsRefused disk last upto v w error → stop ≡ stop_by error → FailsOnImages log first upto stop
-fails_on log first upto (reopens.Open error) stop disk last v w image log_begins begins reader
-    target no_lie refused same =
+    (disk last : View) (old new : RamDisk) → IsImage log
+    → Begins (length log / 512) (sector_of log) disk → HoldsImage first (ram_view old)
+    → (HasFaulted disk last → ⊥) → NoLie (ram_view old) (ram_view new)
+    → ((head : Super) (es : List Entry) (fault : Option LogFault)
+    → Reads disk.size disk.content head es fault
+    → DoesReplay DoesInRam head.sectorsize es old new (Err error))
+    → IsRefused disk last upto (ram_view old) (ram_view new) error → stop ≡ stop_by error
+    → FailsOnImages log first upto stop
+fails_on log first upto (reopens.Open error) stop disk last old new image log_begins holds reader
+    no_lie does refused same =
     fails_to_open log first upto (refused_by (open_device_refusal error)) stop
     (unopened_on log disk last error
     (refused_by (open_device_refusal error)) image log_begins reader refused refl) same
-fails_on log first upto (reopens.Replay fault) stop disk last v w image log_begins begins reader
-    target no_lie refused same =
+fails_on log first upto (reopens.Replay fault) stop disk last old new image log_begins holds reader
+    no_lie does refused same =
     subst (FailsOnImages log first upto) (sym same)
-    (stopped fault (stopped_on log first upto fault disk last v w image log_begins begins reader
-    target no_lie refused))
+    (stopped fault (stopped_on log first upto fault disk last (ram_view old) (ram_view new) image
+    log_begins holds reader (no_io refused.head.sectorsize refused.entries old new fault.applied
+    fault.cause (does refused.head refused.entries refused.fault refused.reading)) no_lie refused))
+
+pub kept_on : (log first : List ℕ) (upto : Upto) (count : ℕ) (v w : View) → IsImage first
+    → IsReplayedOn log first upto count v → Begins v.size v.content w
+    → IsReplayedOn log first upto count w
+kept_on log first upto count v w image done begins = record {
+  head = done.head;
+  entries = done.entries;
+  fault = done.fault;
+  reading = done.reading;
+  named = done.named;
+  within = done.within;
+  size = begins.size ∙ done.size;
+  content =
+      λ sector below. begins.content sector (let size = done.size in omega arith)
+      ∙ done.content sector below;
+}
 
 pub image_left : (log first : List ℕ) (upto : Upto) (count : ℕ) (disk : SectorDisk) → IsImage first
     → IsReplayedOn log first upto count (shown_of disk)

@@ -2,7 +2,7 @@
 //!
 //! `SectorDisk` is a device that fails only if an allocation fails, and never lies. The disk stores
 //! its past: its first content, and each write and discard since. `crash` leaves exactly what its
-//! picks name (`specs/Candidates`).
+//! picks name (`specs/Candidates`). `RamDisk` stores no past, so it promises nothing about a crash.
 #![tactic(auto)]
 
 pub use disk::{RamDisk, SectorDisk};

@@ -1,6 +1,7 @@
 //! Replays the log in an image on the disk that another image becomes.
 ghost use Rattle.std.specs.Prelude.{◌≡◌, ◌/◌, IfErr, IfOk, length};
 ghost use Rattle.sector_disk.specs.DiskView.{Begins, shown_of};
+ghost use Rattle.sector_disk.specs.RamView.{HoldsImage, ram_view};
 ghost use Rattle.bio.specs.Content.{sector_of};
 ghost use Rattle.refusals.specs.Errors.{memory_error};
 ghost use Rattle.dmlw_files.specs.Files.{IsImage, image_of};
@@ -37,10 +38,13 @@ pub(crate) fn replay_images(
     ensures fails { IfErr result (FailsOnImages log first upto.now) }
 {
     let log = disk_of(alloc, log)?;
-    let mut disk = RamDisk::from_image(alloc, first)?;
+    let mut disk = ram_of(alloc, first)?;
     let (_log, done) = reopen_and_replay(alloc, log, &mut disk, upto);
     match done {
-        Ok(count) => Ok(Replayed { count, disk: disk.into_disk() }),
+        Ok(count) => {
+            let disk = disk.into_disk()?;
+            Ok(Replayed { count, disk })
+        }
         Err(error) => Err(stop_of(error)),
     }
 }
@@ -66,6 +70,18 @@ fn disk_of(alloc: Global, image: Image) -> Result<SectorDisk, RunError>
     ensures memory { IfErr result (λ fault. fault ≡ memory_error) }
 {
     match SectorDisk::from_image(alloc, image) {
+        Ok(disk) => Ok(disk),
+        Err(error) => Err(RunError::from(error)),
+    }
+}
+
+// Makes a disk without a past of an image.
+fn ram_of(alloc: Global, image: Image) -> Result<RamDisk, RunError>
+    requires { IsImage image }
+    ensures holds { IfOk result (λ disk. HoldsImage image (ram_view disk)) }
+    ensures memory { IfErr result (λ fault. fault ≡ memory_error) }
+{
+    match RamDisk::from_image(alloc, image) {
         Ok(disk) => Ok(disk),
         Err(error) => Err(RunError::from(error)),
     }

@@ -3,7 +3,6 @@ use Rattle.std.proofs.Common.{◌≡◌, ℕ, zero, suc, true, false, None, Some
 use Rattle.std.proofs.Common.{take, get_or, slice_get, replicate, refl, sym, ◌∙◌, inl, inr}
 use Rattle.std.proofs.Common.{arith}
 use Rattle.std.specs.Prelude.{◌≤◌, ◌<◌, ◌++◌, ◌==◌, if◌then◌else◌}
-use Rattle.std.proofs.lemmas.Bool.{and_parts}
 use Rattle.bio.specs.Content as contents
 use Rattle.bio.specs.Content.{Content}
 use Rattle.bio.specs.declared.event.CoreEvent.{CoreEvent}
@@ -13,6 +12,7 @@ use Rattle.bio.specs.Events.{is_flush_submit}
 use Rattle.bio.specs.Possible.{PossibleAt, ended_ok, is_kept}
 use Rattle.judge.specs.Accounts.{IsAccount, IsFirstOf, IsLastFlush, first_bytes, is_held_from}
 use Rattle.judge.specs.Accounts.{last_below, place_at}
+use Rattle.judge.proofs.AccountVerdict.{ruled_out}
 use Rattle.judge.specs.Verdicts.{FailsAt, IsLastKept, IsRuledOutBy}
 use Rattle.judge.specs.declared.accounts.Account.{Account}
 use Rattle.judge.specs.declared.accounts.First.{First}
@@ -58,17 +58,8 @@ ruling-other : IsRuledOutBy events 4 None
 ruling-other = refl
 
 -- the newer write is the durable request over sector 3 that was submitted last
-last-newer : (later : ℕ) → is_kept events 3 later ≡ true → later ≤ 1
-last-newer zero kept = omega arith
-last-newer (suc zero) kept = omega arith
-last-newer (suc (suc zero)) kept = cc
-last-newer (suc (suc (suc zero))) kept = cc
-last-newer (suc (suc (suc (suc zero)))) kept = cc
-last-newer (suc (suc (suc (suc (suc zero))))) kept = cc
-last-newer (suc (suc (suc (suc (suc (suc later)))))) kept = grind (arith, and_parts)
-
 kept-newer : IsLastKept events 3 1
-kept-newer = record { kept = refl; last = last-newer }
+kept-newer = ruled_out events 3 (Some 1) refl
 
 -- an earlier one isn't, nor is one that isn't durable
 kept-older : IsLastKept events 3 0 → ⊥
@@ -110,18 +101,17 @@ failing-higher told = gone-first (told.lowest 3 (omega arith))
 
 -- the flush is the last one that ended with success; a write is none, one that hasn't ended isn't,
 -- and one before another isn't
-last-flush : (later : ℕ) → is_flush_submit (slice_get events later) ≡ true
-    → ended_ok events later ≡ true → later ≤ 4
-last-flush zero flush ended = cc
-last-flush (suc zero) flush ended = cc
-last-flush (suc (suc zero)) flush ended = cc
-last-flush (suc (suc (suc zero))) flush ended = cc
-last-flush (suc (suc (suc (suc zero)))) flush ended = omega arith
-last-flush (suc (suc (suc (suc (suc zero))))) flush ended = cc
-last-flush (suc (suc (suc (suc (suc (suc later)))))) flush ended = cc
+abbrev flushed : List CoreEvent
+flushed = Submit Flush ∷ Complete 0 true ∷ []
 
-flush-last : IsLastFlush events 4
-flush-last = record { flush = refl; ended = refl; last = last-flush }
+flush-last : IsLastFlush flushed 0
+flush-last = record { flush = refl; ended = refl; last = last }
+  where
+    last : (later : ℕ) → is_flush_submit (slice_get flushed later) ≡ true
+        → ended_ok flushed later ≡ true → later ≤ 0
+    last zero flush ended = omega arith
+    last (suc zero) flush ended = cc
+    last (suc (suc later)) flush ended = cc
 
 flush-write : IsLastFlush events 1 → ⊥
 flush-write told = let flush : false ≡ true = told.flush in cc

@@ -8,7 +8,6 @@ pub mod BodyLaws
 pub mod FaultLaws
 pub mod CanonicalTextLaws
 pub mod ScriptLaws
-pub mod Examples
 pub mod HeadLaws
 pub mod ReaderLaws
 pub mod RecorderLaws

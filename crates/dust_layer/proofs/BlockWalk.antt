@@ -18,7 +18,7 @@ use Rattle.bio.specs.ContentLaws.{discards-between, over-after, over-below, writ
 use Rattle.bio.specs.PlaceLaws.{last_or_below}
 use Rattle.dust_layer.specs.declared.parts.Change.{Change}
 use Rattle.dust_layer.specs.declared.parts.Change.TheVariants as changes
-use Rattle.dust_layer.specs.Walk.{blocks_of, call_of, count_of, first_of, fua_of, part_within}
+use Rattle.dust_layer.specs.Walk.{call_of, count_of, first_of, fua_of, part_within}
 use Rattle.dust_layer.specs.Walk.{FailsBelow, Passes, begin_of, block_behind, patch_of, reach}
 use Rattle.dust_layer.specs.Walk.{stops, list_passed, KeepsRest, part_of, Bad, IsList, left_at}
 use Rattle.dust_layer.specs.Walk.{with_entry, without}
@@ -106,11 +106,6 @@ none-passed begin (Writes first bytes fua) bad = without-none begin bad
 none-passed begin (Discards first count) bad = without-none begin bad
 none-passed begin Flushes bad = λ place. refl
 
-pub passed_first : {D : Type 0} (does : D → Call → ℕ → Result ℕ DevError → D → Type 0) (block : ℕ)
-    (call : Call) (bad : Bad) (old : D) (now : ℕ)
-    → 0 < count_of call → HasPassed does block call bad bad 0 (first_of call) old now old now
-passed_first does block call bad old now some = grind (arith, reach_first, none-passed)
-
 pub passed_next : {D : Type 0} (does : D → Call → ℕ → Result ℕ DevError → D → Type 0) (block : ℕ)
     (call : Call) (bad before after : Bad) (count from to : ℕ)
     (old : D) (now : ℕ) (mid : D) (at : ℕ) (new : D) (end : ℕ)
@@ -136,11 +131,6 @@ rest-change block first count changes.Discard n = tt
 pub begin-change : (block first count : ℕ) (change : Change)
     → begin_of block (call_of first count change) ≡ first / block
 begin-change block first count change = grind (arith, change-first)
-
-pub blocks-change : (block first count : ℕ) (change : Change)
-    → count_of (call_of first count change) ≡ count
-    → blocks_of block (call_of first count change) ≡ (first + count - 1) / block + 1 - first / block
-blocks-change block first count change size = grind (arith, change-first)
 
 pub none-before : (first count : ℕ) (change : Change)
     → HasNoneBelow first (patch_of (call_of first count change))
@@ -188,7 +178,7 @@ pub changes_first : {D : Type 0} (does : D → Call → ℕ → Result ℕ DevEr
     → Changes does shown block (call_of first count change)
     (fua_of change) bad bad 0 first old now old now
 changes_first does shown block first count change bad old now some size =
-    grind (arith, change-first, passed_first, goes_none, lands_first, none-before)
+    grind (arith, change-first, reach_first, none-passed, goes_none, lands_first, none-before)
 
 pub changes_next : {D : Type 0} (does : D → Call → ℕ → Result ℕ DevError → D → Type 0)
     (shown : D → View) (block first count : ℕ) (change : Change)
@@ -218,14 +208,6 @@ changes_next does shown block first count change bad before after done from to o
       lands = λ told.
           grind (arith, no_lie_parts, lands_next);
     }
-
-pub changes_goes : {D : Type 0} (does : D → Call → ℕ → Result ℕ DevError → D → Type 0)
-    (shown : D → View) (block : ℕ) (call : Call) (fua : Bool)
-    (bad list : Bad) (done from : ℕ) (old : D) (now : ℕ) (new : D) (end : ℕ)
-    → Changes does shown block call fua bad list done from old now new end
-    → DeviceFrame (patch_of call) (shown old) (shown new)
-changes_goes does shown block call fua bad list done from old now new end so_far =
-    grind (arith, goes_cut)
 
 -- The next part has the sectors from `from` to before `to`.
 pub record IsNextPart (block first count done from to : ℕ) : Type 0 where
@@ -325,7 +307,7 @@ pub changes_failed : {D : Type 0} (does : D → Call → ℕ → Result ℕ DevE
     → FailsBelow does block (call_of first count change) bad struck old now new error
 changes_failed does shown block first count change bad before struck done from to old now mid at new
     error size within is_to so_far free stays did =
-    grind (arith, blocks-change, stops-change, begin-change, part-change, rest-change)
+    grind (arith, change-first, stops-change, begin-change, part-change, rest-change)
 
 pub changes_land : {D : Type 0} (does : D → Call → ℕ → Result ℕ DevError → D → Type 0)
     (shown : D → View) (block first count : ℕ) (change : Change)

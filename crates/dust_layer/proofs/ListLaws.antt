@@ -1,16 +1,15 @@
 -- How calls and messages change the list, the mode and the counts, and which blocks a call that
 -- ends Ok touched.
-use Rattle.std.proofs.Common.{List, length, Option, Some, None, refl, arith, ◌≡◌, ℕ, ◌+◌, ◌-◌, ◌/◌}
-use Rattle.std.proofs.Common.{◌*◌, ◌<◌, ◌≤◌, Bool, true, false, Ok, Err}
+use Rattle.std.proofs.Common.{List, length, Option, Some, None, refl, arith, ◌≡◌, ℕ, ◌/◌}
+use Rattle.std.proofs.Common.{◌*◌, ◌<◌, Bool, false, Ok, Err}
 use Rattle.std.specs.Prelude.{Result, is_some, nat_lt}
 use Rattle.std.proofs.lemmas.Bool.{cases_lt, lt-ltb}
 use Rattle.bio.specs.declared.outcome.DevError.{DevError}
 use Rattle.blockdev.specs.View.{Call, Discards, Reads, Writes}
 use Rattle.blockdev.specs.declared.message.MessageError.{MessageError}
 use Rattle.blockdev.specs.declared.message.MessageError.TheVariants as errors
-use Rattle.dust_layer.proofs.BlockWalk.{without-in}
-use Rattle.dust_layer.specs.Walk.{Bad, ByBlock, DoesParts, IsList, IsTouched, count_of, first_of}
-use Rattle.dust_layer.specs.Walk.{left_at, listed, stops, with_entry, without}
+use Rattle.dust_layer.specs.Walk.{Bad, ByBlock, IsList, IsTouched, count_of, first_of}
+use Rattle.dust_layer.specs.Walk.{left_at, listed, stops, with_entry}
 use Rattle.dust_layer.specs.declared.dust.Dust.{Dust}
 use Rattle.dust_layer.specs.declared.mode.Mode.TheVariants.{Bypass, FailReadOnBadBlock}
 use Rattle.dust_layer.specs.declared.order.Order.{Order}
@@ -37,55 +36,6 @@ mode-stays : {D : Type 0} (does : Doing D) (call : Call) (now : ℕ) (result : R
     → IsDusted does call now result old new → (new.mode ≡ old.mode) × (new.block ≡ old.block)
 mode-stays does call now result old new dusted = (dusted.mode, dusted.block)
 
-one-part : {D : Type 0} (does : Doing D) (part : ℕ → Call) (begin : ℕ) (old : D) (now : ℕ) (new : D)
-    (end : ℕ) → DoesParts does part begin 1 old now new end
-    → does old (part (begin + 0)) now (Ok end) new
-one-part {D} does part begin old now new end (mid, at, (is, same), last) = grind arith
-
--- If a write ends Ok, none of its blocks is listed after it.
-write-mends : {D : Type 0} (does : Doing D) (block first : ℕ) (bytes : List ℕ) (fua : Bool)
-    (bad after : Bad) (old : D) (now : ℕ) (new : D) (end place : ℕ)
-    → ByBlock does block (Writes first bytes fua) bad after old now new (Ok end)
-    → IsTouched block first (length bytes / 512) place → after place ≡ None
-write-mends does block first bytes fua bad after old now new end place is touched =
-    grind (arith, without-in)
-
-read-leaves : {D : Type 0} (does : Doing D) (block first : ℕ) (before bytes : List ℕ)
-    (bad after : Bad) (old : D) (now : ℕ) (new : D) (end : ℕ)
-    → ByBlock does block (Reads first before bytes) bad after old now new (Ok end)
-    → IsList after bad
-read-leaves does block first before bytes bad after old now new end is = is.list
-
--- the list without `count` blocks from block `begin` on
-abbrev behind : ℕ → ℕ → Bad → Bad
-behind begin count bad = without begin (begin + count) bad
-
--- A block with a count above 0 stops the write, which lowers the count by one; the blocks before it
--- leave the list.
-write-stopped : {D : Type 0} (does : Doing D) (block first : ℕ) (bytes : List ℕ) (fua : Bool)
-    (bad after : Bad) (old : D) (now : ℕ) (new : D)
-    → ByBlock does block (Writes first bytes fua) bad after old now new (Err Struck)
-    → (count : ℕ) × (nat_lt 0 (left_at bad (first / block + count)) ≡ true)
-    × IsList after (with_entry (first / block + count)
-    (Some (left_at (behind (first / block) count bad) (first / block + count) - 1))
-    (behind (first / block) count bad))
-write-stopped does block first bytes fua bad after old now new is = (is.count, is.stopped, is.list)
-
--- A read is stopped by a listed block, and doesn't change the list.
-read-stopped : {D : Type 0} (does : Doing D) (block first : ℕ) (before bytes : List ℕ)
-    (bad after : Bad) (old : D) (now : ℕ) (new : D)
-    → ByBlock does block (Reads first before bytes) bad after old now new (Err Struck)
-    → (count : ℕ) × (is_some (bad (first / block + count)) ≡ true) × IsList after bad
-read-stopped does block first before bytes bad after old now new is = grind arith
-
--- If the lower device fails a part of a write, only the blocks before that part leave the list.
-write-failed : {D : Type 0} (does : Doing D) (block first : ℕ) (bytes : List ℕ) (fua : Bool)
-    (bad after : Bad) (old : D) (now : ℕ) (new : D) (error : DevError)
-    → ByBlock does block (Writes first bytes fua) bad after old now new (Err (Below error))
-    → (count : ℕ) × (nat_lt 0 (left_at bad (first / block + count)) ≡ false)
-    × IsList after (behind (first / block) count bad)
-write-failed does block first bytes fua bad after old now new error is = grind arith
-
 refused-stays : (size sectors : ℕ) (order : Order) (error : MessageError) (old : Bad) (was : Bool)
     (new : Bad) (enabled : Bool)
     → IsAnswered size sectors order (Err error) old was new enabled
@@ -100,32 +50,10 @@ added : (size sectors block count : ℕ) (done : Unit {0}) (old : Bad) (was : Bo
     × IsList new (with_entry block (Some count) old) × (enabled ≡ was)
 added size sectors block count done old was new enabled ((within, fresh), list, mode) = grind arith
 
-removed : (size sectors block : ℕ) (done : Unit {0}) (old : Bad) (was : Bool) (new : Bad)
-    (enabled : Bool)
-    → IsAnswered size sectors (orders.Remove block) (Ok done) old was new enabled
-    → (block * size < sectors) × (is_some (old block) ≡ true)
-    × IsList new (with_entry block None old) × (enabled ≡ was)
-removed size sectors block done old was new enabled ((within, there), list, mode) = grind arith
-
 no-memory : (size sectors block count : ℕ) (old : Bad) (was : Bool) (new : Bad) (enabled : Bool)
     → IsAnswered size sectors (orders.Add block count) (Err errors.Memory) old was new enabled
     → (block * size < sectors) × (is_some (old block) ≡ false)
 no-memory size sectors block count old was new enabled (could, list, mode) = could
-
-past-the-end : (size sectors block count : ℕ) (old : Bad) (was : Bool) (new : Bad) (enabled : Bool)
-    → IsAnswered size sectors (orders.Add block count) (Err errors.BadMessage) old was new enabled
-    → sectors ≤ block * size
-past-the-end size sectors block count old was new enabled (past, list, mode) = past
-
-already-bad : (size sectors block count : ℕ) (old : Bad) (was : Bool) (new : Bad) (enabled : Bool)
-    → IsAnswered size sectors (orders.Add block count) (Err errors.AlreadyBad) old was new enabled
-    → (block * size < sectors) × (is_some (old block) ≡ true)
-already-bad size sectors block count old was new enabled (is, list, mode) = is
-
-not-bad : (size sectors block : ℕ) (old : Bad) (was : Bool) (new : Bad) (enabled : Bool)
-    → IsAnswered size sectors (orders.Remove block) (Err errors.NotBad) old was new enabled
-    → (block * size < sectors) × (is_some (old block) ≡ false)
-not-bad size sectors block old was new enabled (is, list, mode) = is
 
 no-order : {D : Type 0} (text : List ℕ) (result : Result (Unit {0}) MessageError) (old new : Dust D)
     (order : Order) → AsksFor text order

@@ -67,7 +67,7 @@ possible_fine events first now sectors sector account told within (inr from) =
     ∙ held_somewhere events now sector from.0 from.1 from.2 in
     ap (λ b. b || is_at_first account.last.items first now sector) held
 
-ruled_out : (events : List CoreEvent) (sector : ℕ) (by : Option ℕ)
+pub ruled_out : (events : List CoreEvent) (sector : ℕ) (by : Option ℕ)
     → by ≡ last_below (is_kept events sector) (length events)
     → IsRuledOutBy events sector by
 ruled_out events sector None is = kept_last events sector ∙ ap is_some (sym is)

@@ -1,26 +1,24 @@
 -- Verdicts by computation: two writes of sector 3, both ended, and a flush after them.
-use Rattle.std.proofs.Common.{◌≡◌, ℕ, zero, suc, true, false, None, Some, List, [], ◌∷◌, length}
-use Rattle.std.proofs.Common.{take, get_or, slice_get, replicate, refl, ap, sym, ◌∙◌, inl, inr}
+use Rattle.std.proofs.Common.{◌≡◌, ℕ, zero, suc, true, false, None, Some, List, [], ◌∷◌}
+use Rattle.std.proofs.Common.{take, get_or, slice_get, replicate, refl, sym, ◌∙◌, inl, inr}
 use Rattle.std.proofs.Common.{arith}
 use Rattle.std.specs.Prelude.{◌≤◌, ◌<◌, ◌++◌, ◌==◌, if◌then◌else◌}
-use Rattle.bio.specs.PlaceLaws.{none_first_below}
-use Rattle.std.proofs.lemmas.Bool.{and_parts, le-ltb}
 use Rattle.bio.specs.Content as contents
 use Rattle.bio.specs.Content.{Content}
 use Rattle.bio.specs.declared.event.CoreEvent.{CoreEvent}
 use Rattle.bio.specs.declared.event.CoreEvent.TheVariants.{Submit, Complete}
 use Rattle.bio.specs.declared.request.Bio.TheVariants.{Write, Flush}
-use Rattle.bio.specs.Events.{end_of, is_flush_submit}
+use Rattle.bio.specs.Events.{is_flush_submit}
 use Rattle.bio.specs.Possible.{PossibleAt, ended_ok, is_kept}
 use Rattle.judge.specs.Accounts.{IsAccount, IsFirstOf, IsLastFlush, first_bytes, is_held_from}
 use Rattle.judge.specs.Accounts.{last_below, place_at}
+use Rattle.judge.proofs.AccountVerdict.{ruled_out}
 use Rattle.judge.specs.Verdicts.{FailsAt, IsLastKept, IsRuledOutBy}
 use Rattle.judge.specs.declared.accounts.Account.{Account}
 use Rattle.judge.specs.declared.accounts.First.{First}
 use Rattle.judge.specs.declared.accounts.First.TheVariants.{Zeroes}
 
--- the writes have the bytes 1 and 2; the flush is submitted
--- at the fourth moment and has ended at the sixth
+-- the writes have the bytes 1 and 2
 abbrev events : List CoreEvent
 events =
     Submit (Write 3 (replicate 512 1) false false false) ∷ Submit
@@ -31,26 +29,10 @@ events =
 abbrev holding : ℕ → Content
 holding byte sector = replicate 512 (if sector == 3 then byte else 0)
 
--- before the flush, sector 3 could hold what it held at first, or either write's value
-possible-first : PossibleAt (take 4 events) (holding 0) (holding 0) 3
-possible-first = inl (refl, refl)
-
-possible-older : PossibleAt (take 4 events) (holding 0) (holding 1) 3
-unfolding contents.over
-possible-older = inr (0, refl, refl)
-
-possible-newer : PossibleAt (take 4 events) (holding 0) (holding 2) 3
-unfolding contents.over
-possible-newer = inr (1, refl, refl)
-
--- after it, either write's value: the older one ended after the newer one was submitted
+-- sector 3 could hold the older write's value: that ended after the newer one was submitted
 durable-older : PossibleAt events (holding 0) (holding 1) 3
 unfolding contents.over
 durable-older = inr (0, refl, refl)
-
-durable-newer : PossibleAt events (holding 0) (holding 2) 3
-unfolding contents.over
-durable-newer = inr (1, refl, refl)
 
 -- a byte is that of its list
 byte_is : (a b : ℕ) → Some (replicate 512 a) ≡ Some (replicate 512 b) → a ≡ b
@@ -71,25 +53,13 @@ gone-first (inr (suc (suc (suc (suc (suc (suc id))))), is, kept)) = cc
 ruling-out : last_below (is_kept events 3) 6 ≡ Some 1
 ruling-out = refl
 
--- before the flush no durable request covers the sector, and after it none covers another one
-ruling-nothing : IsRuledOutBy (take 4 events) 3 None
-ruling-nothing = refl
-
+-- no durable request covers another sector
 ruling-other : IsRuledOutBy events 4 None
 ruling-other = refl
 
 -- the newer write is the durable request over sector 3 that was submitted last
-last-newer : (later : ℕ) → is_kept events 3 later ≡ true → later ≤ 1
-last-newer zero kept = omega arith
-last-newer (suc zero) kept = omega arith
-last-newer (suc (suc zero)) kept = cc
-last-newer (suc (suc (suc zero))) kept = cc
-last-newer (suc (suc (suc (suc zero)))) kept = cc
-last-newer (suc (suc (suc (suc (suc zero))))) kept = cc
-last-newer (suc (suc (suc (suc (suc (suc later)))))) kept = grind (arith, and_parts)
-
 kept-newer : IsLastKept events 3 1
-kept-newer = record { kept = refl; last = last-newer }
+kept-newer = ruled_out events 3 (Some 1) refl
 
 -- an earlier one isn't, nor is one that isn't durable
 kept-older : IsLastKept events 3 0 → ⊥
@@ -131,18 +101,17 @@ failing-higher told = gone-first (told.lowest 3 (omega arith))
 
 -- the flush is the last one that ended with success; a write is none, one that hasn't ended isn't,
 -- and one before another isn't
-last-flush : (later : ℕ) → is_flush_submit (slice_get events later) ≡ true
-    → ended_ok events later ≡ true → later ≤ 4
-last-flush zero flush ended = cc
-last-flush (suc zero) flush ended = cc
-last-flush (suc (suc zero)) flush ended = cc
-last-flush (suc (suc (suc zero))) flush ended = cc
-last-flush (suc (suc (suc (suc zero)))) flush ended = omega arith
-last-flush (suc (suc (suc (suc (suc zero))))) flush ended = cc
-last-flush (suc (suc (suc (suc (suc (suc later)))))) flush ended = cc
+abbrev flushed : List CoreEvent
+flushed = Submit Flush ∷ Complete 0 true ∷ []
 
-flush-last : IsLastFlush events 4
-flush-last = record { flush = refl; ended = refl; last = last-flush }
+flush-last : IsLastFlush flushed 0
+flush-last = record { flush = refl; ended = refl; last = last }
+  where
+    last : (later : ℕ) → is_flush_submit (slice_get flushed later) ≡ true
+        → ended_ok flushed later ≡ true → later ≤ 0
+    last zero flush ended = omega arith
+    last (suc zero) flush ended = cc
+    last (suc (suc later)) flush ended = cc
 
 flush-write : IsLastFlush events 1 → ⊥
 flush-write told = let flush : false ≡ true = told.flush in cc
@@ -172,59 +141,16 @@ held-gone : is_held_from replaced (holding 1) 3 0 ≡ false
 unfolding contents.over
 held-gone = refl
 
--- of those that pass the last is found, and none where none does
-last-none : last_below (is_kept events 4) 6 ≡ None
-last-none = refl
-
--- a list keeps a place within it, and none past its end
-place-within : place_at (None ∷ Some 7 ∷ []) 1 ≡ Some 7
-place-within = refl
-
+-- a list has no place past its end
 place-past : place_at (None ∷ Some 7 ∷ []) 2 ≡ None
 place-past = refl
 
--- an account names each request's end, and for each sector the
--- last durable request and the last one whose value it has
-account-newer : (account : Account) → account.ends.items ≡ Some 1 ∷ None ∷ Some 3 ∷ None ∷ []
-    → account.last.items ≡ None ∷ None ∷ None ∷ Some 2 ∷ []
-    → account.held.items ≡ None ∷ None ∷ None ∷ Some 2 ∷ []
-    → IsAccount replaced (holding 2) 4 account
-unfolding contents.over
-account-newer account ends last held = record {
-  last_size = ap length last;
-  held_size = ap length held;
-  ends = λ id. ap (λ places. place_at places id) ends ∙ end_is id;
-  last = λ sector within. ap (λ places. place_at places sector) last ∙ kept_is sector within;
-  held = λ sector within. ap (λ places. place_at places sector) held ∙ held_is sector within;
-}
-  where
-    end_is : (id : ℕ) → place_at (Some 1 ∷ None ∷ Some 3 ∷ None ∷ []) id ≡ end_of replaced id
-    end_is zero = refl
-    end_is (suc zero) = refl
-    end_is (suc (suc zero)) = refl
-    end_is (suc (suc (suc zero))) = refl
-    end_is (suc (suc (suc (suc id)))) = grind (arith, none_first_below, slice_get, le-ltb)
+-- an account of no events has no request for its sector
+account-none : (account : Account) → account.ends.items ≡ [] → account.last.items ≡ None ∷ []
+    → account.held.items ≡ None ∷ [] → IsAccount [] (holding 0) 1 account
+account-none account ends last held = grind (arith, slice_get)
 
-    kept_is : (sector : ℕ) → sector < 4
-        → place_at (None ∷ None ∷ None ∷ Some 2 ∷ []) sector
-        ≡ last_below (is_kept replaced sector) 4
-    kept_is zero within = refl
-    kept_is (suc zero) within = refl
-    kept_is (suc (suc zero)) within = refl
-    kept_is (suc (suc (suc zero))) within = refl
-    kept_is (suc (suc (suc (suc sector)))) within = absurd (omega arith)
-
-    held_is : (sector : ℕ) → sector < 4
-        → place_at (None ∷ None ∷ None ∷ Some 2 ∷ []) sector
-        ≡ last_below (is_held_from replaced (holding 2) sector) 4
-    held_is zero within = refl
-    held_is (suc zero) within = refl
-    held_is (suc (suc zero)) within = refl
-    held_is (suc (suc (suc zero))) within = refl
-    held_is (suc (suc (suc (suc sector)))) within = absurd (omega arith)
-
--- not one that has no request for a sector that has a request's value, nor one with no ends, nor
--- with no durable requests
+-- an account has a request for a sector that has a request's value, and ends, and durable requests
 none_some : (place : ℕ) → None ≡ Some place → ⊥
 none_some place same = cc
 
@@ -242,7 +168,7 @@ account-last : (account : Account) → account.last.items ≡ []
     → IsAccount replaced (holding 2) 4 account → ⊥
 account-last account last told = grind (arith, none_some)
 
--- nor one of more or fewer sectors, though no request covers any
+-- and one place for each sector, though no request covers any
 account-shorter : (account : Account) → account.last.items ≡ []
     → IsAccount [] (holding 0) 1 account → ⊥
 account-shorter account last told = grind arith

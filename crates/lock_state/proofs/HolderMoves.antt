@@ -9,10 +9,8 @@ use Rattle.std.proofs.lemmas.Option.{slice_get_within}
 use lib.ListN.{get_elem?}
 use mathlib.Core.Option.{some, some-ne-none, some-injective}
 use Rattle.refusals.specs.declared.run_error.End.{End}
-use Rattle.refusals.specs.declared.run_error.End.TheVariants.{Full, Device, Memory}
-use Rattle.lock_state.proofs.Lists.{get_push}
 use Rattle.lock_state.specs.declared.holders.rule.Knows.{Knows}
-use Rattle.lock_state.specs.FirstStop.{IsShown, end_number, shown_stop}
+use Rattle.lock_state.specs.FirstStop.{IsShown, end_number}
 use Rattle.lock_state.specs.HolderRules.{nobody, without, part_of, beside, Agree, Sets, Fits}
 use Rattle.lock_state.specs.HolderRules.{IsKept, keeper_of, holder_of, both_of}
 
@@ -291,12 +289,6 @@ pub joined : (before after part : Me (Unit {0}) Knows) (all : List (Option ℕ))
     → after ≡ (beside before.0 part.0, before.1) → after ≡ (both_of all number held, [])
 joined before after part all number held is his e = grind arith
 
-pub parted : (before after part : Me (Unit {0}) Knows) (all : List (Option ℕ)) (number : ℕ)
-    (held : Option ℕ) → before ≡ (both_of all number held, [])
-    → after ≡ (without before.0, before.1) → part ≡ (part_of before.0, [])
-    → (after ≡ (keeper_of all, [])) × (part ≡ (holder_of number held, []))
-parted before after part all number held is e his = grind arith
-
 pub lent_is : (mine part : Me (Unit {0}) Knows) (number : ℕ) (held : Option ℕ)
     → mine ≡ (holder_of number held, []) → part ≡ (part_of mine.0, [])
     → part ≡ (holder_of number held, [])
@@ -320,10 +312,6 @@ pub enrolled_is : (before after : Me (Unit {0}) Knows) (all : List (Option ℕ))
     → after ≡ (both_of (all ++ None ∷ []) (length all) None, [])
 enrolled_is before after all is told = grind arith
 
-pub shown_enrolled : (shown : Option End) (held : List (Option ℕ)) → IsShown shown held
-    → IsShown shown (held ++ None ∷ [])
-shown_enrolled shown held each number one there = grind (arith, get_push)
-
 pub shown_begun : (cause : End) (held : List (Option ℕ)) (number : ℕ) → IsShown (Some cause) held
     → IsShown (Some cause) (slice_set held number (Some (end_number cause)))
 shown_begun cause [] number each other one there = each other one there
@@ -343,21 +331,3 @@ pub shown_later : (before after : Option End) (held : List (Option ℕ))
 shown_later None after held stays each = shown_first None after held refl each
 shown_later (Some cause) after held stays each =
     rw (stays cause refl) each
-
-same_number : (shown : Option End) (cause : End) → shown_stop shown ≡ Some (end_number cause)
-    → shown ≡ Some cause
-same_number None cause same = absurd (cc)
-same_number (Some Full) Full same = refl
-same_number (Some Full) Device same = absurd (cc)
-same_number (Some Full) Memory same = absurd (cc)
-same_number (Some Device) Full same = absurd (cc)
-same_number (Some Device) Device same = refl
-same_number (Some Device) Memory same = absurd (cc)
-same_number (Some Memory) Full same = absurd (cc)
-same_number (Some Memory) Device same = absurd (cc)
-same_number (Some Memory) Memory same = refl
-
-pub shown_is : (shown : Option End) (held : List (Option ℕ)) (number : ℕ) (cause : End)
-    → IsShown shown held → slice_get held number ≡ Some (Some (end_number cause))
-    → shown ≡ Some cause
-shown_is shown held number cause each there = grind (arith, same_number)

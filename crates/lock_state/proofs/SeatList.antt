@@ -4,7 +4,7 @@ use Rattle.std.proofs.Common.{List, [], ◌∷◌, ◌++◌, sym, ◌∙◌, ari
 use Rattle.std.proofs.Common.{◌≡◌, ◌≢◌, ℕ, zero, suc, ◌+◌, ◌<◌, ◌≤◌, Bool, true, false}
 use Rattle.std.proofs.Common.{append_assoc, length, map, take, drop, Option, Some, None, refl, ap}
 use Rattle.std.proofs.Common.{subst}
-use Rattle.std.specs.Prelude.{slice_get, slice_set, IsTrue, if◌then◌else◌, MatchBool, ◌&&◌}
+use Rattle.std.specs.Prelude.{slice_get, IsTrue, if◌then◌else◌, MatchBool, ◌&&◌}
 use Rattle.std.proofs.lemmas.Bool.{cases_lt, and_parts}
 use Rattle.std.proofs.lemmas.Bool.Decides.{eqb_tells}
 use Rattle.std.proofs.lemmas.Option.{slice_get_past, slice_get_within}
@@ -18,7 +18,7 @@ use Rattle.bio.specs.PlaceLaws.{slice_get-append_here, slice_get-append_front}
 use Rattle.pending.specs.CompletionList.{IsQueued, Item, completion_list, dm_log_writes, entry_at}
 use Rattle.pending.specs.CoreState.{CoreState, items_of}
 use Rattle.pending.specs.QueueEvent.{log_writes_order}
-use Rattle.lock_state.proofs.Lists.{get_set_same, get_set_else, take_next}
+use Rattle.lock_state.proofs.Lists.{take_next}
 use Rattle.lock_state.specs.Calls.{done_call}
 use Rattle.lock_state.specs.Comparison.{AllNotesMatch, AreCauses, IsDoneOnce, IsItem, IsNoted}
 use Rattle.lock_state.specs.Comparison.{IsOkAt, MayBeReported, Tells, is_of, is_ok_of, listed, of}
@@ -117,13 +117,6 @@ drop_all [] zero h = refl
 drop_all [] (suc n) h = refl
 drop_all (x ∷ xs) zero h = absurd (omega arith)
 drop_all (x ∷ xs) (suc n) h = drop_all xs n (omega arith)
-
-take_all : {A : Type 0} (xs : List A) (n : ℕ) → n ≡ length xs → take n xs ≡ xs
-take_all xs n is = ap (λ k. take k xs) is ∙ whole xs
-  where
-    whole : {A : Type 0} (xs : List A) → take (length xs) xs ≡ xs
-    whole [] = refl
-    whole (x ∷ xs) = grind (arith, whole xs)
 
 pub take_past : {A : Type 0} (xs : List A) (n : ℕ) → length xs ≤ n → take n xs ≡ xs
 take_past [] zero h = refl
@@ -263,20 +256,9 @@ all_tell-push calls call before after place is tells noted id seen e =
     (sym (n.now ∙ rw is))
     (tells-push calls call id n.was (tells id n.was n.there))
 
-pub not_noted : (before : List Seen) (place : ℕ) (call : Done)
-    → ((id : ℕ) (seen : Seen) → slice_get before id ≡ Some seen → is_ok_of id call ≡ false)
-    → (id : ℕ) (seen : Seen) → slice_get before id ≡ Some seen → IsNoted before place call id seen
-not_noted before place call other id seen e = grind arith
-
 and_false : (b : Bool) → (b && false) ≡ false
 and_false true = refl
 and_false false = refl
-
-pub nobody_ok : (call : Done) (id : ℕ) → call.id ≡ None → is_ok_of id call ≡ false
-nobody_ok call id e = grind (arith, and_false)
-
-pub failed_ok : (call : Done) (id : ℕ) → call.ok ≡ false → is_ok_of id call ≡ false
-failed_ok call id e = grind arith
 
 pub other_ok : (call : Done) (id other : ℕ) → call.id ≡ Some other → other ≢ id
     → is_ok_of id call ≡ false
@@ -288,14 +270,6 @@ own_ok call id e ok =
   where
     eqb_same : (n : ℕ) → eqb n n ≡ true
     eqb_same n = eq-eqb n n refl
-
-pub is_noted : (before : List Seen) (place : ℕ) (call : Done) (other : ℕ) (was : Seen)
-    → call.id ≡ Some other → call.ok ≡ true → slice_get before other ≡ Some was
-    → (id : ℕ) (seen : Seen)
-    → slice_get (slice_set before other (seen_more was place)) id ≡ Some seen
-    → IsNoted before place call id seen
-is_noted before place call other was own ok there id seen e =
-    grind (arith, get_set_same, own_ok, get_set_else, other_ok)
 
 counted : (id : ℕ) (calls : List Done) (place : ℕ) (call : Done) → slice_get calls place ≡ Some call
     → is_ok_of id call ≡ true → 1 ≤ times id calls

@@ -1,26 +1,23 @@
 -- For each clause about a replay, its reads or a copy: an example that the clause refuses.
-use Rattle.std.proofs.Common.{false, Some, None, Result, slice_index_or, refl, ap, ◌≡◌, ℕ, ◌+◌}
-use Rattle.std.proofs.Common.{zero, suc, ◌<◌, ◌≤◌, true, sym, ◌∙◌, inl, inr, arith, Ok, Err, List}
+use Rattle.std.proofs.Common.{false, None, Result, slice_index_or, refl, ap, ◌≡◌, ℕ, ◌+◌}
+use Rattle.std.proofs.Common.{true, sym, ◌∙◌, inl, inr, arith, Ok, Err, List}
 use Rattle.std.proofs.Common.{[], ◌∷◌, ◌++◌, length, replicate}
-use Rattle.std.specs.Prelude.{slice_get}
 use Rattle.refusals.specs.declared.run_error.End.TheVariants as ends
 use Rattle.bio.specs.Content.{Content}
 use Rattle.bio.specs.Content as contents
 use Rattle.bio.specs.declared.outcome.DevError.{DevError}
 use Rattle.bio.specs.declared.outcome.DevError.TheVariants.{Io}
 use Rattle.bio.specs.declared.outcome.DevError.TheVariants as devices
-use Rattle.bio.specs.declared.request.Bio.TheVariants as bios
-use Rattle.blockdev.specs.View.{Call, Discards, DoesInTurn, Reads, View, Writes}
+use Rattle.blockdev.specs.View.{Call, DoesInTurn, View, Writes}
 use Rattle.log_format.specs.declared.entry.Entry.{Entry}
-use Rattle.log_format.specs.Entries.{end_mark, entry_of, no_flags}
+use Rattle.log_format.specs.Entries.{end_mark, no_flags}
 use Rattle.log_format.specs.Replay.{replay}
 use Rattle.log_store.specs.Calls.{append_calls, settle_calls}
 use Rattle.log_store.specs.Store.{Store, entries_of}
 use Rattle.log_reader.specs.declared.fault.LogFault.TheVariants.{CutShort}
 use Rattle.log_reader.specs.declared.fault.ReadDeviceError.TheVariants as reads
 use Rattle.log_reader.specs.Reader.{Reader}
-use Rattle.log_reader.specs.Search.{IsFlush}
-use Rattle.replay.specs.Calls.{IsCalled, IsCalledTo, ReadsToStop, entry_calls}
+use Rattle.replay.specs.Calls.{IsCalled, ReadsToStop, entry_calls}
 use Rattle.replay.specs.Copies.{EndsSince, IsCopied, IsUnaligned}
 use Rattle.replay.specs.Copies.{RefusesNoMore as CopyRefusesNoMore, Replays, SettlesOnly, StopsBy}
 use Rattle.replay.specs.Copies.{StopsCalls, copy_calls, is_aligned_to, resized}
@@ -38,14 +35,14 @@ all : ℕ → Content
 all value sector = replicate 512 value
 
 -- a write of 1s to sector 5, and a flush
-write : Entry
+abbrev write : Entry
 write = record { sector = 5; nr_sectors = 1; flags = no_flags; body = replicate 512 1 }
 
-flush : Entry
+abbrev flush : Entry
 flush = record { sector = 0; nr_sectors = 0; flags = record no_flags { flush = true }; body = [] }
 
 -- a mark of no text
-mark : Entry
+abbrev mark : Entry
 mark = record { sector = 0; nr_sectors = 0; flags = record no_flags { mark = true }; body = [] }
 
 -- the end of a replay that is named is a mark of this text
@@ -55,36 +52,18 @@ asks_mark other bytes = ⊥
 
 -- the write is applied where it is replayed, and not where its sector stays
 applied : IsApplied 512 (write ∷ []) 0 1 (all 0) (replay 512 (write ∷ []) (all 0))
-unfolding write
 applied = record { some = λ more. omega arith; content = refl }
 
 -- no more entries are applied than there are
 applied_past : IsApplied 512 [] 0 1 (all 0) (all 0) → ⊥
 applied_past told = let there = told.some (omega arith) in omega arith
 
--- so many entries are so many
+-- two entries end at the second one, not at the first
+upto_two : (es : List Entry) → IsUpto (Count 2) es 0 2
+upto_two es = refl
+
 upto_count : (es : List Entry) → IsUpto (Count 2) es 0 1 → ⊥
 upto_count es same = omega arith
-
--- up to the first flush, which is included, and not up to the second one
-upto_flush : IsUpto Flush (write ∷ flush ∷ flush ∷ []) 0 2
-unfolding write flush
-upto_flush = (
-  1,
-  refl,
-  record {
-    element = flush;
-    behind = omega arith;
-    there = refl;
-    is = record { flush = refl; no_mark = refl };
-    least = none;
-  },
-)
-  where
-    none : (k : ℕ) (x : Entry) → 0 ≤ k → k < 1 → slice_get (write ∷ flush ∷ flush ∷ []) k ≡ Some x
-        → IsFlush x → ⊥
-    none zero x low high there is = grind arith
-    none (suc k) x low high there is = omega arith
 
 -- more entries are asked for than there are; just as many aren't
 asks_more : AsksTooMany (Count 3) 2 0
@@ -95,12 +74,10 @@ asks_flush told = told
 
 -- a flush is there
 lacks : LacksFlush Flush (write ∷ flush ∷ []) 0 → ⊥
-unfolding flush
 lacks none = none 1 flush (omega arith) refl (record { flush = refl; no_mark = refl })
 
 -- so is a mark
 lacks_mark : (upto : Upto) → asks_mark upto [] → LacksMark upto (write ∷ mark ∷ []) 0 → ⊥
-unfolding mark
 lacks_mark (Count n) asks none = absurd asks
 lacks_mark (Mark text) asks none =
     none 1 mark (omega arith) refl (record { mark = refl; body = sym asks })
@@ -108,86 +85,50 @@ lacks_mark Flush asks none = absurd asks
 
 -- the write reaches past a target of 5 sectors, and not past one of 6
 reaches : ReachesPast 512 (write ∷ []) 0 5
-unfolding write
 reaches = record { next = write; there = refl; past = omega arith }
 
 reaches_end : ReachesPast 512 (write ∷ []) 0 6 → ⊥
-unfolding write
 reaches_end told = grind arith
 
--- a write of one byte to sector 5, and a discard of two sectors from sector 6 on
-small : Entry
+-- a write of one byte to sector 5
+abbrev small : Entry
 small = record { sector = 5; nr_sectors = 1; flags = no_flags; body = 7 ∷ [] }
 
-cut : Entry
-cut = record { sector = 6; nr_sectors = 2; flags = record no_flags { discard = true }; body = [] }
-
--- their calls; an entry of no sectors has none, and in a log
--- of larger sectors they are of more sectors of the target
+-- its call; an entry of no sectors has none
 calls_write : entry_calls 512 small ≡ Writes 5 (7 ∷ []) false ∷ []
-unfolding small
 calls_write = refl
 
 calls_none : entry_calls 512 flush ≡ []
-unfolding flush
 calls_none = refl
 
 -- a target whose calls begin at the moment 0, and that notes
 -- each: the first one ends well, and each later one fails
-answer : List Call → Result ℕ DevError
+abbrev answer : List Call → Result ℕ DevError
 answer [] = Ok 5
 answer (call ∷ calls) = Err Io
 
-notes : List Call → Call → ℕ → Result ℕ DevError → List Call → Type 0
+abbrev notes : List Call → Call → ℕ → Result ℕ DevError → List Call → Type 0
 notes old call now result new = (now ≡ 0) × (new ≡ call ∷ old) × (result ≡ answer old)
 
-put_small : Call
+abbrev put_small : Call
 put_small = Writes 5 (7 ∷ []) false
 
 -- it is called once for the write, and for nothing else
 called : IsCalled notes 512 (mark ∷ small ∷ flush ∷ []) 0 3 [] (put_small ∷ [])
-unfolding mark small flush notes answer put_small
 called = (put_small ∷ [], (5, (refl, refl, refl)), refl)
 
 called_not : IsCalled notes 512 (small ∷ []) 0 1 [] [] → ⊥
-unfolding small notes answer
 called_not (mid, (end, (at, noted, told)), same) = cc
 
--- the second entry's call failed
-called_to : IsCalledTo notes 512 (small ∷ cut ∷ []) 0 1 Io [] (Discards 6 2 ∷ put_small ∷ [])
-unfolding small cut notes answer put_small
-called_to = record {
-  mid = put_small ∷ [];
-  called = (put_small ∷ [], (5, (refl, refl, refl)), refl);
-  next = cut;
-  there = refl;
-  refused = inl (refl, refl, refl);
-}
-
--- Examples for the clauses about the reads of a replay: one that satisfies them, and others that
--- they refuse.
+-- A clause about the reads of a replay, and an example that it refuses.
 
 -- a device that counts its calls, and never fails
-counts : ℕ → Call → ℕ → Result ℕ DevError → ℕ → Type 0
+abbrev counts : ℕ → Call → ℕ → Result ℕ DevError → ℕ → Type 0
 counts old call now (Ok end) new = new ≡ old + 1
 counts old call now (Err error) new = ⊥
 
--- one read, and then the target failed
-stopped : ReadsToStop counts ⊥ 0 1 (replays.Target devices.Io)
-unfolding counts
-stopped = (
-  1,
-  record {
-    calls = Reads 1 (replicate 512 0) (replicate 512 7) ∷ [];
-    are = (tt, tt);
-    few = omega arith;
-    turn = (1, (0, refl), refl);
-  },
-)
-
 -- there was memory for an entry that has a fault, and for one that has none there may be none
 refused_memory : ReadsToStop counts ⊥ 0 1 (replays.Log reads.Memory) → ⊥
-unfolding counts
 refused_memory (inl (most, done)) = by_calls 0 done.calls done.turn
   where
     by_calls : (old : ℕ) (calls : List Call) → DoesInTurn counts 0 calls old (Err devices.Memory) 1
@@ -204,7 +145,7 @@ zeroes : Content
 zeroes sector = replicate 512 0
 
 -- a device of 64 sectors of zeroes
-still_device : View
+abbrev still_device : View
 still_device =
     record {
       size = 64;
@@ -221,7 +162,7 @@ still_device =
     }
 
 -- a store on it with log sectors of 4,096 bytes, in which nothing is placed
-none : Store
+abbrev none : Store
 none = record {
   device = still_device;
   sector_bytes = 4096;
@@ -233,46 +174,32 @@ none = record {
 }
 
 -- the same with one mark
-one : Store
+abbrev one : Store
 one = record none { next = 2; placed = 1 }
 
--- a write of sectors 8 to 15 in a log with sectors of 512 bytes, whose data aren't looked at here,
--- and one of sectors 9 to 16
-eight : Entry
+-- a write of sectors 8 to 15 in a log with sectors of 512 bytes, whose data aren't looked at here
+abbrev eight : Entry
 eight = record { sector = 8; nr_sectors = 8; flags = record no_flags { fua = true }; body = 7 ∷ [] }
 
-odd : Entry
-odd = record eight { sector = 9 }
-
--- the first is sector 1 in log sectors of 4,096 bytes; the
--- other isn't whole ones, nor is half of the first
+-- it is sector 1 in log sectors of 4,096 bytes; half of it isn't whole ones
 eight_resized : resized 512 4096 eight
     ≡ record { sector = 1; nr_sectors = 1; flags = record no_flags { fua = true }; body = 7 ∷ [] }
-unfolding eight
 eight_resized = refl
 
 eight_aligned : is_aligned_to 512 4096 eight ≡ true
-unfolding eight
 eight_aligned = refl
 
-odd_unaligned : is_aligned_to 512 4096 odd ≡ false
-unfolding odd eight
-odd_unaligned = refl
-
 short_unaligned : is_aligned_to 512 4096 (record eight { nr_sectors = 4 }) ≡ false
-unfolding eight
 short_unaligned = refl
 
 -- more entries than there are
 some : IsCopied 512 [] 0 1 none one → ⊥
-unfolding none one still_device
 some copied = let few = copied.some (omega arith) in omega arith
 
 -- two that are swapped
 swapped : (new : Store) → new.device.lies ≡ 0 → entries_of none ≡ []
     → IsCopied 512 (end_mark ∷ eight ∷ []) 0 2 none new
     → entries_of new ≡ resized 512 4096 eight ∷ resized 512 4096 end_mark ∷ [] → ⊥
-unfolding none still_device eight
 swapped new honest empty copied have =
     let other : resized 512 4096 eight ∷ resized 512 4096 end_mark ∷ [] ≡ resized 512 4096 end_mark
     ∷ resized 512 4096 eight ∷ [] =
@@ -288,24 +215,21 @@ swapped new honest empty copied have =
 
 -- a settle behind the entries that are told of
 settled_beyond : SettlesOnly (end_mark ∷ end_mark ∷ []) 0 1 none (record one { settled = 2 }) → ⊥
-unfolding none one still_device
 settled_beyond (inl same) = omega arith
 settled_beyond (inr (n, e, less, there, due, settled)) = omega arith
 
 -- an entry that is aligned is told as none
 told_unaligned : IsUnaligned 512 4096 (eight ∷ []) 0 → ⊥
-unfolding eight
 told_unaligned fails = let first = fails.there in let unaligned = fails.unaligned in cc
 
 -- the new log's device, or that of the log, that is told as failed, though it counts no fault
 told_device : EndsSince 512 [] 0 none one ends.Device → ⊥
-unfolding none one still_device
 told_device (inl had) = cc
 told_device (inr (inl grew)) = omega arith
 told_device (inr (inr last)) = omega arith
 
 -- a reader of a log of no entries, which hasn't refused
-reader : Reader
+abbrev reader : Reader
 reader =
     record {
       device = still_device;
@@ -322,21 +246,20 @@ told_fault told = let fault = told.0 in cc
 
 -- a reader that refused first in the copy
 refuses_more : CopyRefusesNoMore reader (record reader { failed = true }) → ⊥
-unfolding reader
 refuses_more told = let refused : false ≡ true = told refl in cc
 
 -- a discard of sector 0, and a disk of sevens
-clears : Entry
+abbrev clears : Entry
 clears =
     record { sector = 0; nr_sectors = 1; flags = record no_flags { discard = true }; body = [] }
 
-sevens : Content
+abbrev sevens : Content
 sevens sector = replicate 512 7
 
 -- a new log of no entries doesn't replay to what the discard leaves
 replays_nothing : (new : Store) → new.device.lies ≡ 0 → entries_of new ≡ []
     → Replays 512 (clears ∷ []) none new → ⊥
-unfolding none clears sevens contents.over
+unfolding contents.over
 replays_nothing new honest empty told =
     let same : sevens ≡ replay 512 (clears ∷ []) sevens =
     sym (rw empty)
@@ -344,15 +267,10 @@ replays_nothing new honest empty told =
     let byte : 7 ≡ 0 = ap (λ (c : Content). slice_index_or (c 0) 0 0) same in
     omega (arith, byte)
 
--- a mark is written and then settled, and without that nothing is
+-- a mark is written and then settled
 settled_mark : copy_calls 512 1 0 (end_mark ∷ [])
     ≡ append_calls 512 1 end_mark ++ settle_calls 512 1
 settled_mark = refl
-
--- a flush is written alone
-plain_flush : copy_calls 512 1 0 (entry_of 512 bios.Flush ∷ [])
-    ≡ append_calls 512 1 (entry_of 512 bios.Flush)
-plain_flush = refl
 
 -- a device that isn't called didn't tell that there is no memory
 no_calls : ℕ → Call → ℕ → Result ℕ DevError → ℕ → Type 0

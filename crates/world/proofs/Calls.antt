@@ -2,7 +2,7 @@
 use Rattle.std.proofs.Common.{Some, None, List, [], ◌∷◌, ◌++◌, refl, ap, sym, ◌∙◌, inl, inr, arith}
 use Rattle.std.proofs.Common.{◌≡◌, ℕ, ◌+◌, ◌-◌, zero, suc, ◌<◌, ◌==◌, Bool, true, false, not, ◌&&◌}
 use Rattle.std.proofs.Common.{◌||◌, Option}
-use Rattle.std.specs.Prelude.{slice_get, ◌⊎◌}
+use Rattle.std.specs.Prelude.{slice_get}
 use Rattle.std.proofs.lemmas.Bool.{and_parts, eq-eqb, eqb-true}
 use Rattle.std.proofs.lemmas.Bool.Decides.{eqb_tells}
 use Rattle.std.proofs.lemmas.List.Folds.{list_all-append, list_any-append}
@@ -203,11 +203,6 @@ with_cases P sector ids old other here there = grind (arith, eqb_tells)
 pub with_here : (sector : ℕ) (ids : List ℕ) (old : ℕ → List ℕ)
     → with_sector sector ids old sector ≡ ids
 with_here sector ids old = grind (arith, eq-eqb)
-
-pub among_cases : (new id : ℕ) (ids : List ℕ) → is_among (new ∷ ids) id ≡ true
-    → (new ≡ id) ⊎ (is_among ids id ≡ true)
-among_cases new id ids
-    h = grind (arith, or_cases, eqb-true)
 
 pub among_more : (new id : ℕ) (ids : List ℕ) → is_among ids id ≡ true
     → is_among (new ∷ ids) id ≡ true

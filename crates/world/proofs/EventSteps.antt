@@ -31,7 +31,7 @@ use Rattle.world.proofs.Calls.{submit_from}
 use Rattle.world.proofs.RunIsPossible.{end_found}
 use Rattle.world.proofs.SectorSteps.{StepsFrame, by_cases, go_none, go_on, go_one, landed_from}
 use Rattle.world.proofs.SectorSteps.{lands_there, more_landed, more_settled, settles_there}
-use Rattle.world.proofs.SectorSteps.{still_within, touch_all}
+use Rattle.world.proofs.SectorSteps.{touch_all}
 
 -- `m` is the machine after the plan's steps for the first `k` events. A wanted request lands only
 -- at its end, and is then the newest that is settled (`only_late`, `late`). If another request ends
@@ -205,7 +205,7 @@ follow_submit events wanted sure k m bio well_formed choice is before =
               | inr older ↦ calls (is_end id) refl ∙ before.only_late sector id chosen older
             ];
         within =
-            λ sector id among. grind (arith, still_within);
+            λ sector id among. grind (arith, by_cases, and_parts, more_landed);
         early = λ sector id less covered other good. elim (last_or_below id k less) [
           | inl same ↦
               ap (λ ids. is_among ids id)
@@ -473,7 +473,7 @@ follow_end events wanted sure k m id ok well_formed choice is before =
               | inr older ↦ still other (before.only_late sector other chosen older)
             ];
         within =
-            λ sector other among. grind (arith, still_within);
+            λ sector other among. grind (arith, by_cases, and_parts, more_landed);
         early = λ sector other less covered stays good. elim (last_or_below other k less) [
           | inl same ↦ absurd (not_here sector other same covered)
           | inr below ↦

@@ -1,5 +1,4 @@
--- Runs and refused steps by computation: two writes of
--- sector 3, both ended, and a flush after them.
+-- Runs and refused steps by computation: two writes of sector 3, both ended, and a flush after them.
 use Rattle.std.proofs.Common.{◌≡◌, ℕ, ◌==◌, Bool, true, false, Some, List, [], ◌∷◌, length, get_or}
 use Rattle.std.proofs.Common.{take, replicate, refl, ap, sym, ◌∙◌, subst, inl, inr, arith}
 use Rattle.std.proofs.lemmas.Bool.Decides.{eqb_tells}
@@ -8,20 +7,17 @@ use Rattle.bio.specs.Content as contents
 use Rattle.bio.specs.Content.{Content}
 use Rattle.bio.specs.declared.event.CoreEvent.{CoreEvent}
 use Rattle.bio.specs.declared.event.CoreEvent.TheVariants as core_events
-use Rattle.bio.specs.declared.request.Bio.TheVariants.{Write, Flush, Discard, Read}
+use Rattle.bio.specs.declared.request.Bio.TheVariants.{Write, Flush, Discard}
 use Rattle.world.specs.declared.step.Step.{Step}
 use Rattle.world.specs.declared.step.Step.TheVariants.{Submit, Land, Destage, End, Power}
 use Rattle.refusals.specs.declared.refusal.Refusal.TheVariants as refusals
 use Rattle.world.specs.declared.step.StepError.TheVariants as step_errors
-use Rattle.world.specs.Cells.{AllSteps, IsFresh, IsPut, IsRun, Steps, WorldState, empty_cell}
-use Rattle.world.specs.Cells.{landing, put_at, settling}
-use Rattle.world.specs.Texts.{end_text, step_refusal, step_text}
-use Rattle.world.proofs.Lists.{put_none}
-use Rattle.world.specs.Machine.{IsReachable, Leaves, before_submit, calls_below, durable, has_step}
-use Rattle.world.specs.Machine.{is_run, newest, start, taken, values_of_id}
+use Rattle.world.specs.Cells.{AllSteps, IsFresh, IsRun, Steps, WorldState, empty_cell, put_at}
+use Rattle.world.specs.Texts.{end_text, step_refusal}
+use Rattle.world.specs.Machine.{Leaves, before_submit, calls_below, durable, has_step}
+use Rattle.world.specs.Machine.{newest, start, taken, values_of_id}
 
--- the writes have the bytes 1 and 2; the flush is submitted
--- at the fourth moment and has ended at the sixth
+-- the writes have the bytes 1 and 2
 abbrev list : List CoreEvent
 list =
     core_events.Submit (Write 3 (replicate 512 1) false false false) ∷ core_events.Submit
@@ -33,8 +29,7 @@ list =
 abbrev holding : ℕ → Content
 holding byte sector = replicate 512 (if sector == 3 then byte else 0)
 
--- the second write lands first, so that the first one's
--- value is the newest when the sector is destaged
+-- the second write lands first, so the first one's value is the newest when the sector is destaged
 abbrev run : List Step
 run =
     Submit 0 ∷ Submit 1 ∷ Land 1 3 ∷ Land 0 3 ∷ End 0 true ∷ End 1 true ∷ Submit 4 ∷ Destage 3 ∷ End
@@ -59,9 +54,6 @@ run-left sector = elim (eqb_tells sector 3) [
 run-leaves : Leaves list (holding 0) run (holding 1)
 run-leaves = record { runs = refl; fits = refl; off = refl; left = run-left }
 
-older-reachable : IsReachable list (holding 0) (holding 1)
-older-reachable = (run, run-leaves)
-
 -- a byte is that of its list
 byte_is : (a b : ℕ) → replicate 512 a ≡ replicate 512 b → a ≡ b
 byte_is a b same = grind (arith, get_or)
@@ -77,57 +69,16 @@ run-fewer told = let contra = ap length told.fits in absurd (omega arith)
 run-on : Leaves list (holding 0) (take 9 run) (holding 1) → ⊥
 run-on told = let contra : false ≡ true = told.off in cc
 
--- a request is submitted once, and only a request is
-submit-first : has_step list start (Submit 0) ≡ true
-submit-first = refl
-
-submit-twice : has_step list (taken start (Submit 0 ∷ [])) (Submit 0) ≡ false
-submit-twice = refl
-
-submit-end : has_step list start (Submit 2) ≡ false
-submit-end = refl
-
-submit-read : has_step (core_events.Submit (Read 3 1) ∷ []) start (Submit 0) ≡ false
-submit-read = refl
-
--- one that is pending lands once on each of its sectors
-land-pending : has_step list (taken start (Submit 0 ∷ [])) (Land 0 3) ≡ true
-land-pending = refl
-
-land-early : has_step list start (Land 0 3) ≡ false
-land-early = refl
-
+-- a request lands only while it is pending, and once on each of its sectors
 land-late : has_step list (taken start (Submit 0 ∷ End 0 false ∷ [])) (Land 0 3) ≡ false
 land-late = refl
-
-land-elsewhere : has_step list (taken start (Submit 0 ∷ [])) (Land 0 4) ≡ false
-land-elsewhere = refl
 
 land-twice : has_step list (taken start (Submit 0 ∷ Land 0 3 ∷ [])) (Land 0 3) ≡ false
 land-twice = refl
 
--- a sector is destaged where some request landed
-destage-landed : has_step list (taken start (Submit 0 ∷ Land 0 3 ∷ [])) (Destage 3) ≡ true
-destage-landed = refl
-
-destage-nothing : has_step list (taken start (Submit 0 ∷ Land 0 3 ∷ [])) (Destage 4) ≡ false
-destage-nothing = refl
-
--- a request ends once, with success only after it landed on all its sectors
-end-landed : has_step list (taken start (Submit 0 ∷ Land 0 3 ∷ [])) (End 0 true) ≡ true
-end-landed = refl
-
+-- a request ends with success only after it landed on all its sectors
 end-unlanded : has_step list (taken start (Submit 0 ∷ [])) (End 0 true) ≡ false
 end-unlanded = refl
-
-end-failed : has_step list (taken start (Submit 0 ∷ [])) (End 0 false) ≡ true
-end-failed = refl
-
-end-unsubmitted : has_step list start (End 0 false) ≡ false
-end-unsubmitted = refl
-
-end-twice : has_step list (taken start (Submit 0 ∷ End 0 false ∷ [])) (End 0 false) ≡ false
-end-twice = refl
 
 -- a write of two sectors lands on both
 abbrev wide : List CoreEvent
@@ -136,17 +87,11 @@ wide = core_events.Submit (Discard 3 2) ∷ []
 end-half : has_step wide (taken start (Submit 0 ∷ Land 0 3 ∷ [])) (End 0 true) ≡ false
 end-half = refl
 
-end-both : has_step wide (taken start (Submit 0 ∷ Land 0 3 ∷ Land 0 4 ∷ [])) (End 0 true) ≡ true
-end-both = refl
-
 -- with FUA the sector is destaged after it landed there
 abbrev fua : List CoreEvent
 fua =
     core_events.Submit (Write 3 (replicate 512 1) false true false) ∷ core_events.Submit
     (Write 3 (replicate 512 2) false false false) ∷ []
-
-end-destaged : has_step fua (taken start (Submit 0 ∷ Land 0 3 ∷ Destage 3 ∷ [])) (End 0 true) ≡ true
-end-destaged = refl
 
 end-cached : has_step fua (taken start (Submit 0 ∷ Land 0 3 ∷ [])) (End 0 true) ≡ false
 end-cached = refl
@@ -165,40 +110,13 @@ flush-cached = refl
 flush-failed : has_step list (taken start ended) (End 4 false) ≡ true
 flush-failed = refl
 
-flush-destaged : has_step list
-    (taken start (Submit 0 ∷ Submit 1 ∷ Land 0 3 ∷ Destage 3 ∷ End 0 true ∷ Submit 4 ∷ Land 1
-    3 ∷ End 1 true ∷ [])) (End 4 true) ≡ true
-flush-destaged = refl
-
--- a request that ended after the flush's submission, or that failed before it, needn't be
-flush-later : has_step list (taken start (Submit 0 ∷ Submit 4 ∷ Land 0 3 ∷ End 0 true ∷ []))
-    (End 4 true) ≡ true
-flush-later = refl
-
-flush-after-failed : has_step list (taken start (Submit 0 ∷ Land 0 3 ∷ End 0 false ∷ Submit 4 ∷ []))
-    (End 4 true) ≡ true
-flush-after-failed = refl
-
--- power goes at any time, and nothing comes after it
-power-first : has_step list start Power ≡ true
-power-first = refl
-
-power-twice : has_step list (taken start (Power ∷ [])) Power ≡ false
-power-twice = refl
-
+-- nothing comes after the power is gone
 submit-off : has_step list (taken start (Power ∷ [])) (Submit 0) ≡ false
 submit-off = refl
 
--- a run is refused by one step that isn't there
-run-refused : is_run list start (Submit 0 ∷ End 0 true ∷ Power ∷ []) ≡ false
-run-refused = refl
-
--- the calls of the first events, newest first; a mark and a stop are none
+-- the calls of the first events, newest first
 calls-four : calls_below list 4 ≡ End 1 true ∷ End 0 true ∷ Submit 1 ∷ Submit 0 ∷ []
 calls-four = refl
-
-calls-close : calls_below (core_events.Close ∷ []) 1 ≡ []
-calls-close = refl
 
 -- what came before a submission
 before-flush : before_submit 4 (calls_below list 6)
@@ -219,18 +137,8 @@ unfolding contents.over
 durable-nothing = refl
 
 -- how steps are shown
-text-power : step_text Power ≡ codes "power"
-text-power = refl
-
 text-failed : end_text false ≡ codes "failed"
 text-failed = refl
-
--- what steps do to one sector
-landing-first : landing 3 empty_cell ≡ record { landed = 3 ∷ []; settled = [] }
-landing-first = refl
-
-settling-it : settling (landing 3 empty_cell) ≡ record { landed = 3 ∷ []; settled = 3 ∷ [] }
-settling-it = refl
 
 number_is : (a b : ℕ) → a ≡ b → a ≡ b
 number_is a b same = same
@@ -242,24 +150,12 @@ fresh = record { cells = empty_cell ∷ []; calls = []; off = false; image = rep
 fresh-world : IsFresh (replicate 512 7) fresh
 fresh-world = record { cells = refl; calls = refl; off = refl; image = refl }
 
-fresh-off : IsFresh (replicate 512 7) (record fresh { off = true }) → ⊥
-fresh-off told = let contra : true ≡ false = told.off in cc
-
-fresh-landed : IsFresh (replicate 512 7) (record fresh { cells = landing 0 empty_cell ∷ [] }) → ⊥
-fresh-landed told = grind (arith, number_is)
-
-fresh-called : IsFresh (replicate 512 7) (record fresh { calls = Power ∷ [] }) → ⊥
-fresh-called told = grind (arith, number_is)
-
 fresh-image : IsFresh (replicate 512 7) (record fresh { image = replicate 512 8 }) → ⊥
 fresh-image told = let contra = byte_is 8 7 told.image in absurd (omega arith)
 
 -- power goes, and nothing else changes
 steps-power : Steps [] Power fresh (record fresh { off = true })
 steps-power = grind arith
-
-steps-nothing : Steps [] Power fresh fresh → ⊥
-steps-nothing told = let contra : false ≡ true = told.after.off in cc
 
 steps-image : Steps [] Power fresh (record fresh { off = true; image = replicate 512 8 }) → ⊥
 steps-image told = let contra = byte_is 8 7 (told.left 0 (omega arith)) in absurd (omega arith)
@@ -270,9 +166,6 @@ steps-refused told = let contra : false ≡ true = told.may in cc
 -- nor is a sector or a byte added, of a world of no sectors
 abbrev bare : WorldState
 bare = record { cells = []; calls = []; off = false; image = [] }
-
-steps-wider : Steps [] Power bare (record bare { off = true; cells = empty_cell ∷ [] }) → ⊥
-steps-wider told = let contra = number_is 1 0 told.sectors in omega arith
 
 steps-longer : Steps [] Power bare (record bare { off = true; image = 7 ∷ [] }) → ⊥
 steps-longer told = let contra = number_is 1 0 told.size in omega arith
@@ -300,22 +193,10 @@ run-of-other told = let contra = byte_is 8 7 (told.left 0 (omega arith)) in absu
 run-of-none : IsRun [] (replicate 512 7) (Power ∷ []) fresh → ⊥
 run-of-none told = grind arith
 
--- a call without a value leaves the image, and one with a value doesn't put it elsewhere
-put-nothing : IsPut contents.nothing 0 (replicate 512 7) (replicate 512 7)
-put-nothing = put_none contents.nothing 0 (replicate 512 7) refl
-
-put-something : IsPut contents.nothing 0 (replicate 512 7) (replicate 512 8) → ⊥
-put-something told = let contra = byte_is 8 7 (told.each 0 (omega arith)) in absurd (omega arith)
-
-put-here : put_at (λ sector. Some (sector ∷ [])) 3 (λ sector. []) 3 ≡ 3 ∷ []
-put-here = refl
-
+-- a value is put only in its own sector
 put-elsewhere : put_at (λ sector. Some (sector ∷ [])) 3 (λ sector. []) 4 ≡ []
 put-elsewhere = refl
 
--- how a step's errors are refused
+-- a step's error is shown as its refusal
 refusal-step : step_refusal step_errors.BadStep ≡ refusals.BadStep
 refusal-step = refl
-
-refusal-memory : step_refusal step_errors.Memory ≡ refusals.Memory
-refusal-memory = refl

@@ -1,5 +1,5 @@
 -- Laws of lists that the code keeps oldest first and the specs newest first, and laws of `IsPut`.
-use Rattle.std.proofs.Common.{length-append, length-drop, Bool, true, false, ◌&&◌, ◌||◌, Some, None}
+use Rattle.std.proofs.Common.{length-append, length-drop, Bool, true, false, ◌&&◌, ◌||◌, Some}
 use Rattle.std.proofs.Common.{List, [], ◌∷◌, ◌++◌, length, append_assoc, take, drop, refl, ap, sym}
 use Rattle.std.proofs.Common.{◌∙◌, arith, ◌≡◌, ℕ, ◌+◌, ◌-◌, ◌*◌, ◌/◌, ◌<◌, ◌≤◌, zero, suc}
 use Rattle.std.specs.Prelude.{reverse, slice_get, ◌⊎◌}
@@ -100,14 +100,10 @@ pub grown : {A : Type 0} (f : ℕ → List A) (n next : ℕ) (old mid new : List
     → new ≡ old ++ collect f next
 grown f n next old mid new is before here = cc (append_assoc old (collect f n) (f n))
 
-pub put_none : (patch : Patch) (at : ℕ) (image : List ℕ) → patch at ≡ None
-    → IsPut patch at image image
-put_none patch at image none = grind (arith, eqb_tells)
-
 pub put_outside : (first count : ℕ) (value : ℕ → List ℕ) (at : ℕ) (image : List ℕ)
     → (at < first) ⊎ (first + count ≤ at)
     → IsPut (over first count value) at image image
-put_outside first count value at image outside = grind (arith, put_none, over-before, over-after)
+put_outside first count value at image outside = grind (arith, eqb_tells, over-before, over-after)
 
 pub range_value : (first count : ℕ) (value : ℕ → List ℕ) (at place : ℕ) (part : List ℕ)
     → at ≡ first + place → place < count → part ≡ value place

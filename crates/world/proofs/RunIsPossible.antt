@@ -17,7 +17,7 @@ use Rattle.bio.specs.Possible.{Possible, PossibleAt, covers_at, ended_ok, has_ke
 use Rattle.bio.specs.Possible.{is_flushed, is_kept, is_replaced, is_success_at}
 use Rattle.bio.specs.RequestLaws.{covered_value}
 use Rattle.bio.specs.Requests.{covers, has_fua}
-use Rattle.world.proofs.Calls.{among_cases, among_more, among_new, any_call, any_weaker}
+use Rattle.world.proofs.Calls.{among_more, among_new, any_call, any_weaker}
 use Rattle.world.proofs.Calls.{calls_before, came_before, came_early, clash, each_covered, good_end}
 use Rattle.world.proofs.Calls.{is_good_end, not_true, with_cases}
 use Rattle.world.specs.declared.step.Step.{Step}
@@ -115,9 +115,9 @@ land_keeps events m id sector sound pending covered =
     record {
       ended = sound.ended;
       submitted =
-          λ at other h. grind (arith, with_cases, true, among_cases);
+          λ at other h. grind (arith, with_cases, true, or_cases, eqb-true);
       covers =
-          λ at other h. grind (arith, with_cases, true, among_cases);
+          λ at other h. grind (arith, with_cases, true, or_cases, eqb-true);
       settled =
           λ at other h. grind (arith, with_cases, true, among_more);
       fua = sound.fua;

@@ -16,7 +16,9 @@ use Rattle.world.specs.declared.step.Step.{Step}
 use Rattle.world.specs.Machine.{Machine, after, has_step, is_among, is_pending, is_run, taken}
 use Rattle.world.specs.Machine.{with_sector}
 use Rattle.world.specs.inside.{by_sector, touch}
-use Rattle.world.proofs.Calls.{among_cases, among_more, clash, with_here}
+use Rattle.world.proofs.Calls.{among_more, clash, with_here}
+use Rattle.bio.specs.PlaceLaws.{or_cases}
+use Rattle.std.proofs.lemmas.Bool.{eqb-true}
 
 -- `steps` is a run from `old` to `new`
 pub record StepsFrame (events : List CoreEvent) (old : Machine) (steps : List Step)
@@ -226,7 +228,7 @@ pub landed_from : (done lands settles : ℕ → Bool) (id : ℕ) (old new : Mach
     → (((done sector && lands sector) ≡ true) × (id ≡ other))
     ⊎ (is_among (old.landed sector) other ≡ true)
 landed_from done lands settles id old new sector other touched among =
-    grind (arith, by_cases, among_cases)
+    grind (arith, by_cases, or_cases, eqb-true)
 
 pub more_settled : (done lands settles : ℕ → Bool) (id : ℕ) (old new : Machine) (sector other : ℕ)
     → Touched done lands settles id old new
@@ -234,13 +236,6 @@ pub more_settled : (done lands settles : ℕ → Bool) (id : ℕ) (old new : Mac
     → is_among (new.settled sector) other ≡ true
 more_settled done lands settles id old new sector other touched landed among =
     grind (arith, by_cases, among_more)
-
-pub still_within : (done lands settles : ℕ → Bool) (id : ℕ) (old new : Machine) (sector other : ℕ)
-    → Touched done lands settles id old new
-    → (is_among (old.settled sector) other ≡ true → is_among (old.landed sector) other ≡ true)
-    → is_among (new.settled sector) other ≡ true → is_among (new.landed sector) other ≡ true
-still_within done lands settles id old new sector other touched within among =
-    grind (arith, by_cases, and_parts, more_landed)
 
 pub lands_there : (done lands settles : ℕ → Bool) (id : ℕ) (old new : Machine) (sector : ℕ)
     → Touched done lands settles id old new

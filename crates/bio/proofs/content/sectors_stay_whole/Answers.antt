@@ -1,4 +1,4 @@
-use Rattle.bio.specs.ContentLaws.{discards-whole, whole-patched, writes-whole}
+use Rattle.bio.specs.ContentLaws.{discards-whole, writes-whole}
 use Rattle.bio.proofs.content.sectors_stay_whole.Goals as goal
 
 pub returns-clause-writes : goal.returns-clause-writes
@@ -6,6 +6,3 @@ returns-clause-writes c = writes-whole
 
 pub returns-clause-discards : goal.returns-clause-discards
 returns-clause-discards c = discards-whole
-
-pub returns-clause-patched : goal.returns-clause-patched
-returns-clause-patched c = whole-patched

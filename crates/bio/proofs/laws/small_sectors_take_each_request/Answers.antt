@@ -1,8 +1,5 @@
-use Rattle.bio.specs.RequestLaws.{lawful_small, small_answer}
+use Rattle.bio.specs.RequestLaws.{lawful_small}
 use Rattle.bio.proofs.laws.small_sectors_take_each_request.Goals as goal
-
-pub returns-clause-answer : goal.returns-clause-answer
-returns-clause-answer c = small_answer
 
 pub returns-clause-lawful : goal.returns-clause-lawful
 returns-clause-lawful c = lawful_small

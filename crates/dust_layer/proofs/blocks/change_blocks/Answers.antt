@@ -1,8 +1,10 @@
 use Rattle.std.proofs.Common.{refl, sym, ◌∙◌, arith}
 use Rattle.dust_layer.specs.Walk.{listed}
-use Rattle.dust_layer.proofs.BlockWalk.{changes_failed, changes_fails, changes_first, changes_goes}
+use Rattle.dust_layer.proofs.BlockWalk.{changes_fails, changes_first}
 use Rattle.dust_layer.proofs.BlockWalk.{changes_land, changes_step}
 use Rattle.dust_layer.proofs.blocks.change_blocks.Goals as goal
+use Rattle.blockdev.specs.JoinLaws.{goes_cut}
+use Rattle.dust_layer.proofs.BlockWalk.{changes_failed}
 
 pub loop-done-init : goal.loop-done-init
 loop-done-init g c =
@@ -11,10 +13,10 @@ loop-done-init g c =
     c.args.lower.now c.args.now c.requires.range.some c.requires.count
 
 pub returns-then-strike-clause-goes : goal.returns-then-strike-clause-goes
-returns-then-strike-clause-goes g c = grind (arith, changes_goes)
+returns-then-strike-clause-goes g c = grind (arith, goes_cut)
 
 pub returns-clause-goes : goal.returns-clause-goes
-returns-clause-goes g c = grind (arith, changes_goes)
+returns-clause-goes g c = grind (arith, goes_cut)
 
 pub loop-done-preserved : goal.loop-done-preserved
 loop-done-preserved g c =

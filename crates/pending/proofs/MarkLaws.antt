@@ -1,13 +1,13 @@
 -- How calls keep the marks of the rows of chain 1.
 use Rattle.std.proofs.Common.{◌≡◌, ◌≢◌, ℕ, ◌<◌, ◌≤◌, List, [], ◌∷◌, ◌++◌, length, drop, take, set}
-use Rattle.std.proofs.Common.{None, Option, Some, ap, refl, sym, ◌∙◌, length-set, inl, inr, arith, Bool, true, false}
+use Rattle.std.proofs.Common.{None, Option, Some, ap, sym, length-set, inl, inr, arith, Bool, true, false}
 use Rattle.std.proofs.lemmas.Bool.{cases_eq, cases_lt}
 use Rattle.std.proofs.lemmas.List.{get_or_past, get_or-set_same, get_or-set_other}
 use Rattle.pending.specs.ChainsView.{chain_in, fronted, joined, lengthened, lifted, preceded}
 use Rattle.pending.specs.ChainsView.{shortened, turned}
 use Rattle.pending.specs.declared.chains.links.Links.{Links}
 use Rattle.pending.specs.declared.chains.walk.Walk.{Walk}
-use Rattle.pending.specs.inside.Tables.{AreMarks, IsMarked, IsTable, IsWalk, chains_of, is_marked}
+use Rattle.pending.specs.inside.Tables.{AreMarks, IsMarked, IsTable, IsWalk, is_marked}
 use Rattle.pending.specs.inside.Tables.{last_in, seen_chains, seen_lasts, times, walked_in}
 use Rattle.pending.proofs.CallLaws.{sound-same}
 use Rattle.pending.proofs.HoldsLaws.{default-grown, last-again}

@@ -1,5 +1,5 @@
-use Rattle.std.proofs.Common.{◌≡◌, ◌++◌, ◌∷◌, ℕ, List, None, Some, ap, arith, length, refl}
-use Rattle.std.proofs.Common.{[], false, set, sym, true, ◌∙◌, vec_capacity}
+use Rattle.std.proofs.Common.{◌≡◌, ◌++◌, ◌∷◌, ℕ, List, None, Some, ap, arith, length}
+use Rattle.std.proofs.Common.{[], false, set, true, ◌∙◌, vec_capacity}
 use Rattle.std.proofs.lemmas.List.{get_or_read_under}
 use Rattle.pending.specs.ChainsView.{chain_in}
 use Rattle.pending.specs.declared.row.PendingEntry.{PendingEntry}

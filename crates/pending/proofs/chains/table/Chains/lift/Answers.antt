@@ -1,4 +1,4 @@
-use Rattle.std.proofs.Common.{[], ◌++◌, map, drop, take, Some, ap, sym, ◌∙◌, arith, vec_capacity}
+use Rattle.std.proofs.Common.{◌++◌, map, drop, take, Some, ap, sym, ◌∙◌, arith, vec_capacity}
 use Rattle.pending.specs.ChainsView.{chain_in, lifted}
 use Rattle.pending.specs.inside.Tables.{seen_chains, seen_lasts, values_of, walked_in, IsTable}
 use Rattle.pending.proofs.HoldsLaws.{last-is-row, none-at}

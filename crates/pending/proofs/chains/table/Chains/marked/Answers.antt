@@ -1,4 +1,4 @@
-use Rattle.std.proofs.Common.{◌≡◌, None, ap, arith, length, refl, true, ◌∙◌}
+use Rattle.std.proofs.Common.{◌≡◌, None, arith, length, refl, true, ◌∙◌}
 use Rattle.std.proofs.lemmas.List.{get_or_read_under}
 use Rattle.pending.specs.inside.Tables.{is_marked, seen_chains}
 use Rattle.pending.proofs.MiddleLaws.{marked-within, row-parts, some-amid}

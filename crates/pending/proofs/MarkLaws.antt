@@ -43,29 +43,21 @@ pub marks-removed : {marks new : List Bool} {chains other : List (List ℕ)} (ro
     → new ≡ set marks row false → AreMarks marks chains
     → ((r : ℕ) → r ≢ row → times r (chain_in chains 1) ≤ times r (chain_in other 1))
     → AreMarks new other
-marks-removed {marks} {new} {chains} {other} row is known more = record {
-  within = λ r marked.
-      grind (arith, mark-left);
-}
+marks-removed {marks} {new} {chains} {other} row is known more = grind (arith, mark-left)
 
 -- The first row of chain 1 gets a mark.
 pub marks-set : {marks new : List Bool} {chains : List (List ℕ)} (row : ℕ) (rest : List ℕ)
     → new ≡ set marks row true → AreMarks marks chains → chain_in chains 1 ≡ row ∷ rest
     → AreMarks new chains
-marks-set {marks} {new} {chains} row rest is known first = record {
-  within = λ r marked.
-      grind (arith, cases_eq, times-same, get_or-set_other, true, false);
-}
+marks-set {marks} {new} {chains} row rest is known first =
+    grind (arith, cases_eq, times-same, get_or-set_other)
 
 pub marks-left : {marks new : List Bool} {chains other : List (List ℕ)} (from : ℕ)
     → AreMarks marks chains
     → ((row : ℕ) → is_marked new row ≡ true → (from ≢ 1) × (is_marked marks row ≡ true))
     → (from ≢ 1 → (r : ℕ) → times r (chain_in chains 1) ≤ times r (chain_in other 1))
     → AreMarks new other
-marks-left {marks} {new} {chains} {other} from known left more = record {
-  within = λ r marked.
-      grind arith;
-}
+marks-left {marks} {new} {chains} {other} from known left more = grind arith
 
 -- If chain 1 is replaced, its rows are among the new ones.
 pub put-counts : (chains : List (List ℕ)) (chain row : ℕ) (rows : List ℕ)

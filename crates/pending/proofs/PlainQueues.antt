@@ -150,12 +150,7 @@ plain-queued events id end place well_formed (AMark text is) goes =
           ∙ plain-goes_on events id (ap is_stop is) goes;
       ends = ap (own_end events id) is;
     }
-plain-queued events id end place well_formed (AClose is) goes =
-    record {
-      queues =
-          grind (arith, plain-goes_on);
-      ends = ap (own_end events id) is;
-    }
+plain-queued events id end place well_formed (AClose is) goes = grind (arith, plain-goes_on)
 plain-queued events id end place well_formed (AtEnd _ bio ok is ends own) goes =
     grind (
       arith,

@@ -219,26 +219,14 @@ pub values-full : {T : Type 0} (rows : List (Option T)) (chain : List ℕ)
     → length (values_of rows chain) ≡ length chain
 values-full {T} rows [] full = refl
 values-full {T} rows (row ∷ chain) full =
-    by_value (value_at rows row) (full row (omega (arith, times-same row row chain refl)))
-    (values-full rows chain (λ r some. full r (omega arith)))
-  where
-    by_value : (found : Option T) → filled found ≡ 1 → length (values_of rows chain) ≡ length chain
-        → length (with_value found (values_of rows chain)) ≡ suc (length chain)
-    by_value None not_there rest = absurd (omega arith)
-    by_value (Some value) there rest = ap suc rest
+    grind (arith, values-full rows chain (λ r some. full r (omega arith)), times-same)
 
 pub values-none : {T : Type 0} (rows : List (Option T)) (chain : List ℕ)
     → ((row : ℕ) → 0 < times row chain → filled (value_at rows row) ≡ 0)
     → values_of rows chain ≡ []
 values-none {T} rows [] none = refl
 values-none {T} rows (row ∷ chain) none =
-    by_value (value_at rows row) (none row (omega (arith, times-same row row chain refl)))
-    (values-none rows chain (λ r some. none r (omega arith)))
-  where
-    by_value : (found : Option T) → filled found ≡ 0 → values_of rows chain ≡ []
-        → with_value found (values_of rows chain) ≡ []
-    by_value None not_there rest = rest
-    by_value (Some value) some rest = absurd (omega arith)
+    grind (arith, values-none rows chain (λ r some. none r (omega arith)), times-same)
 
 pub values-first : {T : Type 0} (rows : List (Option T)) (row : ℕ) (rest : List ℕ) (value : T)
     → value_at rows row ≡ Some value

@@ -5,10 +5,7 @@ use Rattle.pending.proofs.MiddleLaws.{marked-within, row-parts, some-amid}
 use Rattle.pending.proofs.chains.table.Chains.marked.Goals as goal
 
 pub index-requires : goal.index-requires
-index-requires g c =
-    let marked : is_marked c.self.inside.marks.rows.items c.args.row ≡ true = grind arith in
-    let less = marked-within c.self.invariant c.args.row marked in
-    omega arith
+index-requires g c = grind (arith, marked-within)
 
 pub returns : goal.returns
 returns g c =

@@ -23,13 +23,11 @@ use Rattle.pending.proofs.TableLaws.{chain-full, chain-length, closed-filled, cl
 use Rattle.pending.proofs.TableLaws.{free-none, nothing-cut, open-taken, table-rest}
 
 pub on-some : {A : Type 0} (found : Option A) (P : Type 0) → P → OnSome found P
-on-some None P p = tt
-on-some (Some x) P p = p
+on-some found P p = grind arith
 
 seen-free : (lasts : List (Option ℕ)) (walk : Option Walk) → IsWalk lasts walk
     → last_in (seen_lasts lasts walk) 0 ≡ last_in lasts 0
-seen-free lasts None walks = refl
-seen-free lasts (Some walk) walks = grind (arith, get_or-set_other)
+seen-free lasts walk walks = grind (arith, get_or-set_other)
 
 not-some : (found : Option ℕ) → is_some found ≡ false → found ≡ None
 not-some None none = refl

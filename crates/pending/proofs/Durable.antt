@@ -1,12 +1,12 @@
 -- A request that is durable at a moment is queued by then. A request that ended before another was
 -- submitted is queued first, if the two overlap or the other has a flush.
-use Rattle.std.proofs.Common.{◌≡◌, ℕ, ◌<◌, ◌≤◌, Bool, true, false, ◌&&◌, ◌||◌, Option, Some, None}
+use Rattle.std.proofs.Common.{◌≡◌, ℕ, ◌<◌, ◌≤◌, Bool, true, false, ◌&&◌, ◌||◌, Option, Some}
 use Rattle.std.proofs.Common.{List, [], ◌∷◌, ◌++◌, length, take, drop, refl, ap, sym, ◌∙◌, subst}
 use Rattle.std.proofs.Common.{inl, inr, arith, append-nil, append_assoc, length-append}
 use Rattle.std.proofs.Math.Nat.{eq-or-lt_of_le}
 use Rattle.std.proofs.lemmas.Bool.{and_parts, cases_lt, eq-eqb, lt-ltb, ltb-true}
 use Rattle.std.proofs.lemmas.List.{take-append-drop}
-use Rattle.std.specs.Prelude.{◌⊎◌, slice_get, nat_lt, if◌then◌else◌}
+use Rattle.std.specs.Prelude.{◌⊎◌, slice_get, nat_lt}
 use Rattle.bio.specs.declared.request.Bio.{Bio}
 use Rattle.bio.specs.declared.event.CoreEvent.{CoreEvent}
 use Rattle.bio.specs.declared.event.CoreEvent.TheVariants.{Submit}
@@ -71,13 +71,7 @@ going-on events moment p safe less = grind (arith, option_cases, lt-ltb)
 in-time : (stop : Option ℕ) (first event : ℕ) → unless_stopped stop (Some event) ≡ Some event
     → first ≤ event
     → unless_stopped stop (Some first) ≡ Some first
-in-time None first event e less = refl
-in-time (Some stop) first event e less = by_test (nat_lt event stop) refl e
-  where
-    by_test : (b : Bool) → nat_lt event stop ≡ b → (if b then Some event else None) ≡ Some event
-        → (if nat_lt first stop then Some first else None) ≡ Some first
-    by_test true f e = grind (arith, lt-ltb, ltb-true)
-    by_test false f e = cc
+in-time stop first event e less = grind (arith, lt-ltb, ltb-true)
 
 pub record EndsBefore (events : List CoreEvent) (moment id end : ℕ) : Type 0 where
   pub bio : Bio

@@ -74,12 +74,7 @@ puts-event events id bio sector value is puts = grind (arith, values-puts)
 
 submits-some : (test : Bio → Bool) (there : Option CoreEvent) → submits test there ≡ true
     → (bio : Bio) × (there ≡ Some (Submit bio)) × (test bio ≡ true)
-submits-some test (Some (Submit bio)) h = (bio, refl, h)
-submits-some test (Some (Complete id ok)) h = cc
-submits-some test (Some (Mark text)) h = cc
-submits-some test (Some (Stop cause)) h = cc
-submits-some test (Some Close) h = cc
-submits-some test None h = cc
+submits-some test there h = grind arith
 
 ok-ends : (events : List CoreEvent) (id : ℕ) → ended_ok events id ≡ true
     → (end : ℕ) × (end_of events id ≡ Some end) × Ends events id end true

@@ -90,18 +90,11 @@ plain-need events end bio place well_formed (AtFua id ok last is submitted has c
 need-within : (events : List CoreEvent) (end : ℕ) (bio : Bio) (place : ℕ)
     → Need events end bio place
     → (place < length events) × (is_stop (slice_get events place) ≡ false)
-need-within events end bio place (AtClose is) =
-    (slice_get-within events place Close is, ap is_stop is)
-need-within events end bio place (AtFlush id ok last is submitted has rises) =
-    grind (arith, slice_get-within)
-need-within events end bio place (AtFua id ok last is submitted has chain) =
-    grind (arith, slice_get-within)
+need-within events end bio place h1 = grind (arith, slice_get-within)
 
 by_stop : (stop queued : Option ℕ) (p : ℕ) → unless_stopped stop queued ≡ Some p
     → (stop ≡ None) ⊎ ((s : ℕ) × (stop ≡ Some s) × (p < s))
-by_stop None queued p e = inl refl
-by_stop (Some s) None p e = cc
-by_stop (Some s) (Some q) p e = grind (arith, cases_lt, lt-ltb, le-ltb)
+by_stop stop queued p e = grind (arith, cases_lt, lt-ltb, le-ltb)
 
 pub stop-some : (there : Option CoreEvent) → is_stop there ≡ true
     → (cause : End) × (there ≡ Some (Stop cause))

@@ -145,12 +145,7 @@ moment-from events moment well_formed last =
 
 covers-some : (there : Option CoreEvent) (sector : ℕ) → covers_at sector there ≡ true
     → (bio : Bio) × (there ≡ Some (Submit bio)) × (covers bio sector ≡ true)
-covers-some (Some (Submit bio)) sector h = (bio, refl, h)
-covers-some (Some (Complete id ok)) sector h = cc
-covers-some (Some (Mark text)) sector h = cc
-covers-some (Some (Stop cause)) sector h = cc
-covers-some (Some Close) sector h = cc
-covers-some None sector h = cc
+covers-some there sector h = grind arith
 
 success-end : (events : List CoreEvent) (found : Option ℕ) → is_success_at events found ≡ true
     → (end : ℕ) × (found ≡ Some end)
@@ -316,12 +311,7 @@ covers-value (bios.Read first count) sector h e = cc
 
 value-some : (there : Option CoreEvent) (sector : ℕ) (now : List ℕ)
     → values_at there sector ≡ Some now → (bio : Bio) × (there ≡ Some (Submit bio))
-value-some (Some (Submit bio)) sector now e = (bio, refl)
-value-some (Some (Complete id ok)) sector now e = cc
-value-some (Some (Mark text)) sector now e = cc
-value-some (Some (Stop cause)) sector now e = cc
-value-some (Some Close) sector now e = cc
-value-some None sector now e = cc
+value-some there sector now e = grind arith
 
 pub record IsSized (size : ℕ) (events : List CoreEvent) : Type 0 where
   pub right : is_sector_size size ≡ true

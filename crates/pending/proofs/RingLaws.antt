@@ -99,8 +99,7 @@ ring-kept next new last rows one two ring same first second =
 pub chain-kept : (next new : List ℕ) (last : Option ℕ) (rows : List ℕ) (one two : ℕ)
     → IsChain next last rows → SameBut next new one two
     → times one rows ≡ 0 → times two rows ≡ 0 → IsChain new last rows
-chain-kept next new None rows one two chain same first second = chain
-chain-kept next new (Some last) rows one two chain same first second = grind (arith, ring-kept)
+chain-kept next new last rows one two chain same first second = grind (arith, ring-kept)
 
 pub sources-none : (next : List ℕ) (from : ℕ) (rows : List ℕ) (to row : ℕ) → Leads next from rows to
     → times row (from ∷ rows) ≡ 0
@@ -138,12 +137,10 @@ ring-turned next last front row back ring =
 
 pub some-of : (found : Option ℕ) (row : ℕ) → is_some found ≡ true
     → IfSome found (λ other. other ≡ row) → found ≡ Some row
-some-of (Some other) row there same = grind arith
-some-of None row there same = cc
+some-of found row there same = grind arith
 
 pub none-of : (found : Option ℕ) → is_some found ≡ false → found ≡ None
-none-of (Some other) there = cc
-none-of None there = refl
+none-of found there = grind arith
 
 pub there : {X : Type 0} (chains : List (List X)) (chain : ℕ) → 0 < length (chain_in chains chain)
     → chain < length chains
@@ -189,8 +186,7 @@ chain-map f (xs ∷ chains) (suc chain) none = chain-map f chains chain none
 
 pub with-append : {T : Type 0} (found : Option T) (xs ys : List T)
     → with_value found (xs ++ ys) ≡ with_value found xs ++ ys
-with-append None xs ys = refl
-with-append (Some value) xs ys = refl
+with-append found xs ys = grind arith
 
 pub values-append : {T : Type 0} (rows : List (Option T)) (xs ys : List ℕ)
     → values_of rows (xs ++ ys) ≡ values_of rows xs ++ values_of rows ys
@@ -235,12 +231,10 @@ values-first rows row rest value is = grind arith
 
 pub value-there : {T : Type 0} (found : Option T) → filled found ≡ 1
     → (value : T) × (found ≡ Some value)
-value-there None not_there = absurd (omega arith)
-value-there (Some value) is = (value, refl)
+value-there found not_there = grind arith
 
 pub value-none : {T : Type 0} (found : Option T) → filled found ≡ 0 → found ≡ None
-value-none None not_there = refl
-value-none (Some value) is = absurd (omega arith)
+value-none found not_there = grind arith
 
 pub map-joined : {T : Type 0} (rows : List (Option T)) (chains : List (List ℕ)) (from onto : ℕ)
     → map (values_of rows) (joined chains from onto)

@@ -17,7 +17,7 @@ use Rattle.bio.specs.Events.{end_of, first_place, is_flush_submit, is_stop, is_w
 use Rattle.log_format.specs.declared.entry.Entry.{Entry}
 use Rattle.pending.specs.QueueEvent.{first_need, is_at, is_needed_by, queue_event, queue_of}
 use Rattle.pending.specs.QueueEvent.{log_writes_order, unless_stopped}
-use Rattle.pending.specs.CompletionList.{IsListedAt, completion_list, dm_log_writes, entry_at}
+use Rattle.pending.specs.CompletionList.{IsListedAt, completion_list, dm_log_writes}
 use Rattle.pending.specs.CompletionList.{own_end}
 use Rattle.pending.proofs.Order.{ends-there, flush_submit-some, listed_queued, listed_sorted}
 use Rattle.pending.proofs.Order.{open_queue_event, own_queue_event, plain-queue_event}
@@ -142,15 +142,7 @@ flush-needs : (events : List CoreEvent) (flush flush_end end : ℕ) (bio last : 
     → log_writes_order events end (Some (Submit bio)) flush_end (slice_get events flush_end) ≡ true
 flush-needs events flush flush_end end bio last is has ends less =
     let there = ends-there events flush flush_end ends in
-    needing-recorded events end bio flush_end (slice_get events flush_end) (record {
-      id = flush;
-      ok = there.2.0;
-      last = last;
-      is = there.2.1;
-      earlier = there.1;
-      submitted = is;
-      needed = needed-flush events end bio flush_end flush last has less;
-    })
+    grind (arith, needing-recorded, needed-flush)
 
 pub durable-queued : (events : List CoreEvent) (moment sector id : ℕ) → IsMoment events moment
     → IsDurableBefore events moment sector id
@@ -332,9 +324,4 @@ found-stands size events earlier later j well_formed found listed =
     let queued = found-queued events earlier later queues.1.0 found queues.1.2.queues in
     let stands =
     queued_listed (dm_log_writes size) events earlier queued.first_event queued.queued in
-    let entry = entry_at size (slice_get events earlier) in (
-      stands.0,
-      (entry, stands.1),
-      found-first size events earlier later stands.0 j entry listed.0 well_formed found stands.1
-          listed.1,
-    )
+    grind (arith, found-first, well_formed)

@@ -105,14 +105,7 @@ flushed-after events id end ends flushed =
     let before_is = before.1 in
     let less = before.2 in
     let same : before.0 ≡ end = cc in
-    record {
-      id = found.0;
-      bio = flush.0;
-      end = ok.0;
-      flush = (flush.1, flush.2);
-      after = omega arith;
-      ended = ok.2;
-    }
+    grind arith
 
 after-flushed : (events : List CoreEvent) (id end : ℕ) → is_well_formed events ≡ true
     → end_of events id ≡ Some end

@@ -1,6 +1,6 @@
 -- Laws of rows in lists, of links that lead over rows (ways, rings, chains), and of rows' values.
 use Rattle.std.proofs.Common.{◌<◌, ◌≤◌, List, [], ◌∷◌, length, map, get_or, ◌++◌, set, Option, Some}
-use Rattle.std.proofs.Common.{None, refl, ap, sym, ◌∙◌, arith, length-append, ◌≡◌, ◌≢◌, ℕ, zero}
+use Rattle.std.proofs.Common.{None, refl, ap, sym, arith, length-append, ◌≡◌, ◌≢◌, ℕ, zero}
 use Rattle.std.proofs.Common.{suc, ◌+◌}
 use Rattle.std.specs.Prelude.{is_some, IfSome, true, false}
 use Rattle.std.proofs.lemmas.Bool.{cases_lt, eq-eqb, ne_eqb}
@@ -199,9 +199,16 @@ pub values-kept : {T : Type 0} (rows : List (Option T)) (row : ℕ) (value : Opt
 values-kept rows row value [] none = refl
 values-kept rows row value (other ∷ chain) none =
     let apart : other ≢ row = not-first row other chain none in
-    ap (λ found. with_value found (values_of (set rows row value) chain))
-    (get_or-set_other rows row other value None apart)
-    ∙ ap (with_value (value_at rows other)) (values-kept rows row value chain (omega (arith, times-other row other chain apart)))
+    grind (
+      arith,
+      values-kept rows row value chain (omega (
+        arith,
+        times-other row other chain
+            apart,
+      )),
+      get_or-set_other,
+      times-other,
+    )
 
 pub values-grown : {T : Type 0} (rows more : List (Option T)) (chain : List ℕ)
     → ((row : ℕ) → 0 < times row chain → row < length rows)

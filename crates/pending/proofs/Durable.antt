@@ -1,6 +1,6 @@
 -- A request that is durable at a moment is queued by then. A request that ended before another was
 -- submitted is queued first, if the two overlap or the other has a flush.
-use Rattle.std.proofs.Common.{◌≡◌, ℕ, ◌<◌, ◌≤◌, Bool, true, false, ◌&&◌, ◌||◌, Option, Some}
+use Rattle.std.proofs.Common.{◌≡◌, ℕ, ◌<◌, ◌≤◌, Bool, true, false, ◌&&◌, ◌||◌, Some}
 use Rattle.std.proofs.Common.{List, [], ◌∷◌, ◌++◌, length, take, drop, refl, ap, sym, ◌∙◌, subst}
 use Rattle.std.proofs.Common.{inl, inr, arith, append-nil, append_assoc, length-append}
 use Rattle.std.proofs.Math.Nat.{eq-or-lt_of_le}
@@ -68,11 +68,6 @@ going-on : (events : List CoreEvent) (moment p : ℕ) → IsMoment events moment
     → unless_stopped (first_place is_stop events) (Some p) ≡ Some p
 going-on events moment p safe less = grind (arith, option_cases, lt-ltb)
 
-in-time : (stop : Option ℕ) (first event : ℕ) → unless_stopped stop (Some event) ≡ Some event
-    → first ≤ event
-    → unless_stopped stop (Some first) ≡ Some first
-in-time stop first event e less = grind (arith, lt-ltb, ltb-true)
-
 pub record EndsBefore (events : List CoreEvent) (moment id end : ℕ) : Type 0 where
   pub bio : Bio
   pub submitted : slice_get events id ≡ Some (Submit bio)
@@ -129,11 +124,11 @@ queued-by events id end event bio is ends after within needed logging =
       | inl own ↦ record {
         first_event = end;
         queued =
-            grind (arith, own_queue_event, in-time);
+            grind (arith, own_queue_event);
         order = omega arith;
       }
       | inr plain ↦
-          grind (arith, need-found, plain-queue_event, in-time)
+          grind (arith, need-found, plain-queue_event)
     ]
 
 flush-needs : (events : List CoreEvent) (flush flush_end end : ℕ) (bio last : Bio)

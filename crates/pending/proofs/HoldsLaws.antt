@@ -8,7 +8,7 @@ use Rattle.std.proofs.lemmas.Bool.{cases_eq, cases_lt}
 use Rattle.std.proofs.lemmas.List.{get_or-set_same, get_or-set_other, get_or_past, set-set}
 use Rattle.std.proofs.lemmas.List.{set-get_or, append-nil, append_assoc}
 use Rattle.pending.specs.ChainsView.{chain_in, fronted, joined, lengthened, preceded, shortened}
-use Rattle.pending.specs.inside.Tables.{Holds, after, last_in, times, times_in, Leads, IsRing}
+use Rattle.pending.specs.inside.Tables.{Holds, after, last_in, times, Leads, IsRing}
 use Rattle.pending.specs.inside.Tables.{IsChain}
 use Rattle.pending.proofs.RingLaws.{ring-parts, ring-turned, sources-none, sources-end, last-counts}
 use Rattle.pending.proofs.RingLaws.{leads-kept, leads-end, same-but-one, same-but-two, chain-kept}
@@ -26,11 +26,6 @@ default-grown (x ∷ xs) (suc i) d = default-grown xs i d
 pub after-grown : (next : List ℕ) (row : ℕ) → after (next ++ 0 ∷ []) row ≡ after next row
 after-grown next row = default-grown next row 0
 
-pub chain-at : (next : List ℕ) (last other : Option ℕ) (rows same : List ℕ) → last ≡ other
-    → rows ≡ same → IsChain next last rows
-    → IsChain next other same
-chain-at next last other rows same e d chain = grind arith
-
 pub last-there : (lasts : List (Option ℕ)) (chain last : ℕ) → last_in lasts chain ≡ Some last
     → chain < length lasts
 last-there lasts chain last is = grind (arith, cases_lt, get_or_past)
@@ -38,29 +33,24 @@ last-there lasts chain last is = grind (arith, cases_lt, get_or_past)
 pub ring-at : {next : List ℕ} {lasts : List (Option ℕ)} {loose : List ℕ} {chains : List (List ℕ)}
     → Holds next lasts loose chains
     → (chain last : ℕ) → last_in lasts chain ≡ Some last → IsRing next last (chain_in chains chain)
-ring-at {next} {lasts} {loose} {chains} h chain last is = grind (arith, chain-at)
+ring-at {next} {lasts} {loose} {chains} h chain last is = grind arith
 
 pub none-at : {next : List ℕ} {lasts : List (Option ℕ)} {loose : List ℕ} {chains : List (List ℕ)}
     → Holds next lasts loose chains
     → (chain : ℕ) → last_in lasts chain ≡ None → chain_in chains chain ≡ []
-none-at {next} {lasts} {loose} {chains} h chain is = grind (arith, chain-at)
-
-pub holds-few : {next : List ℕ} {lasts : List (Option ℕ)} {loose : List ℕ} {chains : List (List ℕ)}
-    → Holds next lasts loose chains
-    → (row : ℕ) → times row loose + times_in row chains ≤ 1
-holds-few {next} h row = grind (arith, cases_lt)
+none-at {next} {lasts} {loose} {chains} h chain is = grind arith
 
 pub few-in : {next : List ℕ} {lasts : List (Option ℕ)} {loose : List ℕ} {chains : List (List ℕ)}
     → Holds next lasts loose chains
     → (chain row : ℕ) → times row loose + times row (chain_in chains chain) ≤ 1
-few-in {next} {lasts} {loose} {chains} h chain row = grind (arith, holds-few, one-of)
+few-in {next} {lasts} {loose} {chains} h chain row = grind (arith, one-of)
 
 pub few-in-two : {next : List ℕ} {lasts : List (Option ℕ)} {loose : List ℕ} {chains : List (List ℕ)}
     → Holds next lasts loose chains
     → (chain other row : ℕ) → chain ≢ other
     → times row loose + times row (chain_in chains chain) + times row (chain_in chains other) ≤ 1
 few-in-two {next} {lasts} {loose} {chains} h chain other row apart =
-    grind (arith, holds-few, two-of)
+    grind (arith, two-of)
 
 pub is-row : {next : List ℕ} {lasts : List (Option ℕ)} {loose : List ℕ} {chains : List (List ℕ)}
     → Holds next lasts loose chains
@@ -84,7 +74,6 @@ holds-put {next} {lasts} {loose}
       arith,
       length-set,
       cases_eq,
-      chain-at,
       get_or-set_same,
       in-put,
       get_or-set_other,
@@ -523,4 +512,4 @@ pub holds-more : {next : List ℕ} {lasts : List (Option ℕ)} {loose : List ℕ
     → Holds next lasts loose chains
     → Holds next (lasts ++ None ∷ []) loose (chains ++ [] ∷ [])
 holds-more {next} {lasts} {loose} {chains} h =
-    grind (arith, length-append, chain-at, default-grown, sum_by_push)
+    grind (arith, length-append, default-grown, sum_by_push)

@@ -12,7 +12,7 @@ use Rattle.pending.specs.inside.Tables.{last_in, seen_chains, seen_lasts, times,
 use Rattle.pending.proofs.CallLaws.{sound-same}
 use Rattle.pending.proofs.HoldsLaws.{default-grown, last-again}
 use Rattle.pending.proofs.RingLaws.{in-other, in-put, times-append, times-other, times-same}
-use Rattle.pending.proofs.TableLaws.{seen-of, seen-rest, sound-of}
+use Rattle.pending.proofs.TableLaws.{seen-of, sound-of}
 use Rattle.pending.proofs.WalkLaws.{rest-made, walk-made}
 
 pub marks-seen : {T : Type 0} (links : Links) (rows : List (Option T)) (walk : Option Walk)
@@ -160,7 +160,7 @@ module _ {T : Type 0} where
   walk-marked links rows walk chain at marks s rest shown less is = record {
     sound = walk-made links rows walk chain at s.sound rest shown less is;
     known =
-        grind (arith, set, last-again, seen-rest);
+        grind (arith, set, last-again);
   }
 
   pub rest-marked : (links new : Links) (rows : List (Option T)) (walk : Option Walk) (w : Walk)

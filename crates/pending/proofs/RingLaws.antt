@@ -2,14 +2,14 @@
 use Rattle.std.proofs.Common.{◌<◌, ◌≤◌, List, [], ◌∷◌, length, map, get_or, ◌++◌, set, Option, Some}
 use Rattle.std.proofs.Common.{None, refl, ap, sym, arith, length-append, ◌≡◌, ◌≢◌, ℕ, zero}
 use Rattle.std.proofs.Common.{suc, ◌+◌}
-use Rattle.std.specs.Prelude.{is_some, IfSome, true, false}
+use Rattle.std.specs.Prelude.{is_some, IfSome, true}
 use Rattle.std.proofs.lemmas.Bool.{cases_lt, eq-eqb, ne_eqb}
 use Rattle.std.proofs.lemmas.List.{get_or-set_same, get_or-set_other, get_or_append_left, map-set}
 use Rattle.std.proofs.lemmas.List.{get_or_past}
 use Rattle.std.proofs.lemmas.List.Sums.{sum_by-cons, sum_by-set}
 use Rattle.std.specs.List.{sum_by}
 use Rattle.pending.specs.ChainsView.{chain_in, fronted, joined}
-use Rattle.pending.specs.inside.Tables.{filled, after, times, value_at, values_of, with_value}
+use Rattle.pending.specs.inside.Tables.{filled, after, times, value_at, values_of}
 use Rattle.pending.specs.inside.Tables.{Leads, IsRing, IsChain}
 
 pub times-same : (row other : ℕ) (rows : List ℕ) → other ≡ row
@@ -139,9 +139,6 @@ pub some-of : (found : Option ℕ) (row : ℕ) → is_some found ≡ true
     → IfSome found (λ other. other ≡ row) → found ≡ Some row
 some-of found row there same = grind arith
 
-pub none-of : (found : Option ℕ) → is_some found ≡ false → found ≡ None
-none-of found there = grind arith
-
 pub there : {X : Type 0} (chains : List (List X)) (chain : ℕ) → 0 < length (chain_in chains chain)
     → chain < length chains
 there chains chain some = grind (arith, cases_lt, get_or_past)
@@ -184,14 +181,10 @@ chain-map f [] chain none = sym none
 chain-map f (xs ∷ chains) zero none = refl
 chain-map f (xs ∷ chains) (suc chain) none = chain-map f chains chain none
 
-pub with-append : {T : Type 0} (found : Option T) (xs ys : List T)
-    → with_value found (xs ++ ys) ≡ with_value found xs ++ ys
-with-append found xs ys = grind arith
-
 pub values-append : {T : Type 0} (rows : List (Option T)) (xs ys : List ℕ)
     → values_of rows (xs ++ ys) ≡ values_of rows xs ++ values_of rows ys
 values-append rows [] ys = refl
-values-append rows (x ∷ xs) ys = grind (arith, values-append rows xs ys, with-append)
+values-append rows (x ∷ xs) ys = grind (arith, values-append rows xs ys)
 
 pub values-kept : {T : Type 0} (rows : List (Option T)) (row : ℕ) (value : Option T)
     (chain : List ℕ) → times row chain ≡ 0

@@ -63,11 +63,6 @@ chains-found {next} {lasts} {loose} {chains} h =
     (λ row. let few = few-in h i row in omega arith) long
     ∙ sym (get_or-map (chain_of next) lasts i None [] small))
 
--- If no chain is walked, each chain's last row is the stored one.
-pub seen-rest : (lasts : List (Option ℕ)) (walk : Option Walk) → walked_in walk ≡ None
-    → seen_lasts lasts walk ≡ lasts
-seen-rest lasts walk rest = grind arith
-
 pub walk-rest : (lasts : List (Option ℕ)) (walk : Option Walk) → walked_in walk ≡ None
     → IsWalk lasts walk
 walk-rest lasts walk rest = grind arith
@@ -94,7 +89,7 @@ module _ {T : Type 0} where
   pub table-rest : {links : Links} {rows : List (Option T)} {walk : Option Walk}
       → IsSound links rows walk → walked_in walk ≡ None
       → IsTable links.next.items links.lasts.items rows (seen_chains links walk)
-  table-rest {links} {rows} {walk} s rest = grind (arith, table-at, seen-rest)
+  table-rest {links} {rows} {walk} s rest = grind (arith, table-at)
 
   pub seen-of : (links : Links) (rows : List (Option T)) (walk : Option Walk)
       (chains : List (List ℕ))
@@ -116,7 +111,7 @@ module _ {T : Type 0} where
       (chains : List (List ℕ)) → walked_in walk ≡ None
       → IsTable links.next.items links.lasts.items rows chains
       → IsTable links.next.items (seen_lasts links.lasts.items walk) rows chains
-  table-seen links rows walk chains rest t = grind (arith, table-at, seen-rest)
+  table-seen links rows walk chains rest t = grind (arith, table-at)
 
   -- If no value is written and the free rows stay the same, a change of links keeps the table.
   pub table-kept : {next : List ℕ} {lasts : List (Option ℕ)} {rows : List (Option T)}

@@ -1,5 +1,5 @@
 use Rattle.std.proofs.Common.{ℕ, List, ◌∷◌, Some, refl, ap, sym, ◌∙◌, subst, arith, length-set}
-use Rattle.pending.proofs.RingLaws.{none-of, some-of}
+use Rattle.pending.proofs.RingLaws.{some-of}
 use Rattle.pending.specs.ChainsView.{shortened}
 use Rattle.pending.specs.inside.Tables.{Holds}
 use Rattle.pending.proofs.HoldsLaws.{last-again, last-is-row, holds-same}
@@ -9,7 +9,7 @@ pub next-first-requires : goal.next-first-requires
 next-first-requires c = grind (arith, last-is-row)
 
 pub returns-then-is_none-clause-changes : goal.returns-then-is_none-clause-changes
-returns-then-is_none-clause-changes c = grind (arith, none-of, length-set)
+returns-then-is_none-clause-changes c = grind (arith, length-set)
 
 pub returns-else-is_none-clause-holds : goal.returns-else-is_none-clause-holds
 returns-else-is_none-clause-holds c = λ loose chains h.

@@ -36,8 +36,7 @@ pub record IsMoment (events : List CoreEvent) (moment : ℕ) : Type 0 where
 same-longer : (events more : List CoreEvent) (id p : ℕ) → p < length events
     → is_at p (queue_event log_writes_order (events ++ more) id)
     ≡ is_at p (queue_event log_writes_order events id)
-same-longer events [] id p within =
-    grind (arith, append-nil events)
+same-longer events [] id p within = grind (arith, append-nil events)
 same-longer events (event ∷ more) id p within =
     let size = length-append events (event ∷ []) in
     ap (λ es. is_at p (queue_event log_writes_order es id))
@@ -91,8 +90,7 @@ need-found events id end event within less needed =
     let test : ℕ → Bool =
     λ p. nat_lt end p && log_writes_order events end (slice_get events id) p
     (slice_get events p) in
-    let here : test event ≡ true =
-    rw (lt-ltb end event less) needed in
+    let here : test event ≡ true = rw (lt-ltb end event less) needed in
     elim (option_cases (first_need log_writes_order events id (Some end))) [
       | inl none ↦ let not_here = first_below-none test (length events) none event within in cc
       | inr some ↦
@@ -123,12 +121,10 @@ queued-by events id end event bio is ends after within needed logging =
     elim (bool_cases (has_flush bio || has_fua bio)) [
       | inl own ↦ record {
         first_event = end;
-        queued =
-            grind (arith, own_queue_event);
+        queued = grind (arith, own_queue_event);
         order = omega arith;
       }
-      | inr plain ↦
-          grind (arith, need-found, plain-queue_event)
+      | inr plain ↦ grind (arith, need-found, plain-queue_event)
     ]
 
 flush-needs : (events : List CoreEvent) (flush flush_end end : ℕ) (bio last : Bio)
@@ -285,8 +281,7 @@ found-first size events earlier later i j x y well_formed found first second =
     elim (cases_lt i j) [
       | inl less ↦ less
       | inr no_less ↦ elim (eq-or-lt_of_le no_less) [
-        | inl same ↦
-            grind arith
+        | inl same ↦ grind arith
         | inr swapped ↦
             let sorted =
             listed_sorted profile events j i (later, y)

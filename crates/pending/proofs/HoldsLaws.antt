@@ -49,8 +49,7 @@ pub few-in-two : {next : List ℕ} {lasts : List (Option ℕ)} {loose : List ℕ
     → Holds next lasts loose chains
     → (chain other row : ℕ) → chain ≢ other
     → times row loose + times row (chain_in chains chain) + times row (chain_in chains other) ≤ 1
-few-in-two {next} {lasts} {loose} {chains} h chain other row apart =
-    grind (arith, two-of)
+few-in-two {next} {lasts} {loose} {chains} h chain other row apart = grind (arith, two-of)
 
 pub is-row : {next : List ℕ} {lasts : List (Option ℕ)} {loose : List ℕ} {chains : List (List ℕ)}
     → Holds next lasts loose chains
@@ -170,8 +169,7 @@ noted-is-row h chain (Some last) there = last-is-row h chain last there
 
 pub loose-is-row : {next : List ℕ} {lasts : List (Option ℕ)} {chains : List (List ℕ)}
     (row : ℕ) (loose : List ℕ) → Holds next lasts (row ∷ loose) chains → row < length next
-loose-is-row row loose h =
-    is-row h 0 row (let one = times-same row row loose refl in omega arith)
+loose-is-row row loose h = is-row h 0 row (let one = times-same row row loose refl in omega arith)
 
 pub ring-is-row : {next : List ℕ} {lasts : List (Option ℕ)} {chains : List (List ℕ)} (last : ℕ)
     (rows loose : List ℕ) → Holds next lasts (rows ++ loose) chains → IsRing next last rows
@@ -400,8 +398,7 @@ pub holds-named : {next : List ℕ} {lasts : List (Option ℕ)} {loose : List �
 holds-named {next} {lasts} {loose} {chains} two rows h moved chain less there =
     let empty = none-at h chain there in
     let P : List ℕ → Type 0 = λ rs. IsRing next two rs in
-    let e : rows ≡ rows ++ chain_in chains chain =
-    sym (rw empty (append-nil rows)) in
+    let e : rows ≡ rows ++ chain_in chains chain = sym (rw empty (append-nil rows)) in
     holds-put h next loose chain (Some two) (rows ++ chain_in chains chain) less refl
     (subst P e moved)
     (λ other apart. h.each other)

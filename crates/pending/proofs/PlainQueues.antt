@@ -145,12 +145,8 @@ plain-queued events id end place well_formed (AMark text is) goes =
     }
 plain-queued events id end place well_formed (AClose is) goes = grind (arith, plain-goes_on)
 plain-queued events id end place well_formed (AtEnd _ bio ok is ends own) goes =
-    grind (
-      arith,
-      well_formed-end events end id ok well_formed ends,
-      own_queue_event,
-      plain-goes_on,
-    )
+    let step = well_formed-end events end id ok well_formed ends in
+    grind (arith, own_queue_event, plain-goes_on)
 plain-queued events id end place well_formed (Later _ _ bio ok is ends plain after need none) goes =
     let ended = well_formed-end events end id ok well_formed ends in
     let stands = need-within events end bio place need in

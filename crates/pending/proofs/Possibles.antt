@@ -73,8 +73,7 @@ last-value size (e ∷ es) sector first =
           place = 0;
           entry = e;
           is = refl;
-          value =
-              some.1 ∙ rw (← none.0 ∙ ap (λ v. unwrap_or v (first sector)) some.1);
+          value = some.1 ∙ rw (← none.0 ∙ ap (λ v. unwrap_or v (first sector)) some.1);
           after = λ k later less there. rest_only k later less there none.1;
         })
       ]
@@ -140,8 +139,7 @@ item-entry (x ∷ items) (suc n) (suc k) item is less = item-entry items n k ite
 
 pub moment-from : (events : List CoreEvent) (moment : ℕ) → is_well_formed events ≡ true
     → moment ≤ last_moment events → IsMoment events moment
-moment-from events moment well_formed last =
-    grind (arith, option_cases, first_below-found)
+moment-from events moment well_formed last = grind (arith, option_cases, first_below-found)
 
 covers-some : (there : Option CoreEvent) (sector : ℕ) → covers_at sector there ≡ true
     → (bio : Bio) × (there ≡ Some (Submit bio)) × (covers bio sector ≡ true)
@@ -223,17 +221,13 @@ pub stands-before : (size : ℕ) (events : List CoreEvent) (moment id event : �
     ≡ Some (id, entry_at size (slice_get (take moment events) id)))
     × (k < length (completion_list (dm_log_writes size) (take moment events)))
 stands-before size events moment id event within queued less =
-    grind (
-      arith,
-      take moment events,
-      queued_listed (dm_log_writes size) (take moment events) id
-          event (queued-shorter events moment id event within less queued),
-      slice_get-within,
-      recorded_list_grows size (take moment events) (drop moment events),
-      take-append-drop moment
-          events,
-      slice_get-append_front,
-    )
+    let step = take moment events in
+    let next_step =
+    queued_listed (dm_log_writes size) (take moment events) id event (queued-shorter events moment
+    id event within less queued) in
+    let last_step = recorded_list_grows size (take moment events) (drop moment events) in
+    let fact = take-append-drop moment events in
+    grind (arith, slice_get-within, slice_get-append_front)
 
 -- The item's queue event is at most the next event after the first `moment` events.
 pub record IsItemBy (size : ℕ) (events : List CoreEvent) (moment : ℕ) (item : Item) : Type 0 where

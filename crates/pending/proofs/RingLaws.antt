@@ -88,13 +88,9 @@ pub ring-kept : (next new : List ℕ) (last : ℕ) (rows : List ℕ) (one two : 
     → SameBut next new one two
     → times one rows ≡ 0 → times two rows ≡ 0 → IsRing new last rows
 ring-kept next new last rows one two ring same first second =
-    grind (
-      arith,
-      times-sources next last rows last one ring.leads,
-      times-sources next last rows
-          last two ring.leads,
-      leads-kept,
-    )
+    let step = times-sources next last rows last one ring.leads in
+    let next_step = times-sources next last rows last two ring.leads in
+    grind (arith, leads-kept)
 
 pub chain-kept : (next new : List ℕ) (last : Option ℕ) (rows : List ℕ) (one two : ℕ)
     → IsChain next last rows → SameBut next new one two
@@ -192,16 +188,9 @@ pub values-kept : {T : Type 0} (rows : List (Option T)) (row : ℕ) (value : Opt
 values-kept rows row value [] none = refl
 values-kept rows row value (other ∷ chain) none =
     let apart : other ≢ row = not-first row other chain none in
-    grind (
-      arith,
-      values-kept rows row value chain (omega (
-        arith,
-        times-other row other chain
-            apart,
-      )),
-      get_or-set_other,
-      times-other,
-    )
+    let step =
+    values-kept rows row value chain (omega (arith, times-other row other chain apart)) in
+    grind (arith, get_or-set_other, times-other)
 
 pub values-grown : {T : Type 0} (rows more : List (Option T)) (chain : List ℕ)
     → ((row : ℕ) → 0 < times row chain → row < length rows)

@@ -1,6 +1,7 @@
 -- How calls keep the marks of the rows of chain 1.
 use Rattle.std.proofs.Common.{◌≡◌, ◌≢◌, ℕ, ◌<◌, ◌≤◌, List, [], ◌∷◌, ◌++◌, length, drop, take, set}
-use Rattle.std.proofs.Common.{None, Option, Some, ap, sym, length-set, inl, inr, arith, Bool, true, false}
+use Rattle.std.proofs.Common.{None, Option, Some, ap, sym, length-set, inl, inr, arith, Bool, true}
+use Rattle.std.proofs.Common.{false}
 use Rattle.std.proofs.lemmas.Bool.{cases_eq, cases_lt}
 use Rattle.std.proofs.lemmas.List.{get_or_past, get_or-set_same, get_or-set_other}
 use Rattle.pending.specs.ChainsView.{chain_in, fronted, joined, lengthened, lifted, preceded}

@@ -17,19 +17,17 @@ use Rattle.pending.specs.inside.Tables.{seen_chains, seen_lasts, value_at, value
 use Rattle.pending.specs.inside.Tables.{walked_in, IsOpen, IsSound, IsTable, IsWalk}
 use Rattle.pending.proofs.RingLaws.{chain-map, value-there, values-first, times-same, in-put}
 use Rattle.pending.proofs.RingLaws.{in-other, there}
-use Rattle.pending.proofs.HoldsLaws.{none-at, chain-at, default-grown, first-of, holds-more}
+use Rattle.pending.proofs.HoldsLaws.{none-at, default-grown, first-of, holds-more}
 use Rattle.pending.proofs.HoldsLaws.{holds-same, is-row, ring-at}
 use Rattle.pending.proofs.TableLaws.{chain-full, chain-length, closed-filled, closed-free}
 use Rattle.pending.proofs.TableLaws.{free-none, nothing-cut, open-taken, table-rest}
 
 pub on-some : {A : Type 0} (found : Option A) (P : Type 0) → P → OnSome found P
-on-some None P p = tt
-on-some (Some x) P p = p
+on-some found P p = grind arith
 
 seen-free : (lasts : List (Option ℕ)) (walk : Option Walk) → IsWalk lasts walk
     → last_in (seen_lasts lasts walk) 0 ≡ last_in lasts 0
-seen-free lasts None walks = refl
-seen-free lasts (Some walk) walks = grind (arith, get_or-set_other)
+seen-free lasts walk walks = grind (arith, get_or-set_other)
 
 not-some : (found : Option ℕ) → is_some found ≡ false → found ≡ None
 not-some None none = refl
@@ -49,7 +47,7 @@ sum-none f zero x none = refl
 sum-none f (suc n) x none = omega (arith, sum_by-cons f x (replicate n x), sum-none f n x none)
 
 pub holds-none : (n : ℕ) → Holds [] (replicate n None) [] (replicate n [])
-holds-none n = grind (arith, length-replicate, chain-at, default-in, sum-none)
+holds-none n = grind (arith, length-replicate, default-in, sum-none)
 
 pub first-row : {next : List ℕ} {lasts : List (Option ℕ)} {loose : List ℕ} {chains : List (List ℕ)}
     → Holds next lasts loose chains

@@ -1,12 +1,12 @@
 -- A request that is durable at a moment is queued by then. A request that ended before another was
 -- submitted is queued first, if the two overlap or the other has a flush.
-use Rattle.std.proofs.Common.{◌≡◌, ℕ, ◌<◌, ◌≤◌, Bool, true, false, ◌&&◌, ◌||◌, Option, Some, None}
+use Rattle.std.proofs.Common.{◌≡◌, ℕ, ◌<◌, ◌≤◌, Bool, true, false, ◌&&◌, ◌||◌, Some}
 use Rattle.std.proofs.Common.{List, [], ◌∷◌, ◌++◌, length, take, drop, refl, ap, sym, ◌∙◌, subst}
 use Rattle.std.proofs.Common.{inl, inr, arith, append-nil, append_assoc, length-append}
 use Rattle.std.proofs.Math.Nat.{eq-or-lt_of_le}
 use Rattle.std.proofs.lemmas.Bool.{and_parts, cases_lt, eq-eqb, lt-ltb, ltb-true}
 use Rattle.std.proofs.lemmas.List.{take-append-drop}
-use Rattle.std.specs.Prelude.{◌⊎◌, slice_get, nat_lt, if◌then◌else◌}
+use Rattle.std.specs.Prelude.{◌⊎◌, slice_get, nat_lt}
 use Rattle.bio.specs.declared.request.Bio.{Bio}
 use Rattle.bio.specs.declared.event.CoreEvent.{CoreEvent}
 use Rattle.bio.specs.declared.event.CoreEvent.TheVariants.{Submit}
@@ -17,7 +17,7 @@ use Rattle.bio.specs.Events.{end_of, first_place, is_flush_submit, is_stop, is_w
 use Rattle.log_format.specs.declared.entry.Entry.{Entry}
 use Rattle.pending.specs.QueueEvent.{first_need, is_at, is_needed_by, queue_event, queue_of}
 use Rattle.pending.specs.QueueEvent.{log_writes_order, unless_stopped}
-use Rattle.pending.specs.CompletionList.{IsListedAt, completion_list, dm_log_writes, entry_at}
+use Rattle.pending.specs.CompletionList.{IsListedAt, completion_list, dm_log_writes}
 use Rattle.pending.specs.CompletionList.{own_end}
 use Rattle.pending.proofs.Order.{ends-there, flush_submit-some, listed_queued, listed_sorted}
 use Rattle.pending.proofs.Order.{open_queue_event, own_queue_event, plain-queue_event}
@@ -36,8 +36,7 @@ pub record IsMoment (events : List CoreEvent) (moment : ℕ) : Type 0 where
 same-longer : (events more : List CoreEvent) (id p : ℕ) → p < length events
     → is_at p (queue_event log_writes_order (events ++ more) id)
     ≡ is_at p (queue_event log_writes_order events id)
-same-longer events [] id p within =
-    grind (arith, append-nil events)
+same-longer events [] id p within = grind (arith, append-nil events)
 same-longer events (event ∷ more) id p within =
     let size = length-append events (event ∷ []) in
     ap (λ es. is_at p (queue_event log_writes_order es id))
@@ -68,17 +67,6 @@ going-on : (events : List CoreEvent) (moment p : ℕ) → IsMoment events moment
     → unless_stopped (first_place is_stop events) (Some p) ≡ Some p
 going-on events moment p safe less = grind (arith, option_cases, lt-ltb)
 
-in-time : (stop : Option ℕ) (first event : ℕ) → unless_stopped stop (Some event) ≡ Some event
-    → first ≤ event
-    → unless_stopped stop (Some first) ≡ Some first
-in-time None first event e less = refl
-in-time (Some stop) first event e less = by_test (nat_lt event stop) refl e
-  where
-    by_test : (b : Bool) → nat_lt event stop ≡ b → (if b then Some event else None) ≡ Some event
-        → (if nat_lt first stop then Some first else None) ≡ Some first
-    by_test true f e = grind (arith, lt-ltb, ltb-true)
-    by_test false f e = cc
-
 pub record EndsBefore (events : List CoreEvent) (moment id end : ℕ) : Type 0 where
   pub bio : Bio
   pub submitted : slice_get events id ≡ Some (Submit bio)
@@ -102,8 +90,7 @@ need-found events id end event within less needed =
     let test : ℕ → Bool =
     λ p. nat_lt end p && log_writes_order events end (slice_get events id) p
     (slice_get events p) in
-    let here : test event ≡ true =
-    rw (lt-ltb end event less) needed in
+    let here : test event ≡ true = rw (lt-ltb end event less) needed in
     elim (option_cases (first_need log_writes_order events id (Some end))) [
       | inl none ↦ let not_here = first_below-none test (length events) none event within in cc
       | inr some ↦
@@ -134,12 +121,10 @@ queued-by events id end event bio is ends after within needed logging =
     elim (bool_cases (has_flush bio || has_fua bio)) [
       | inl own ↦ record {
         first_event = end;
-        queued =
-            grind (arith, own_queue_event, in-time);
+        queued = grind (arith, own_queue_event);
         order = omega arith;
       }
-      | inr plain ↦
-          grind (arith, need-found, plain-queue_event, in-time)
+      | inr plain ↦ grind (arith, need-found, plain-queue_event)
     ]
 
 flush-needs : (events : List CoreEvent) (flush flush_end end : ℕ) (bio last : Bio)
@@ -148,15 +133,7 @@ flush-needs : (events : List CoreEvent) (flush flush_end end : ℕ) (bio last : 
     → log_writes_order events end (Some (Submit bio)) flush_end (slice_get events flush_end) ≡ true
 flush-needs events flush flush_end end bio last is has ends less =
     let there = ends-there events flush flush_end ends in
-    needing-recorded events end bio flush_end (slice_get events flush_end) (record {
-      id = flush;
-      ok = there.2.0;
-      last = last;
-      is = there.2.1;
-      earlier = there.1;
-      submitted = is;
-      needed = needed-flush events end bio flush_end flush last has less;
-    })
+    grind (arith, needing-recorded, needed-flush)
 
 pub durable-queued : (events : List CoreEvent) (moment sector id : ℕ) → IsMoment events moment
     → IsDurableBefore events moment sector id
@@ -304,8 +281,7 @@ found-first size events earlier later i j x y well_formed found first second =
     elim (cases_lt i j) [
       | inl less ↦ less
       | inr no_less ↦ elim (eq-or-lt_of_le no_less) [
-        | inl same ↦
-            grind arith
+        | inl same ↦ grind arith
         | inr swapped ↦
             let sorted =
             listed_sorted profile events j i (later, y)
@@ -338,9 +314,4 @@ found-stands size events earlier later j well_formed found listed =
     let queued = found-queued events earlier later queues.1.0 found queues.1.2.queues in
     let stands =
     queued_listed (dm_log_writes size) events earlier queued.first_event queued.queued in
-    let entry = entry_at size (slice_get events earlier) in (
-      stands.0,
-      (entry, stands.1),
-      found-first size events earlier later stands.0 j entry listed.0 well_formed found stands.1
-          listed.1,
-    )
+    grind (arith, found-first, well_formed)

@@ -8,7 +8,7 @@ use Rattle.std.proofs.lemmas.Bool.{cases_eq, cases_lt}
 use Rattle.std.proofs.lemmas.List.{get_or-set_same, get_or-set_other, get_or_past, set-set}
 use Rattle.std.proofs.lemmas.List.{set-get_or, append-nil, append_assoc}
 use Rattle.pending.specs.ChainsView.{chain_in, fronted, joined, lengthened, preceded, shortened}
-use Rattle.pending.specs.inside.Tables.{Holds, after, last_in, times, times_in, Leads, IsRing}
+use Rattle.pending.specs.inside.Tables.{Holds, after, last_in, times, Leads, IsRing}
 use Rattle.pending.specs.inside.Tables.{IsChain}
 use Rattle.pending.proofs.RingLaws.{ring-parts, ring-turned, sources-none, sources-end, last-counts}
 use Rattle.pending.proofs.RingLaws.{leads-kept, leads-end, same-but-one, same-but-two, chain-kept}
@@ -26,11 +26,6 @@ default-grown (x ∷ xs) (suc i) d = default-grown xs i d
 pub after-grown : (next : List ℕ) (row : ℕ) → after (next ++ 0 ∷ []) row ≡ after next row
 after-grown next row = default-grown next row 0
 
-pub chain-at : (next : List ℕ) (last other : Option ℕ) (rows same : List ℕ) → last ≡ other
-    → rows ≡ same → IsChain next last rows
-    → IsChain next other same
-chain-at next last other rows same e d chain = grind arith
-
 pub last-there : (lasts : List (Option ℕ)) (chain last : ℕ) → last_in lasts chain ≡ Some last
     → chain < length lasts
 last-there lasts chain last is = grind (arith, cases_lt, get_or_past)
@@ -38,29 +33,23 @@ last-there lasts chain last is = grind (arith, cases_lt, get_or_past)
 pub ring-at : {next : List ℕ} {lasts : List (Option ℕ)} {loose : List ℕ} {chains : List (List ℕ)}
     → Holds next lasts loose chains
     → (chain last : ℕ) → last_in lasts chain ≡ Some last → IsRing next last (chain_in chains chain)
-ring-at {next} {lasts} {loose} {chains} h chain last is = grind (arith, chain-at)
+ring-at {next} {lasts} {loose} {chains} h chain last is = grind arith
 
 pub none-at : {next : List ℕ} {lasts : List (Option ℕ)} {loose : List ℕ} {chains : List (List ℕ)}
     → Holds next lasts loose chains
     → (chain : ℕ) → last_in lasts chain ≡ None → chain_in chains chain ≡ []
-none-at {next} {lasts} {loose} {chains} h chain is = grind (arith, chain-at)
-
-pub holds-few : {next : List ℕ} {lasts : List (Option ℕ)} {loose : List ℕ} {chains : List (List ℕ)}
-    → Holds next lasts loose chains
-    → (row : ℕ) → times row loose + times_in row chains ≤ 1
-holds-few {next} h row = grind (arith, cases_lt)
+none-at {next} {lasts} {loose} {chains} h chain is = grind arith
 
 pub few-in : {next : List ℕ} {lasts : List (Option ℕ)} {loose : List ℕ} {chains : List (List ℕ)}
     → Holds next lasts loose chains
     → (chain row : ℕ) → times row loose + times row (chain_in chains chain) ≤ 1
-few-in {next} {lasts} {loose} {chains} h chain row = grind (arith, holds-few, one-of)
+few-in {next} {lasts} {loose} {chains} h chain row = grind (arith, one-of)
 
 pub few-in-two : {next : List ℕ} {lasts : List (Option ℕ)} {loose : List ℕ} {chains : List (List ℕ)}
     → Holds next lasts loose chains
     → (chain other row : ℕ) → chain ≢ other
     → times row loose + times row (chain_in chains chain) + times row (chain_in chains other) ≤ 1
-few-in-two {next} {lasts} {loose} {chains} h chain other row apart =
-    grind (arith, holds-few, two-of)
+few-in-two {next} {lasts} {loose} {chains} h chain other row apart = grind (arith, two-of)
 
 pub is-row : {next : List ℕ} {lasts : List (Option ℕ)} {loose : List ℕ} {chains : List (List ℕ)}
     → Holds next lasts loose chains
@@ -84,7 +73,6 @@ holds-put {next} {lasts} {loose}
       arith,
       length-set,
       cases_eq,
-      chain-at,
       get_or-set_same,
       in-put,
       get_or-set_other,
@@ -181,8 +169,7 @@ noted-is-row h chain (Some last) there = last-is-row h chain last there
 
 pub loose-is-row : {next : List ℕ} {lasts : List (Option ℕ)} {chains : List (List ℕ)}
     (row : ℕ) (loose : List ℕ) → Holds next lasts (row ∷ loose) chains → row < length next
-loose-is-row row loose h =
-    is-row h 0 row (let one = times-same row row loose refl in omega arith)
+loose-is-row row loose h = is-row h 0 row (let one = times-same row row loose refl in omega arith)
 
 pub ring-is-row : {next : List ℕ} {lasts : List (Option ℕ)} {chains : List (List ℕ)} (last : ℕ)
     (rows loose : List ℕ) → Holds next lasts (rows ++ loose) chains → IsRing next last rows
@@ -275,52 +262,44 @@ pub holds-preceded : {next : List ℕ} {lasts : List (Option ℕ)} {loose : List
     → Holds (set (set next row (after next last)) last row) (set lasts chain (Some last)) loose
     (preceded chains chain row)
 holds-preceded {next} {lasts} {loose} {chains} {row} h chain last there =
+    let new = set (set next row (after next last)) last row in
     let ring = ring-at h chain last there in
-    let first = first-of ring in
-    by_rest first.0 first.1
-  where
-    new : List ℕ
-    new = set (set next row (after next last)) last row
-
-    by_rest : (rest : List ℕ) → IsFirst next last (chain_in chains chain) rest
-        → Holds (set (set next row (after next last)) last row) (set lasts chain (Some last)) loose
-        (preceded chains chain row)
-    by_rest rest first =
-        let one = times-same row row loose refl in
-        let ring = ring-at h chain last there in
-        let some = last-counts next last (chain_in chains chain) ring in
-        let small : last < length next = last-is-row h chain last there in
-        let little : row < length next = is-row h chain row (omega arith) in
-        let away : row ≢ last = λ e. grind (arith, few-in h chain row) in
-        let same = same-but-two next row (after next last) last row in
-        let none : times row (chain_in chains chain) ≡ 0 = let few = few-in h chain row in
-        omega arith in
-        let e = ap (times row) first.is in
-        let d = ap (times last) first.is in
-        let few = few-in h chain last in
-        let kept = leads-kept next new (after next last) rest last row last first.leads same
-        (sources-none next (after next last) rest last row first.leads (omega arith))
-        (sources-end next (after next last) rest last first.leads (omega arith)) in
-        let leads : Leads new last (row ∷ after next last ∷ rest) last = grind (
-          arith,
-          get_or-set_same,
-          set,
-          length-set,
-          get_or-set_other,
-        ) in
-        let P : List ℕ → Type 0 = λ rows. Leads new last (row ∷ rows) last in
-        holds-put h new loose chain (Some last) (row ∷ chain_in chains chain)
-        (last-there lasts chain last there)
-        (length-set (set next row (after next last)) last row
-        ∙ length-set next row (after next last))
-        (record { leads = subst P (sym first.is) leads; some = omega arith })
-        (λ other apart.
-        let two = few-in-two h chain other last (λ b. apart (sym b)) in
-        let lone = few-in h other row in
-        chain-kept next new (last_in lasts other) (chain_in chains other) row last
-        (h.each other) same (omega arith) (omega arith))
-        (λ r. omega arith)
-        (omega arith)
+    let rest = (first-of ring).0 in
+    let first = (first-of ring).1 in
+    let one = times-same row row loose refl in
+    let some = last-counts next last (chain_in chains chain) ring in
+    let small : last < length next = last-is-row h chain last there in
+    let little : row < length next = is-row h chain row (omega arith) in
+    let away : row ≢ last = λ e. grind (arith, few-in h chain row) in
+    let same = same-but-two next row (after next last) last row in
+    let none : times row (chain_in chains chain) ≡ 0 = let few = few-in h chain row in
+    omega arith in
+    let e = ap (times row) first.is in
+    let d = ap (times last) first.is in
+    let few = few-in h chain last in
+    let kept = leads-kept next new (after next last) rest last row last first.leads same
+    (sources-none next (after next last) rest last row first.leads (omega arith))
+    (sources-end next (after next last) rest last first.leads (omega arith)) in
+    let leads : Leads new last (row ∷ after next last ∷ rest) last = grind (
+      arith,
+      get_or-set_same,
+      set,
+      length-set,
+      get_or-set_other,
+    ) in
+    let P : List ℕ → Type 0 = λ rows. Leads new last (row ∷ rows) last in
+    holds-put h new loose chain (Some last) (row ∷ chain_in chains chain)
+    (last-there lasts chain last there)
+    (length-set (set next row (after next last)) last row
+    ∙ length-set next row (after next last))
+    (record { leads = subst P (sym first.is) leads; some = omega arith })
+    (λ other apart.
+    let two = few-in-two h chain other last (λ b. apart (sym b)) in
+    let lone = few-in h other row in
+    chain-kept next new (last_in lasts other) (chain_in chains other) row last
+    (h.each other) same (omega arith) (omega arith))
+    (λ r. omega arith)
+    (omega arith)
 
 -- The loose row becomes a ring of one row: its link leads to itself.
 pub holds-begun : {next : List ℕ} {lasts : List (Option ℕ)} {loose : List ℕ}
@@ -356,68 +335,58 @@ pub holds-embraced : {next : List ℕ} {lasts : List (Option ℕ)} {loose : List
     (set lasts chain (Some one)) loose
     (set chains chain (rows ++ chain_in chains chain))
 holds-embraced {next} {lasts} {loose} {chains} two rows h moved chain one there =
-    let first = first-of (ring-at h chain one there) in
-    let other = first-of moved in
-    by_rests first.0 first.1 other.0 other.1
-  where
-    new : List ℕ
-    new = set (set next one (after next two)) two (after next one)
-
-    by_rests : (rest : List ℕ) → IsFirst next one (chain_in chains chain) rest → (more : List ℕ)
-        → IsFirst next two rows more
-        → Holds (set (set next one (after next two)) two (after next one))
-        (set lasts chain (Some one)) loose
-        (set chains chain (rows ++ chain_in chains chain))
-    by_rests rest first more other =
-        let ring = ring-at h chain one there in
-        let some = last-counts next one (chain_in chains chain) ring in
-        let any = last-counts next two rows moved in
-        let few_one = few-in h chain one in
-        let few_two = few-in h chain two in
-        let split_one = times-append one rows loose in
-        let split_two = times-append two rows loose in
-        let small : one < length next = last-is-row h chain one there in
-        let little : two < length next = is-row h chain two (omega arith) in
-        let away : one ≢ two = λ e. absurd (let d = ap (λ r. times r rows) e in omega arith) in
-        let same = same-but-two next one (after next two) two (after next one) in
-        let one_here = ap (times one) first.is in
-        let two_here = ap (times two) first.is in
-        let one_moved = ap (times one) other.is in
-        let two_moved = ap (times two) other.is in
-        let kept : Leads new (after next one) rest one =
-        leads-kept next new (after next one) rest one one two first.leads same
-        (sources-end next (after next one) rest one first.leads (omega arith))
-        (sources-none next (after next one) rest one two first.leads (omega arith)) in
-        let went : Leads new (after next two) more two =
-        leads-kept next new (after next two) more two one two other.leads same
-        (sources-none next (after next two) more two one other.leads (omega arith))
-        (sources-end next (after next two) more two other.leads (omega arith)) in
-        let P : List ℕ → Type 0 = λ rs. Leads new one rs two in
-        let front : Leads new one rows two = grind (arith, get_or-set_other, set, get_or-set_same) in
-        let Q : List ℕ → Type 0 = λ rs. Leads new two rs one in
-        let back : Leads new two (chain_in chains chain) one = grind (
-          arith,
-          get_or-set_same,
-          set,
-          length-set,
-        ) in
-        holds-put h new loose chain (Some one) (rows ++ chain_in chains chain)
-        (last-there lasts chain one there)
-        (length-set (set next one (after next two)) two (after next one)
-        ∙ length-set next one (after next two))
-        (record {
-          leads = leads-append new one rows two (chain_in chains chain) one front back;
-          some =
-              let d = ap length first.is in
-              omega (arith, length-append rows (chain_in chains chain));
-        })
-        (λ c apart.
-        let pair = few-in-two h chain c one (λ b. apart (sym b)) in
-        let lone = few-in h c two in
-        chain-kept next new (last_in lasts c) (chain_in chains c) one two (h.each c) same
-        (omega arith) (omega arith))
-        (λ r. omega (arith, times-append r rows loose, times-append r rows (chain_in chains chain)))
-        (omega (arith, length-append rows loose, length-append rows (chain_in chains chain)))
+    let new = set (set next one (after next two)) two (after next one) in
+    let ring = ring-at h chain one there in
+    let rest = (first-of ring).0 in
+    let first = (first-of ring).1 in
+    let more = (first-of moved).0 in
+    let other = (first-of moved).1 in
+    let some = last-counts next one (chain_in chains chain) ring in
+    let any = last-counts next two rows moved in
+    let few_one = few-in h chain one in
+    let few_two = few-in h chain two in
+    let split_one = times-append one rows loose in
+    let split_two = times-append two rows loose in
+    let small : one < length next = last-is-row h chain one there in
+    let little : two < length next = is-row h chain two (omega arith) in
+    let away : one ≢ two = λ e. absurd (let d = ap (λ r. times r rows) e in omega arith) in
+    let same = same-but-two next one (after next two) two (after next one) in
+    let one_here = ap (times one) first.is in
+    let two_here = ap (times two) first.is in
+    let one_moved = ap (times one) other.is in
+    let two_moved = ap (times two) other.is in
+    let kept : Leads new (after next one) rest one =
+    leads-kept next new (after next one) rest one one two first.leads same
+    (sources-end next (after next one) rest one first.leads (omega arith))
+    (sources-none next (after next one) rest one two first.leads (omega arith)) in
+    let went : Leads new (after next two) more two =
+    leads-kept next new (after next two) more two one two other.leads same
+    (sources-none next (after next two) more two one other.leads (omega arith))
+    (sources-end next (after next two) more two other.leads (omega arith)) in
+    let front : Leads new one rows two = grind (arith, get_or-set_other, set, get_or-set_same) in
+    let back : Leads new two (chain_in chains chain) one = grind (
+      arith,
+      get_or-set_same,
+      set,
+      length-set,
+    ) in
+    holds-put h new loose chain (Some one) (rows ++ chain_in chains chain)
+    (last-there lasts chain one there)
+    (length-set (set next one (after next two)) two (after next one)
+    ∙ length-set next one (after next two))
+    (record {
+      leads = leads-append new one rows two (chain_in chains chain) one front back;
+      some =
+          let d = ap length first.is in
+          omega (arith, length-append rows (chain_in chains chain));
+    })
+    (λ c apart.
+    let pair = few-in-two h chain c one (λ b. apart (sym b)) in
+    let lone = few-in h c two in
+    chain-kept next new (last_in lasts c) (chain_in chains c) one two (h.each c) same
+    (omega arith) (omega arith))
+    (λ r. omega (arith, times-append r rows loose, times-append r rows (chain_in chains chain)))
+    (omega (arith, length-append rows loose, length-append rows (chain_in chains chain)))
 
 -- If the chain is empty, it takes over a loose ring without a write to the links.
 pub holds-named : {next : List ℕ} {lasts : List (Option ℕ)} {loose : List ℕ}
@@ -429,8 +398,7 @@ pub holds-named : {next : List ℕ} {lasts : List (Option ℕ)} {loose : List �
 holds-named {next} {lasts} {loose} {chains} two rows h moved chain less there =
     let empty = none-at h chain there in
     let P : List ℕ → Type 0 = λ rs. IsRing next two rs in
-    let e : rows ≡ rows ++ chain_in chains chain =
-    sym (rw empty (append-nil rows)) in
+    let e : rows ≡ rows ++ chain_in chains chain = sym (rw empty (append-nil rows)) in
     holds-put h next loose chain (Some two) (rows ++ chain_in chains chain) less refl
     (subst P e moved)
     (λ other apart. h.each other)
@@ -464,29 +432,23 @@ pub holds-joined : {next : List ℕ} {lasts : List (Option ℕ)} {loose : List �
     → (new : List ℕ) (noted : List (Option ℕ)) → Holds new noted loose (fronted chains from onto)
     → Holds new (set noted onto (Some last)) loose (joined chains from onto)
 holds-joined {next} {lasts} {loose} {chains} h from onto last there less new noted then =
-    let first = first-of (ring-at h from last there) in
-    by_front first.0 first.1
-    (leads-end next last (after next last) first.0 last (refl, (first.1).leads))
-  where
-    within : onto < length (set chains from [])
-    within = let e = h.size in omega (arith, length-set chains from [])
-
-    by_front : (rest : List ℕ) → IsFirst next last (chain_in chains from) rest
-        → (front : List ℕ) × (after next last ∷ rest ≡ front ++ last ∷ [])
-        → Holds new (set noted onto (Some last)) loose (joined chains from onto)
-    by_front rest first end =
-        let rows : chain_in chains from ≡ end.0 ++ last ∷ [] = first.is ∙ end.1 in
-        let here : chain_in (fronted chains from onto) onto ≡ end.0 ++ last ∷ chain_in chains onto =
-        in-put (set chains from []) onto (chain_in chains from ++ chain_in chains onto) within
-        ∙ ap (λ rs. rs ++ chain_in chains onto) rows ∙ append_assoc end.0 (last ∷ [])
-        (chain_in chains onto) in
-        holds-at (set noted onto (Some last)) (set noted onto (Some last))
-        (set (fronted chains from onto) onto (chain_in chains onto ++ (end.0 ++ last ∷ [])))
-        (joined chains from onto) refl
-        (set-set (set chains from []) onto (chain_in chains from ++ chain_in chains onto)
-        (chain_in chains onto ++ (end.0 ++ last ∷ []))
-        ∙ ap (λ rs. set (set chains from []) onto (chain_in chains onto ++ rs)) (sym rows))
-        (holds-turned then onto end.0 last (chain_in chains onto) here)
+    let rest = (first-of (ring-at h from last there)).0 in
+    let first = (first-of (ring-at h from last there)).1 in
+    let end = leads-end next last (after next last) rest last (refl, first.leads) in
+    let within : onto < length (set chains from []) =
+    let e = h.size in omega (arith, length-set chains from []) in
+    let rows : chain_in chains from ≡ end.0 ++ last ∷ [] = first.is ∙ end.1 in
+    let here : chain_in (fronted chains from onto) onto ≡ end.0 ++ last ∷ chain_in chains onto =
+    in-put (set chains from []) onto (chain_in chains from ++ chain_in chains onto) within
+    ∙ ap (λ rs. rs ++ chain_in chains onto) rows ∙ append_assoc end.0 (last ∷ [])
+    (chain_in chains onto) in
+    holds-at (set noted onto (Some last)) (set noted onto (Some last))
+    (set (fronted chains from onto) onto (chain_in chains onto ++ (end.0 ++ last ∷ [])))
+    (joined chains from onto) refl
+    (set-set (set chains from []) onto (chain_in chains from ++ chain_in chains onto)
+    (chain_in chains onto ++ (end.0 ++ last ∷ []))
+    ∙ ap (λ rs. set (set chains from []) onto (chain_in chains onto ++ rs)) (sym rows))
+    (holds-turned then onto end.0 last (chain_in chains onto) here)
 
 -- As `holds-joined`, for one row.
 pub holds-lengthened : (new : List ℕ) (noted : List (Option ℕ)) (loose : List ℕ)
@@ -547,4 +509,4 @@ pub holds-more : {next : List ℕ} {lasts : List (Option ℕ)} {loose : List ℕ
     → Holds next lasts loose chains
     → Holds next (lasts ++ None ∷ []) loose (chains ++ [] ∷ [])
 holds-more {next} {lasts} {loose} {chains} h =
-    grind (arith, length-append, chain-at, default-grown, sum_by_push)
+    grind (arith, length-append, default-grown, sum_by_push)

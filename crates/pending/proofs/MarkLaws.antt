@@ -1,18 +1,19 @@
 -- How calls keep the marks of the rows of chain 1.
 use Rattle.std.proofs.Common.{◌≡◌, ◌≢◌, ℕ, ◌<◌, ◌≤◌, List, [], ◌∷◌, ◌++◌, length, drop, take, set}
-use Rattle.std.proofs.Common.{None, Option, Some, ap, refl, sym, ◌∙◌, length-set, inl, inr, arith, Bool, true, false}
+use Rattle.std.proofs.Common.{None, Option, Some, ap, sym, length-set, inl, inr, arith, Bool, true}
+use Rattle.std.proofs.Common.{false}
 use Rattle.std.proofs.lemmas.Bool.{cases_eq, cases_lt}
 use Rattle.std.proofs.lemmas.List.{get_or_past, get_or-set_same, get_or-set_other}
 use Rattle.pending.specs.ChainsView.{chain_in, fronted, joined, lengthened, lifted, preceded}
 use Rattle.pending.specs.ChainsView.{shortened, turned}
 use Rattle.pending.specs.declared.chains.links.Links.{Links}
 use Rattle.pending.specs.declared.chains.walk.Walk.{Walk}
-use Rattle.pending.specs.inside.Tables.{AreMarks, IsMarked, IsTable, IsWalk, chains_of, is_marked}
+use Rattle.pending.specs.inside.Tables.{AreMarks, IsMarked, IsTable, IsWalk, is_marked}
 use Rattle.pending.specs.inside.Tables.{last_in, seen_chains, seen_lasts, times, walked_in}
 use Rattle.pending.proofs.CallLaws.{sound-same}
 use Rattle.pending.proofs.HoldsLaws.{default-grown, last-again}
 use Rattle.pending.proofs.RingLaws.{in-other, in-put, times-append, times-other, times-same}
-use Rattle.pending.proofs.TableLaws.{seen-of, seen-rest, sound-of}
+use Rattle.pending.proofs.TableLaws.{seen-of, sound-of}
 use Rattle.pending.proofs.WalkLaws.{rest-made, walk-made}
 
 pub marks-seen : {T : Type 0} (links : Links) (rows : List (Option T)) (walk : Option Walk)
@@ -43,29 +44,21 @@ pub marks-removed : {marks new : List Bool} {chains other : List (List ℕ)} (ro
     → new ≡ set marks row false → AreMarks marks chains
     → ((r : ℕ) → r ≢ row → times r (chain_in chains 1) ≤ times r (chain_in other 1))
     → AreMarks new other
-marks-removed {marks} {new} {chains} {other} row is known more = record {
-  within = λ r marked.
-      grind (arith, mark-left);
-}
+marks-removed {marks} {new} {chains} {other} row is known more = grind (arith, mark-left)
 
 -- The first row of chain 1 gets a mark.
 pub marks-set : {marks new : List Bool} {chains : List (List ℕ)} (row : ℕ) (rest : List ℕ)
     → new ≡ set marks row true → AreMarks marks chains → chain_in chains 1 ≡ row ∷ rest
     → AreMarks new chains
-marks-set {marks} {new} {chains} row rest is known first = record {
-  within = λ r marked.
-      grind (arith, cases_eq, times-same, get_or-set_other, true, false);
-}
+marks-set {marks} {new} {chains} row rest is known first =
+    grind (arith, cases_eq, times-same, get_or-set_other)
 
 pub marks-left : {marks new : List Bool} {chains other : List (List ℕ)} (from : ℕ)
     → AreMarks marks chains
     → ((row : ℕ) → is_marked new row ≡ true → (from ≢ 1) × (is_marked marks row ≡ true))
     → (from ≢ 1 → (r : ℕ) → times r (chain_in chains 1) ≤ times r (chain_in other 1))
     → AreMarks new other
-marks-left {marks} {new} {chains} {other} from known left more = record {
-  within = λ r marked.
-      grind arith;
-}
+marks-left {marks} {new} {chains} {other} from known left more = grind arith
 
 -- If chain 1 is replaced, its rows are among the new ones.
 pub put-counts : (chains : List (List ℕ)) (chain row : ℕ) (rows : List ℕ)
@@ -168,7 +161,7 @@ module _ {T : Type 0} where
   walk-marked links rows walk chain at marks s rest shown less is = record {
     sound = walk-made links rows walk chain at s.sound rest shown less is;
     known =
-        grind (arith, set, last-again, seen-rest);
+        grind (arith, set, last-again);
   }
 
   pub rest-marked : (links new : Links) (rows : List (Option T)) (walk : Option Walk) (w : Walk)

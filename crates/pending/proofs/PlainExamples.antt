@@ -62,13 +62,11 @@ failed = Submit fua_write ∷ Complete 0 false ∷ []
 
 -- two writes that end in another order, and a Close
 abbrev crossed : List CoreEvent
-crossed =
-    Submit plain_write ∷ Submit next_write ∷ Complete 1 true ∷ Complete 0 true ∷ Close ∷ []
+crossed = Submit plain_write ∷ Submit next_write ∷ Complete 1 true ∷ Complete 0 true ∷ Close ∷ []
 
 -- a flush that ends after a Stop
 abbrev stopped : List CoreEvent
-stopped =
-    Submit plain_write ∷ Complete 0 true ∷ Submit Flush ∷ Stop Full ∷ Complete 2 true ∷ []
+stopped = Submit plain_write ∷ Complete 0 true ∷ Submit Flush ∷ Stop Full ∷ Complete 2 true ∷ []
 
 -- Puts: a write puts its bytes in its own sector, and nothing in the next one
 puts : Puts plain_write 5 (full 65)
@@ -184,8 +182,7 @@ could-replaced it = elim (it 5) [
   | inl stays ↦ stays.1 2 kept-fua
   | inr held ↦ elim (linked-puts held.0 held.1 (full 65) held.2 held.3) [
     | inl first ↦
-        let ended : Ends linked held.0 1 true =
-        rw (← first) in
+        let ended : Ends linked held.0 1 true = rw (← first) in
         held.4 2 1 true kept-fua ended (omega arith)
     | inr same ↦ let byte = same-byte 65 66 same in omega arith
   ]

@@ -74,20 +74,13 @@ puts-event events id bio sector value is puts = grind (arith, values-puts)
 
 submits-some : (test : Bio → Bool) (there : Option CoreEvent) → submits test there ≡ true
     → (bio : Bio) × (there ≡ Some (Submit bio)) × (test bio ≡ true)
-submits-some test (Some (Submit bio)) h = (bio, refl, h)
-submits-some test (Some (Complete id ok)) h = cc
-submits-some test (Some (Mark text)) h = cc
-submits-some test (Some (Stop cause)) h = cc
-submits-some test (Some Close) h = cc
-submits-some test None h = cc
+submits-some test there h = grind arith
 
 ok-ends : (events : List CoreEvent) (id : ℕ) → ended_ok events id ≡ true
     → (end : ℕ) × (end_of events id ≡ Some end) × Ends events id end true
 ok-ends events id ok = elim (option_cases (end_of events id)) [
-  | inl none ↦
-      absurd (let contra : false ≡ true = sym (ap (is_success_at events) none) ∙ ok in cc)
-  | inr some ↦
-      grind (arith, ends-there events id some.0 some.1, true)
+  | inl none ↦ absurd (let contra : false ≡ true = sym (ap (is_success_at events) none) ∙ ok in cc)
+  | inr some ↦ grind (arith, ends-there events id some.0 some.1, true)
 ]
 
 ends-ok : (events : List CoreEvent) (id end : ℕ) → is_well_formed events ≡ true
@@ -110,14 +103,7 @@ flushed-after events id end ends flushed =
     let before_is = before.1 in
     let less = before.2 in
     let same : before.0 ≡ end = cc in
-    record {
-      id = found.0;
-      bio = flush.0;
-      end = ok.0;
-      flush = (flush.1, flush.2);
-      after = omega arith;
-      ended = ok.2;
-    }
+    grind arith
 
 after-flushed : (events : List CoreEvent) (id end : ℕ) → is_well_formed events ≡ true
     → end_of events id ≡ Some end
@@ -159,8 +145,7 @@ plain-durable events id well_formed durable =
     let ended = well_formed-end events durable.end id true well_formed durable.ended in
     and_holds (ended_ok events id) (submits has_fua (slice_get events id) || is_flushed events id)
     (ends-ok events id durable.end well_formed durable.ended) (elim durable.sure [
-      | inl fua ↦
-          rw (ap (submits has_fua) durable.submitted ∙ fua)
+      | inl fua ↦ rw (ap (submits has_fua) durable.submitted ∙ fua)
       | inr flushed ↦
           or_second (submits has_fua (slice_get events id)) (is_flushed events id)
           (after-flushed events id durable.end well_formed ended.ends flushed)
@@ -251,20 +236,15 @@ SectorAfter events ids sector first after =
 one-value : (events : List CoreEvent) (ids : List ℕ) (sector : ℕ) (first v w : List ℕ)
     → SectorAfter events ids sector first v → SectorAfter events ids sector first w → v ≡ w
 one-value events ids sector first v w (inl a) (inl b) = a.0 ∙ sym b.0
-one-value events ids sector first v w (inl a) (inr b) =
-    absurd (a.1 b.0 b.1 b.2 b.3 b.4 (w, b.5))
-one-value events ids sector first v w (inr a) (inl b) =
-    absurd (b.1 a.0 a.1 a.2 a.3 a.4 (v, a.5))
+one-value events ids sector first v w (inl a) (inr b) = absurd (a.1 b.0 b.1 b.2 b.3 b.4 (w, b.5))
+one-value events ids sector first v w (inr a) (inl b) = absurd (b.1 a.0 a.1 a.2 a.3 a.4 (v, a.5))
 one-value events ids sector first v w (inr a) (inr b) = elim (cases_lt a.0 b.0) [
   | inl less ↦ absurd (a.6 b.0 b.1 b.2 less b.3 b.4 (w, b.5))
   | inr above ↦ elim (eq-or-lt_of_le above) [
     | inl same ↦
-        grind (
-          arith,
-          puts-event events a.1 a.2 sector v a.4 a.5,
-          puts-event events b.1 b.2 sector
-              w b.4 b.5,
-        )
+        let step = puts-event events a.1 a.2 sector v a.4 a.5 in
+        let next_step = puts-event events b.1 b.2 sector w b.4 b.5 in
+        grind arith
     | inr more ↦ absurd (b.6 a.0 a.1 a.2 more a.3 a.4 (v, a.5))
   ]
 ]

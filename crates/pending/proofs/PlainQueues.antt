@@ -90,18 +90,11 @@ plain-need events end bio place well_formed (AtFua id ok last is submitted has c
 need-within : (events : List CoreEvent) (end : ℕ) (bio : Bio) (place : ℕ)
     → Need events end bio place
     → (place < length events) × (is_stop (slice_get events place) ≡ false)
-need-within events end bio place (AtClose is) =
-    (slice_get-within events place Close is, ap is_stop is)
-need-within events end bio place (AtFlush id ok last is submitted has rises) =
-    grind (arith, slice_get-within)
-need-within events end bio place (AtFua id ok last is submitted has chain) =
-    grind (arith, slice_get-within)
+need-within events end bio place h1 = grind (arith, slice_get-within)
 
 by_stop : (stop queued : Option ℕ) (p : ℕ) → unless_stopped stop queued ≡ Some p
     → (stop ≡ None) ⊎ ((s : ℕ) × (stop ≡ Some s) × (p < s))
-by_stop None queued p e = inl refl
-by_stop (Some s) None p e = cc
-by_stop (Some s) (Some q) p e = grind (arith, cases_lt, lt-ltb, le-ltb)
+by_stop stop queued p e = grind (arith, cases_lt, lt-ltb, le-ltb)
 
 pub stop-some : (there : Option CoreEvent) → is_stop there ≡ true
     → (cause : End) × (there ≡ Some (Stop cause))
@@ -150,19 +143,10 @@ plain-queued events id end place well_formed (AMark text is) goes =
           ∙ plain-goes_on events id (ap is_stop is) goes;
       ends = ap (own_end events id) is;
     }
-plain-queued events id end place well_formed (AClose is) goes =
-    record {
-      queues =
-          grind (arith, plain-goes_on);
-      ends = ap (own_end events id) is;
-    }
+plain-queued events id end place well_formed (AClose is) goes = grind (arith, plain-goes_on)
 plain-queued events id end place well_formed (AtEnd _ bio ok is ends own) goes =
-    grind (
-      arith,
-      well_formed-end events end id ok well_formed ends,
-      own_queue_event,
-      plain-goes_on,
-    )
+    let step = well_formed-end events end id ok well_formed ends in
+    grind (arith, own_queue_event, plain-goes_on)
 plain-queued events id end place well_formed (Later _ _ bio ok is ends plain after need none) goes =
     let ended = well_formed-end events end id ok well_formed ends in
     let stands = need-within events end bio place need in

@@ -73,8 +73,7 @@ last-value size (e ∷ es) sector first =
           place = 0;
           entry = e;
           is = refl;
-          value =
-              some.1 ∙ rw (← none.0 ∙ ap (λ v. unwrap_or v (first sector)) some.1);
+          value = some.1 ∙ rw (← none.0 ∙ ap (λ v. unwrap_or v (first sector)) some.1);
           after = λ k later less there. rest_only k later less there none.1;
         })
       ]
@@ -140,17 +139,11 @@ item-entry (x ∷ items) (suc n) (suc k) item is less = item-entry items n k ite
 
 pub moment-from : (events : List CoreEvent) (moment : ℕ) → is_well_formed events ≡ true
     → moment ≤ last_moment events → IsMoment events moment
-moment-from events moment well_formed last =
-    grind (arith, option_cases, first_below-found)
+moment-from events moment well_formed last = grind (arith, option_cases, first_below-found)
 
 covers-some : (there : Option CoreEvent) (sector : ℕ) → covers_at sector there ≡ true
     → (bio : Bio) × (there ≡ Some (Submit bio)) × (covers bio sector ≡ true)
-covers-some (Some (Submit bio)) sector h = (bio, refl, h)
-covers-some (Some (Complete id ok)) sector h = cc
-covers-some (Some (Mark text)) sector h = cc
-covers-some (Some (Stop cause)) sector h = cc
-covers-some (Some Close) sector h = cc
-covers-some None sector h = cc
+covers-some there sector h = grind arith
 
 success-end : (events : List CoreEvent) (found : Option ℕ) → is_success_at events found ≡ true
     → (end : ℕ) × (found ≡ Some end)
@@ -228,17 +221,13 @@ pub stands-before : (size : ℕ) (events : List CoreEvent) (moment id event : �
     ≡ Some (id, entry_at size (slice_get (take moment events) id)))
     × (k < length (completion_list (dm_log_writes size) (take moment events)))
 stands-before size events moment id event within queued less =
-    grind (
-      arith,
-      take moment events,
-      queued_listed (dm_log_writes size) (take moment events) id
-          event (queued-shorter events moment id event within less queued),
-      slice_get-within,
-      recorded_list_grows size (take moment events) (drop moment events),
-      take-append-drop moment
-          events,
-      slice_get-append_front,
-    )
+    let step = take moment events in
+    let next_step =
+    queued_listed (dm_log_writes size) (take moment events) id event (queued-shorter events moment
+    id event within less queued) in
+    let last_step = recorded_list_grows size (take moment events) (drop moment events) in
+    let fact = take-append-drop moment events in
+    grind (arith, slice_get-within, slice_get-append_front)
 
 -- The item's queue event is at most the next event after the first `moment` events.
 pub record IsItemBy (size : ℕ) (events : List CoreEvent) (moment : ℕ) (item : Item) : Type 0 where
@@ -316,12 +305,7 @@ covers-value (bios.Read first count) sector h e = cc
 
 value-some : (there : Option CoreEvent) (sector : ℕ) (now : List ℕ)
     → values_at there sector ≡ Some now → (bio : Bio) × (there ≡ Some (Submit bio))
-value-some (Some (Submit bio)) sector now e = (bio, refl)
-value-some (Some (Complete id ok)) sector now e = cc
-value-some (Some (Mark text)) sector now e = cc
-value-some (Some (Stop cause)) sector now e = cc
-value-some (Some Close) sector now e = cc
-value-some None sector now e = cc
+value-some there sector now e = grind arith
 
 pub record IsSized (size : ℕ) (events : List CoreEvent) : Type 0 where
   pub right : is_sector_size size ≡ true

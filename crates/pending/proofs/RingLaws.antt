@@ -1,15 +1,15 @@
 -- Laws of rows in lists, of links that lead over rows (ways, rings, chains), and of rows' values.
 use Rattle.std.proofs.Common.{◌<◌, ◌≤◌, List, [], ◌∷◌, length, map, get_or, ◌++◌, set, Option, Some}
-use Rattle.std.proofs.Common.{None, refl, ap, sym, ◌∙◌, arith, length-append, ◌≡◌, ◌≢◌, ℕ, zero}
+use Rattle.std.proofs.Common.{None, refl, ap, sym, arith, length-append, ◌≡◌, ◌≢◌, ℕ, zero}
 use Rattle.std.proofs.Common.{suc, ◌+◌}
-use Rattle.std.specs.Prelude.{is_some, IfSome, true, false}
+use Rattle.std.specs.Prelude.{is_some, IfSome, true}
 use Rattle.std.proofs.lemmas.Bool.{cases_lt, eq-eqb, ne_eqb}
 use Rattle.std.proofs.lemmas.List.{get_or-set_same, get_or-set_other, get_or_append_left, map-set}
 use Rattle.std.proofs.lemmas.List.{get_or_past}
 use Rattle.std.proofs.lemmas.List.Sums.{sum_by-cons, sum_by-set}
 use Rattle.std.specs.List.{sum_by}
 use Rattle.pending.specs.ChainsView.{chain_in, fronted, joined}
-use Rattle.pending.specs.inside.Tables.{filled, after, times, value_at, values_of, with_value}
+use Rattle.pending.specs.inside.Tables.{filled, after, times, value_at, values_of}
 use Rattle.pending.specs.inside.Tables.{Leads, IsRing, IsChain}
 
 pub times-same : (row other : ℕ) (rows : List ℕ) → other ≡ row
@@ -88,19 +88,14 @@ pub ring-kept : (next new : List ℕ) (last : ℕ) (rows : List ℕ) (one two : 
     → SameBut next new one two
     → times one rows ≡ 0 → times two rows ≡ 0 → IsRing new last rows
 ring-kept next new last rows one two ring same first second =
-    grind (
-      arith,
-      times-sources next last rows last one ring.leads,
-      times-sources next last rows
-          last two ring.leads,
-      leads-kept,
-    )
+    let step = times-sources next last rows last one ring.leads in
+    let next_step = times-sources next last rows last two ring.leads in
+    grind (arith, leads-kept)
 
 pub chain-kept : (next new : List ℕ) (last : Option ℕ) (rows : List ℕ) (one two : ℕ)
     → IsChain next last rows → SameBut next new one two
     → times one rows ≡ 0 → times two rows ≡ 0 → IsChain new last rows
-chain-kept next new None rows one two chain same first second = chain
-chain-kept next new (Some last) rows one two chain same first second = grind (arith, ring-kept)
+chain-kept next new last rows one two chain same first second = grind (arith, ring-kept)
 
 pub sources-none : (next : List ℕ) (from : ℕ) (rows : List ℕ) (to row : ℕ) → Leads next from rows to
     → times row (from ∷ rows) ≡ 0
@@ -138,12 +133,7 @@ ring-turned next last front row back ring =
 
 pub some-of : (found : Option ℕ) (row : ℕ) → is_some found ≡ true
     → IfSome found (λ other. other ≡ row) → found ≡ Some row
-some-of (Some other) row there same = grind arith
-some-of None row there same = cc
-
-pub none-of : (found : Option ℕ) → is_some found ≡ false → found ≡ None
-none-of (Some other) there = cc
-none-of None there = refl
+some-of found row there same = grind arith
 
 pub there : {X : Type 0} (chains : List (List X)) (chain : ℕ) → 0 < length (chain_in chains chain)
     → chain < length chains
@@ -187,15 +177,10 @@ chain-map f [] chain none = sym none
 chain-map f (xs ∷ chains) zero none = refl
 chain-map f (xs ∷ chains) (suc chain) none = chain-map f chains chain none
 
-pub with-append : {T : Type 0} (found : Option T) (xs ys : List T)
-    → with_value found (xs ++ ys) ≡ with_value found xs ++ ys
-with-append None xs ys = refl
-with-append (Some value) xs ys = refl
-
 pub values-append : {T : Type 0} (rows : List (Option T)) (xs ys : List ℕ)
     → values_of rows (xs ++ ys) ≡ values_of rows xs ++ values_of rows ys
 values-append rows [] ys = refl
-values-append rows (x ∷ xs) ys = grind (arith, values-append rows xs ys, with-append)
+values-append rows (x ∷ xs) ys = grind (arith, values-append rows xs ys)
 
 pub values-kept : {T : Type 0} (rows : List (Option T)) (row : ℕ) (value : Option T)
     (chain : List ℕ) → times row chain ≡ 0
@@ -203,9 +188,9 @@ pub values-kept : {T : Type 0} (rows : List (Option T)) (row : ℕ) (value : Opt
 values-kept rows row value [] none = refl
 values-kept rows row value (other ∷ chain) none =
     let apart : other ≢ row = not-first row other chain none in
-    ap (λ found. with_value found (values_of (set rows row value) chain))
-    (get_or-set_other rows row other value None apart)
-    ∙ ap (with_value (value_at rows other)) (values-kept rows row value chain (omega (arith, times-other row other chain apart)))
+    let step =
+    values-kept rows row value chain (omega (arith, times-other row other chain apart)) in
+    grind (arith, get_or-set_other, times-other)
 
 pub values-grown : {T : Type 0} (rows more : List (Option T)) (chain : List ℕ)
     → ((row : ℕ) → 0 < times row chain → row < length rows)
@@ -219,26 +204,14 @@ pub values-full : {T : Type 0} (rows : List (Option T)) (chain : List ℕ)
     → length (values_of rows chain) ≡ length chain
 values-full {T} rows [] full = refl
 values-full {T} rows (row ∷ chain) full =
-    by_value (value_at rows row) (full row (omega (arith, times-same row row chain refl)))
-    (values-full rows chain (λ r some. full r (omega arith)))
-  where
-    by_value : (found : Option T) → filled found ≡ 1 → length (values_of rows chain) ≡ length chain
-        → length (with_value found (values_of rows chain)) ≡ suc (length chain)
-    by_value None not_there rest = absurd (omega arith)
-    by_value (Some value) there rest = ap suc rest
+    grind (arith, values-full rows chain (λ r some. full r (omega arith)), times-same)
 
 pub values-none : {T : Type 0} (rows : List (Option T)) (chain : List ℕ)
     → ((row : ℕ) → 0 < times row chain → filled (value_at rows row) ≡ 0)
     → values_of rows chain ≡ []
 values-none {T} rows [] none = refl
 values-none {T} rows (row ∷ chain) none =
-    by_value (value_at rows row) (none row (omega (arith, times-same row row chain refl)))
-    (values-none rows chain (λ r some. none r (omega arith)))
-  where
-    by_value : (found : Option T) → filled found ≡ 0 → values_of rows chain ≡ []
-        → with_value found (values_of rows chain) ≡ []
-    by_value None not_there rest = rest
-    by_value (Some value) some rest = absurd (omega arith)
+    grind (arith, values-none rows chain (λ r some. none r (omega arith)), times-same)
 
 pub values-first : {T : Type 0} (rows : List (Option T)) (row : ℕ) (rest : List ℕ) (value : T)
     → value_at rows row ≡ Some value
@@ -247,12 +220,10 @@ values-first rows row rest value is = grind arith
 
 pub value-there : {T : Type 0} (found : Option T) → filled found ≡ 1
     → (value : T) × (found ≡ Some value)
-value-there None not_there = absurd (omega arith)
-value-there (Some value) is = (value, refl)
+value-there found not_there = grind arith
 
 pub value-none : {T : Type 0} (found : Option T) → filled found ≡ 0 → found ≡ None
-value-none None not_there = refl
-value-none (Some value) is = absurd (omega arith)
+value-none found not_there = grind arith
 
 pub map-joined : {T : Type 0} (rows : List (Option T)) (chains : List (List ℕ)) (from onto : ℕ)
     → map (values_of rows) (joined chains from onto)

@@ -47,8 +47,7 @@ ring-found next last (row ∷ rows) steps ring few long = grind (arith, way-foun
 pub chain-found : (next : List ℕ) (last : Option ℕ) (rows : List ℕ) → IsChain next last rows
     → ((row : ℕ) → times row rows ≤ 1)
     → length rows ≤ length next → rows ≡ chain_of next last
-chain-found next None rows chain few long = chain
-chain-found next (Some last) rows chain few long = grind (arith, ring-found)
+chain-found next last rows chain few long = grind (arith, ring-found)
 
 -- The links determine the chains that they hold.
 pub chains-found : {next : List ℕ} {lasts : List (Option ℕ)} {loose : List ℕ}
@@ -64,16 +63,9 @@ chains-found {next} {lasts} {loose} {chains} h =
     (λ row. let few = few-in h i row in omega arith) long
     ∙ sym (get_or-map (chain_of next) lasts i None [] small))
 
--- If no chain is walked, each chain's last row is the stored one.
-pub seen-rest : (lasts : List (Option ℕ)) (walk : Option Walk) → walked_in walk ≡ None
-    → seen_lasts lasts walk ≡ lasts
-seen-rest lasts None rest = refl
-seen-rest lasts (Some walk) rest = cc
-
 pub walk-rest : (lasts : List (Option ℕ)) (walk : Option Walk) → walked_in walk ≡ None
     → IsWalk lasts walk
-walk-rest lasts None rest = tt
-walk-rest lasts (Some walk) rest = absurd (cc)
+walk-rest lasts walk rest = grind arith
 
 -- Chain 0 has the free rows.
 pub in-neither : (chains : List (List ℕ)) (from onto : ℕ) (left all : List ℕ) → 0 < from → 0 < onto
@@ -82,13 +74,11 @@ in-neither chains from onto left all some more = grind (arith, in-other)
 
 pub seen-grown : (lasts : List (Option ℕ)) (walk : Option Walk) → IsWalk lasts walk
     → seen_lasts (lasts ++ None ∷ []) walk ≡ seen_lasts lasts walk ++ None ∷ []
-seen-grown lasts None walks = refl
-seen-grown lasts (Some walk) walks = set-append_left lasts (None ∷ []) walk.chain walk.at walks.1
+seen-grown lasts walk walks = grind (arith, set-append_left)
 
 pub walk-grown : (lasts : List (Option ℕ)) (walk : Option Walk) → IsWalk lasts walk
     → IsWalk (lasts ++ None ∷ []) walk
-walk-grown lasts None walks = tt
-walk-grown lasts (Some walk) walks = grind (arith, length-append)
+walk-grown lasts walk walks = grind (arith, length-append)
 
 module _ {T : Type 0} where
   pub table-at : {next : List ℕ} {rows : List (Option T)} (lasts other : List (Option ℕ))
@@ -99,7 +89,7 @@ module _ {T : Type 0} where
   pub table-rest : {links : Links} {rows : List (Option T)} {walk : Option Walk}
       → IsSound links rows walk → walked_in walk ≡ None
       → IsTable links.next.items links.lasts.items rows (seen_chains links walk)
-  table-rest {links} {rows} {walk} s rest = grind (arith, table-at, seen-rest)
+  table-rest {links} {rows} {walk} s rest = grind (arith, table-at)
 
   pub seen-of : (links : Links) (rows : List (Option T)) (walk : Option Walk)
       (chains : List (List ℕ))
@@ -121,7 +111,7 @@ module _ {T : Type 0} where
       (chains : List (List ℕ)) → walked_in walk ≡ None
       → IsTable links.next.items links.lasts.items rows chains
       → IsTable links.next.items (seen_lasts links.lasts.items walk) rows chains
-  table-seen links rows walk chains rest t = grind (arith, table-at, seen-rest)
+  table-seen links rows walk chains rest t = grind (arith, table-at)
 
   -- If no value is written and the free rows stay the same, a change of links keeps the table.
   pub table-kept : {next : List ℕ} {lasts : List (Option ℕ)} {rows : List (Option T)}

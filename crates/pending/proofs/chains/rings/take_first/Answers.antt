@@ -1,5 +1,5 @@
-use Rattle.std.proofs.Common.{ℕ, List, ◌∷◌, set, Some, refl, ap, sym, ◌∙◌, subst, arith, length-set}
-use Rattle.pending.proofs.RingLaws.{none-of, some-of}
+use Rattle.std.proofs.Common.{ℕ, List, ◌∷◌, Some, refl, ap, sym, ◌∙◌, subst, arith, length-set}
+use Rattle.pending.proofs.RingLaws.{some-of}
 use Rattle.pending.specs.ChainsView.{shortened}
 use Rattle.pending.specs.inside.Tables.{Holds}
 use Rattle.pending.proofs.HoldsLaws.{last-again, last-is-row, holds-same}
@@ -9,22 +9,7 @@ pub next-first-requires : goal.next-first-requires
 next-first-requires c = grind (arith, last-is-row)
 
 pub returns-then-is_none-clause-changes : goal.returns-then-is_none-clause-changes
-returns-then-is_none-clause-changes c = grind (arith, none-of, length-set)
-
-pub returns-then-is_none-clause-holds : goal.returns-then-is_none-clause-holds
-returns-then-is_none-clause-holds c = λ loose chains h.
-    let there = sym c.last.ensures ∙ c.in_ok-last.was in
-    let none = none-of c.cut.result c.if-is_none.ensures in
-    let noted = c.args.links.now.lasts.items in
-    let row = ap (λ r. r ∷ loose) c.next-first.ensures in
-    let P : List ℕ → Type 0 =
-    λ rows. Holds c.write.new.self.next.items c.write.new.self.lasts.items rows
-    (shortened chains c.args.chain) in
-    subst P (sym row) (holds-same c.cut.new.links.next.items c.write.new.self.next.items
-    c.write.new.self.lasts.items c.write.ensures.next
-    (grind (arith, c.write.ensures.lasts, c.cut.ensures.lasts)
-    ∙ ap (set noted c.args.chain) (sym none))
-    (c.cut.ensures.holds noted loose chains c.args.chain h there))
+returns-then-is_none-clause-changes c = grind (arith, length-set)
 
 pub returns-else-is_none-clause-holds : goal.returns-else-is_none-clause-holds
 returns-else-is_none-clause-holds c = λ loose chains h.

@@ -1,9 +1,9 @@
-use Rattle.std.proofs.Common.{◌≡◌, ◌++◌, ◌∷◌, ℕ, List, None, Some, ap, arith, length, refl}
-use Rattle.std.proofs.Common.{[], false, set, sym, true, ◌∙◌, vec_capacity}
+use Rattle.std.proofs.Common.{◌≡◌, ◌++◌, ◌∷◌, ℕ, List, None, Some, ap, arith, length}
+use Rattle.std.proofs.Common.{[], false, set, true, ◌∙◌, vec_capacity}
 use Rattle.std.proofs.lemmas.List.{get_or_read_under}
 use Rattle.pending.specs.ChainsView.{chain_in}
 use Rattle.pending.specs.declared.row.PendingEntry.{PendingEntry}
-use Rattle.pending.specs.inside.Tables.{IsTable, is_marked, seen_chains, seen_lasts, value_at}
+use Rattle.pending.specs.inside.Tables.{IsTable, seen_chains, seen_lasts, value_at}
 use Rattle.pending.specs.inside.Tables.{values_of, walked_in}
 use Rattle.pending.proofs.MarkLaws.{marked-of, marks-removed}
 use Rattle.pending.proofs.MiddleLaws.{marked-within, passed, passed-changes, passed-counts}
@@ -12,10 +12,7 @@ use Rattle.pending.proofs.TableLaws.{in-neither, keeps-room, seen-of, walk-rest}
 use Rattle.pending.proofs.chains.marked.Chains+PendingEntry.pass_on.Goals as goal
 
 pub index-requires : goal.index-requires
-index-requires c =
-    let marked : is_marked c.self.inside.marks.rows.items c.args.row ≡ true = grind arith in
-    let less = marked-within c.self.invariant c.args.row marked in
-    omega arith
+index-requires c = grind (arith, marked-within)
 
 pub next-requires : goal.next-requires
 next-requires c = grind (arith, true, marked-within)
@@ -30,12 +27,7 @@ parts : (c : goal.After-put_last)
 parts c = row-parts c.self.invariant c.args.row (grind arith)
 
 pub put_last-requires : goal.put_last-requires
-put_last-requires c =
-    let rest = rw (← c.self.view_is) at c.requires.rests in
-    let onto = rw (← c.self.view_is) at c.requires.onto in
-    let p = row-parts c.self.invariant c.args.row (grind arith) in
-    passed-loose c.self.invariant.sound rest c.args.row c.args.onto p.0 p.1 p.2
-    c.take_row.ensures.changes c.take_row.ensures.holds onto.1
+put_last-requires c = grind (arith, row-parts, passed-loose)
 
 table : (c : goal.After-put_last)
     → IsTable c.put_last.new.links.next.items

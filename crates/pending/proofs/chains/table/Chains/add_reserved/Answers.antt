@@ -67,13 +67,9 @@ returns-clause-chains g c =
     let cut = shortened chains 0 in
     let there = rw (← c.self.view_is) at c.requires.chain in
     let within : c.args.chain < length cut =
-    omega (
-      arith,
-      length-map chains (values_of c.self.inside.rows.items),
-      length-set chains 0
-          (drop 1 (chain_in chains 0)),
-      there.1,
-    ) in
+    let step = length-map chains (values_of c.self.inside.rows.items) in
+    let next_step = length-set chains 0 (drop 1 (chain_in chains 0)) in
+    omega (arith, there.1) in
     rw (← c.self.view_is)
     (ap (map (values_of c.put_value.new.rows.items)) (seen-of c.put_last.new.links c.put_value.new.rows.items c.self.inside.walk _ (table g c))
     ∙ ap (λ rs. map (values_of rs)

@@ -1,4 +1,4 @@
-use Rattle.std.proofs.Common.{length, None, refl, sym, ◌∙◌, arith}
+use Rattle.std.proofs.Common.{sym, ◌∙◌, arith}
 use Rattle.std.proofs.lemmas.List.{get_or_read_under}
 use Rattle.pending.proofs.HoldsLaws.{first-is-row, last-is-row}
 use Rattle.pending.proofs.CallLaws.{first-row, first-value, row-within}

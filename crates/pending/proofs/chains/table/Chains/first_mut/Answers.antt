@@ -1,4 +1,4 @@
-use Rattle.std.proofs.Common.{length, None, refl, sym, ◌∙◌, arith, vec_capacity}
+use Rattle.std.proofs.Common.{length, None, refl, ◌∙◌, arith, vec_capacity}
 use Rattle.std.proofs.lemmas.List.{get_or_read_under}
 use Rattle.pending.proofs.CallLaws.{first-row, first-value, row-within}
 use Rattle.pending.proofs.WalkLaws.{seen-replaced}

@@ -1,4 +1,4 @@
-use Rattle.std.proofs.Common.{[], ◌++◌, map, drop, take, Some, ap, sym, ◌∙◌, arith, vec_capacity}
+use Rattle.std.proofs.Common.{◌++◌, map, drop, take, Some, ap, sym, ◌∙◌, arith, vec_capacity}
 use Rattle.pending.specs.ChainsView.{chain_in, lifted}
 use Rattle.pending.specs.inside.Tables.{seen_chains, seen_lasts, values_of, walked_in, IsTable}
 use Rattle.pending.proofs.HoldsLaws.{last-is-row, none-at}
@@ -24,13 +24,12 @@ next-row-requires g c =
 
 pub cut-left-requires : goal.cut-left-requires
 cut-left-requires g c =
-    grind (
-      arith,
-      sound-at c.self.inside.walk (Some c.in-Some.walk) c.in-Some.is
-          c.self.invariant.sound,
-      walk-last c.in-Some.walk (sound-at c.self.inside.walk (Some
-          c.in-Some.walk) c.in-Some.is c.self.invariant.sound),
-    )
+    let step =
+    sound-at c.self.inside.walk (Some c.in-Some.walk) c.in-Some.is c.self.invariant.sound in
+    let next_step =
+    walk-last c.in-Some.walk (sound-at c.self.inside.walk (Some c.in-Some.walk) c.in-Some.is
+    c.self.invariant.sound) in
+    grind arith
 
 pub put_first-requires : goal.put_first-requires
 put_first-requires g c =

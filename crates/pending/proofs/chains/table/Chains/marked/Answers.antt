@@ -1,14 +1,11 @@
-use Rattle.std.proofs.Common.{◌≡◌, None, ap, arith, length, refl, true, ◌∙◌}
+use Rattle.std.proofs.Common.{◌≡◌, None, arith, length, refl, true, ◌∙◌}
 use Rattle.std.proofs.lemmas.List.{get_or_read_under}
 use Rattle.pending.specs.inside.Tables.{is_marked, seen_chains}
 use Rattle.pending.proofs.MiddleLaws.{marked-within, row-parts, some-amid}
 use Rattle.pending.proofs.chains.table.Chains.marked.Goals as goal
 
 pub index-requires : goal.index-requires
-index-requires g c =
-    let marked : is_marked c.self.inside.marks.rows.items c.args.row ≡ true = grind arith in
-    let less = marked-within c.self.invariant c.args.row marked in
-    omega arith
+index-requires g c = grind (arith, marked-within)
 
 pub returns : goal.returns
 returns g c =

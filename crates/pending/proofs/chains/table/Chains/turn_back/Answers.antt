@@ -46,13 +46,8 @@ returns-clause-chains g c = λ chain walked.
     c.in-Some-at.at c.before-before.result c.self.invariant.sound c.in-Some.is c.in-Some-at.is
     c.before-before.ensures.within c.before-before.ensures.leads in
     let within : at < length chains =
-    omega (
-      arith,
-      s.table.holds.size,
-      ap (λ k. length (seen_chains links k)) c.in-Some.is,
-      length-set links.lasts.items at c.in-Some.walk.at,
-      s.walks.1,
-    ) in
+    let step = length-set links.lasts.items at c.in-Some.walk.at in
+    omega (arith, s.table.holds.size, ap (λ k. length (seen_chains links k)) c.in-Some.is, s.walks.1) in
     rw (← c.self.view_is)
     (ap (map (values_of rows)) (sym (back-turned chains at back.0 within back.1))
     ∙ shown-turned back.2 at s.walks.0

@@ -21,4 +21,6 @@ mod recording;
 #[cfg(test)]
 mod scenes;
 #[cfg(test)]
+mod starting;
+#[cfg(test)]
 mod work;

@@ -1,15 +1,14 @@
 //! Runs a recorder with a thread for each seat, for the readers and for the writer, and closes it.
-ghost use Rattle.std.specs.Prelude.{◌≡◌, ◌<◌, ◌≤◌};
 ghost use Rattle.std.specs.Thread.{IsSend};
-ghost use Rattle.lock_state.specs.PlacedItems.{ground_of};
 
 use crate::gate::Sign;
+use crate::starting::Act;
 use crate::work::{Call, Player, Tally, Work};
 use bio::{End, Id, Status};
 use blockdev::BlockDev;
 use board::Names;
 use lock_state::{Receipt, Run, Seat};
-use shared::{Closed, Ending, Shared, Started, StatusSeat, Unnamed, WriterSeat};
+use shared::{Closed, Ending, Shared, Started, StatusSeat, WriterSeat};
 use std::alloc::{AllocError, Global};
 use std::sync::Wait;
 use std::thread;
@@ -280,76 +279,62 @@ fn last_looks<D: BlockDev + Drop, L: BlockDev + Drop, R: Run + Names>(
     Ok((seen, rises))
 }
 
-/// Makes the calls of the tables, with a seat for each, and closes the recorder. Returns None if
-/// the recorder or a thread can't be started, or if `ask_close` or the close is refused.
-pub fn play<
-    D: BlockDev + Drop + Send,
-    L: BlockDev + Drop + Send,
-    R: Run + Names + Send + Sync,
-    H: Threads + Wait + Clock + Sync,
->(
-    rt: &H,
-    alloc: Global,
-    unnamed: Unnamed,
-    device: D,
-    log: L,
-    tables: Vec<Table>,
-    count: u64,
-    readers: u64,
-) -> Result<Option<Played<D, L>>, AllocError>
-    requires seats { (0 < count) × (count ≤ 64) }
-    requires readers { readers ≤ 64 }
-    requires ledger { (unnamed.ledger.name ≡ R.name) × (unnamed.ledger.parts ≡ R.parts)
-        × (unnamed.ledger.parts ≡ count) }
-    requires table { (unnamed.table ≡ R.table) × (unnamed.stops ≡ R.stops)
-        × (unnamed.ends ≡ R.ends) }
-    requires board { unnamed.board ≡ R.board }
-    requires sectors { (D.shown device).size ≡ R.sectors }
-    requires log { R.log ≡ ground_of (L.shown log) }
-    requires sector_size { R.sector_bytes ≡ 512 }
-{
-    let Ok(started) = Shared::<D, L, R>::new(alloc, unnamed, device, log, count, readers) else {
-        return Ok(None);
-    };
-    let Started {
-        recorder,
-        seats,
-        mut writer,
-        readers,
-    } = started;
-    let watches = watches_of(alloc, readers)?;
-    let works = works_of(alloc, seats, tables)?;
-    let Some(called) = run_all(rt, alloc, &recorder, &mut writer, works, watches) else {
-        return Ok(None);
-    };
-    let Called { works, watches } = called;
-    let Parts {
-        seats,
-        receipts,
-        tallies,
-        let_go,
-    } = parts_of(alloc, works)?;
-    let (seen, rises) = last_looks(alloc, &recorder, watches)?;
-    let kept = names_of(alloc, receipts.as_slice())?;
-    let Ok(
-        Ending {
+/// Makes the calls of the tables, with a seat for each, and closes the recorder. Returns None if a
+/// thread can't be started, or if `ask_close` or the close is refused.
+#[derive(Drop)]
+pub struct Play {
+    pub tables: Vec<Table>,
+}
+
+impl<D: BlockDev + Drop + Send, L: BlockDev + Drop + Send> Act<D, L> for Play {
+    type Out = Option<Played<D, L>>;
+
+    fn act<R: Run + Names + Send + Sync, H: Threads + Wait + Clock + Sync>(
+        self,
+        rt: &H,
+        alloc: Global,
+        started: Started<D, L, R>,
+    ) -> Result<Option<Played<D, L>>, AllocError> {
+        let Started {
+            recorder,
+            seats,
+            mut writer,
+            readers,
+        } = started;
+        let watches = watches_of(alloc, readers)?;
+        let works = works_of(alloc, seats, self.tables)?;
+        let Some(called) = run_all(rt, alloc, &recorder, &mut writer, works, watches) else {
+            return Ok(None);
+        };
+        let Called { works, watches } = called;
+        let Parts {
+            seats,
+            receipts,
+            tallies,
+            let_go,
+        } = parts_of(alloc, works)?;
+        let (seen, rises) = last_looks(alloc, &recorder, watches)?;
+        let kept = names_of(alloc, receipts.as_slice())?;
+        let Ok(
+            Ending {
+                closed,
+                posts: _,
+                released,
+                written: _,
+                found: _,
+            },
+        ) = recorder.close(seats, writer, receipts)
+        else {
+            return Ok(None);
+        };
+        Ok(Some(Played {
+            tallies,
+            let_go,
+            seen,
+            rises,
+            receipts: kept,
             closed,
-            posts: _,
             released,
-            written: _,
-            found: _,
-        },
-    ) = recorder.close(seats, writer, receipts)
-    else {
-        return Ok(None);
-    };
-    Ok(Some(Played {
-        tallies,
-        let_go,
-        seen,
-        rises,
-        receipts: kept,
-        closed,
-        released,
-    }))
+        }))
+    }
 }

@@ -3,15 +3,14 @@
 ghost use Rattle.std.specs.Prelude.{◌<◌, ◌≤◌};
 
 use crate::gate::{Gate, Sign};
-use crate::play::{Played, Table, play};
+use crate::play::{Play, Played, Table};
+use crate::starting::start;
 use crate::work::{Call, Tally};
 use bio::{End, Status};
 use blockdev::BlockDev;
 use sector_disk::SectorDisk;
-use shared::Unnamed;
 use std::alloc::{AllocError, Global};
 use std::io::Print;
-use std::marker::Brand;
 use std::sync::Wait;
 use std::test::*;
 use std::thread::Threads;
@@ -73,8 +72,7 @@ pub fn stage<
     if count == 0 || 64 < count {
         return Ok(None);
     }
-    let unnamed = Unnamed::new(alloc, count)?;
-    play::<D, L, Brand, H>(rt, alloc, unnamed, device, log, tables, count, readers)
+    Ok(start(rt, alloc, device, log, count, readers, Play { tables })?.flatten())
 }
 
 // Which device holds a call.

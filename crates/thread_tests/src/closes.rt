@@ -1,14 +1,14 @@
 //! Tests of a recorder with one seat: its calls, a close before `ask_close`, and a close that
 //! writes the whole log itself.
-use crate::starting::{Act, start};
+use crate::starting::{Act, close, start, submit};
 use crate::work::{Call, bio_of};
 use bio::{Bio, End, Ms, Status};
 use blockdev::BlockDev;
-use board::Names;
-use lock_state::{Receipt, Run};
+use board::{Names, StatusSeat};
+use lock_state::{Receipt, Run, Seat};
 use refusals::Refusal;
 use sector_disk::SectorDisk;
-use shared::{Answer, Ending, MarkAnswer, Started, Unclosed};
+use shared::{Answer, Closed, Ending, MarkAnswer, Open, Started, Unclosed};
 use std::alloc::{AllocError, Global};
 use std::sync::Wait;
 use std::test::*;
@@ -35,25 +35,13 @@ fn write(alloc: Global, first: u64, byte: u8, fua: bool) -> Result<Bio, AllocErr
     bio_of(alloc, Call::Write { first, byte, fua })
 }
 
-// Submits a request of the one seat. Returns None if there isn't one seat.
-fn submit<D: BlockDev + Drop, L: BlockDev + Drop, R: Run + Names, H: Wait>(
-    rt: &H,
-    started: &mut Started<D, L, R>,
-    bio: Bio,
-) -> Option<Answer<Receipt<R>>> {
-    match started.seats.as_mut_slice() {
-        [seat] => Some(started.recorder.submit(rt, seat, bio, Ms::new(0))),
-        _ => None,
-    }
-}
-
 // Returns whether the one seat's request is done.
 fn is_done<D: BlockDev + Drop, L: BlockDev + Drop, R: Run + Names, H: Wait>(
     rt: &H,
     started: &mut Started<D, L, R>,
     bio: Bio,
 ) -> bool {
-    matches!(submit(rt, started, bio), Some(Answer::Done))
+    matches!(submit(rt, started, bio, Ms::new(0)), Some(Answer::Done))
 }
 
 // Returns the answer to a mark of the one seat. Returns None if there isn't one seat.
@@ -116,25 +104,37 @@ fn is_closed_once_asked<D: BlockDev + Drop, L: BlockDev + Drop, R: Run + Names, 
     alloc: Global,
     started: Started<D, L, R>,
 ) -> bool {
-    let Started {
-        recorder,
-        seats,
-        writer,
-        readers: _,
-    } = started;
-    let Err(Unclosed::Busy(back)) = recorder.close(seats, writer, Vec::new(alloc)) else {
+    let Some(open) = closed_too_soon(alloc, started) else {
         return false;
     };
-    if back.recorder.ask_close(rt).is_err() || back.recorder.ask_close(rt).is_err() {
-        return false;
+    let is_asked = open.recorder.ask_close(rt).is_ok();
+    let is_asked_again = open.recorder.ask_close(rt).is_ok();
+    let is_whole = is_whole(open);
+    is_asked && is_asked_again && is_whole
+}
+
+// Closes a recorder. Returns what it got if it isn't closed since `ask_close` hasn't succeeded.
+fn closed_too_soon<D: BlockDev + Drop, L: BlockDev + Drop, R: Run + Names>(
+    alloc: Global,
+    started: Started<D, L, R>,
+) -> Option<Open<D, L, R>> {
+    match close(alloc, started) {
+        Err(Unclosed::Busy(open)) => Some(open),
+        _ => None,
     }
-    match back.recorder.close(back.seats, back.writer, back.receipts) {
-        Ok(ending) => {
-            let closed = ending.closed;
-            closed.placed.len() == 2 && closed.settled == 2 && closed.end.is_none()
-        }
+}
+
+// Returns whether a recorder is closed with two entries, which are settled.
+fn is_whole<D: BlockDev + Drop, L: BlockDev + Drop, R: Run + Names>(open: Open<D, L, R>) -> bool {
+    match &open.recorder.close(open.seats, open.writer, open.receipts) {
+        Ok(ending) => has_settled(&ending.closed, 2),
         Err(_) => false,
     }
+}
+
+// Returns whether `count` entries are placed and settled, and logging hasn't ended.
+fn has_settled<D: Drop, L: Drop>(closed: &Closed<D, L>, count: u64) -> bool {
+    closed.placed.len() as u64 == count && closed.settled == count && closed.end.is_none()
 }
 
 // The seat writes, flushes and reads. After `ask_close` the writer writes everything, so the close
@@ -169,7 +169,7 @@ fn are_answered<D: BlockDev + Drop, L: BlockDev + Drop, R: Run + Names, H: Wait>
     let is_written = is_done(rt, started, write(alloc, 1, 7, false)?);
     let is_flushed = is_done(rt, started, Bio::Flush);
     let is_other_written = is_done(rt, started, write(alloc, 2, 9, false)?);
-    let read = submit(rt, started, Bio::Read { first: 1, count: 2 });
+    let read = submit(rt, started, Bio::Read { first: 1, count: 2 }, Ms::new(0));
     let is_read = read.is_some_and(|answer| has_read(&answer));
     Ok(is_written && is_flushed && is_other_written && is_read)
 }
@@ -185,31 +185,27 @@ fn is_written<D: BlockDev + Drop, L: BlockDev + Drop, R: Run + Names, H: Wait>(
     let is_asked = started.recorder.ask_close(rt).is_ok();
     started.recorder.write_loop(rt, &mut started.writer);
     let behind = look(&mut started);
-    let Started {
-        recorder,
-        seats,
-        writer,
-        mut readers,
-    } = started;
-    let Ok(
-        Ending {
-            closed,
-            mut posts,
-            released,
-            written,
-            found,
-        },
-    ) = recorder.close(seats, writer, Vec::new(alloc))
-    else {
-        return false;
-    };
-    for reader in readers.iter_mut() {
-        posts.agree(reader);
+    let (seats, writer) = (started.seats, started.writer);
+    match &mut started.recorder.close(seats, writer, Vec::new(alloc)) {
+        Ok(ending) => is_asked && is_posted(ending, started.readers.as_mut_slice(), behind),
+        Err(_) => false,
     }
-    let goes_on = closed.end.is_none() && released.is_none() && found.is_none();
-    let is_written = closed.placed.len() == 4 && closed.settled == 4 && written == 4;
-    let is_posted = behind == Some(closed.status) && posts.last() == closed.status;
-    is_asked && goes_on && is_written && is_posted
+}
+
+// Returns whether four entries were written before the close, and the last posted status is that of
+// the log and `behind`.
+fn is_posted<D: Drop, L: Drop, R: Run + Names>(
+    ending: &mut Ending<D, L, R>,
+    readers: &mut [StatusSeat<R>],
+    behind: Option<Status>,
+) -> bool {
+    for reader in readers.iter_mut() {
+        ending.posts.agree(reader);
+    }
+    let goes_on = ending.released.is_none() && ending.found.is_none();
+    let is_written = has_settled(&ending.closed, 4) && ending.written == 4;
+    let status = ending.closed.status;
+    goes_on && is_written && behind == Some(status) && ending.posts.last() == status
 }
 
 // Logging ends before the seat's calls. A FUA write and a mark then return the cause of the end,
@@ -227,14 +223,22 @@ impl<D: BlockDev + Drop, L: BlockDev + Drop> Act<D, L> for Stopped {
         started: Started<D, L, R>,
     ) -> Result<bool, AllocError> {
         let mut started = started;
-        started.recorder.give_up(rt);
-        let told = submit(rt, &mut started, write(alloc, 1, 7, true)?);
-        let is_told = matches!(told, Some(Answer::NotLogged(End::Memory)));
-        let is_done = is_done(rt, &mut started, write(alloc, 2, 7, false)?);
-        let marked = mark(rt, &mut started);
-        let is_marked = matches!(marked, Some(MarkAnswer::NotLogged(End::Memory)));
-        Ok(is_told && is_done && is_marked)
+        tells_stop(rt, alloc, &mut started)
     }
+}
+
+fn tells_stop<D: BlockDev + Drop, L: BlockDev + Drop, R: Run + Names, H: Wait>(
+    rt: &H,
+    alloc: Global,
+    started: &mut Started<D, L, R>,
+) -> Result<bool, AllocError> {
+    started.recorder.give_up(rt);
+    let told = submit(rt, started, write(alloc, 1, 7, true)?, Ms::new(0));
+    let is_told = matches!(told, Some(Answer::NotLogged(End::Memory)));
+    let is_done = is_done(rt, started, write(alloc, 2, 7, false)?);
+    let marked = mark(rt, started);
+    let is_marked = matches!(marked, Some(MarkAnswer::NotLogged(End::Memory)));
+    Ok(is_told && is_done && is_marked)
 }
 
 // Writes sector `first`, and calls `ask_close`. Returns whether both succeeded.
@@ -263,14 +267,22 @@ impl<D: BlockDev + Drop, L: BlockDev + Drop> Act<D, L> for Late {
         started: Started<D, L, R>,
     ) -> Result<bool, AllocError> {
         let mut started = started;
-        let is_asked = writes_and_asks(rt, alloc, &mut started, 1)?;
-        let is_done = is_done(rt, &mut started, write(alloc, 1, 7, true)?);
-        let is_refused = match mark(rt, &mut started) {
-            Some(MarkAnswer::Refused(refusal)) => Refusal::from(refusal).number() == 36,
-            _ => false,
-        };
-        Ok(is_asked && is_done && is_refused)
+        refuses_mark(rt, alloc, &mut started)
     }
+}
+
+fn refuses_mark<D: BlockDev + Drop, L: BlockDev + Drop, R: Run + Names, H: Wait>(
+    rt: &H,
+    alloc: Global,
+    started: &mut Started<D, L, R>,
+) -> Result<bool, AllocError> {
+    let is_asked = writes_and_asks(rt, alloc, started, 1)?;
+    let is_done = is_done(rt, started, write(alloc, 1, 7, true)?);
+    let is_refused = match mark(rt, started) {
+        Some(MarkAnswer::Refused(refusal)) => Refusal::from(refusal).number() == 36,
+        _ => false,
+    };
+    Ok(is_asked && is_done && is_refused)
 }
 
 // The first of two recorders whose seats are swapped. Each close is then refused as `Foreign`, and
@@ -289,7 +301,8 @@ impl<D: BlockDev + Drop, L: BlockDev + Drop> Act<D, L> for First {
     ) -> Result<bool, AllocError> {
         let mut started = started;
         let is_asked = writes_and_asks(rt, alloc, &mut started, 1)?;
-        Ok(is_asked && on_disks(rt, alloc, Second { first: started })?)
+        let are_foreign = on_disks(rt, alloc, Second { first: started })?;
+        Ok(is_asked && are_foreign)
     }
 }
 
@@ -314,13 +327,20 @@ impl<
         alloc: Global,
         started: Started<E, M, C>,
     ) -> Result<bool, AllocError> {
-        let (mut one, mut other) = (self.first, started);
-        let is_asked = writes_and_asks(rt, alloc, &mut other, 2)?;
-        let are_exchanged = match (one.seats.as_mut_slice(), other.seats.as_mut_slice()) {
-            ([seat], [other]) => seat.exchange_calls(other),
-            _ => false,
-        };
-        Ok(is_asked && are_exchanged && is_foreign(alloc, one) && is_foreign(alloc, other))
+        let (mut first, mut second) = (self.first, started);
+        let is_asked = writes_and_asks(rt, alloc, &mut second, 2)?;
+        let are_exchanged = exchange(&mut first.seats, &mut second.seats);
+        let is_first_foreign = is_foreign(alloc, first);
+        let is_second_foreign = is_foreign(alloc, second);
+        Ok(is_asked && are_exchanged && is_first_foreign && is_second_foreign)
+    }
+}
+
+// Exchanges the calls of two seats.
+fn exchange<R: Run, C: Run>(seats: &mut [Seat<R>], others: &mut [Seat<C>]) -> bool {
+    match (seats, others) {
+        ([seat], [other]) => seat.exchange_calls(other),
+        _ => false,
     }
 }
 
@@ -330,13 +350,7 @@ fn is_foreign<D: BlockDev + Drop, L: BlockDev + Drop, R: Run + Names>(
     alloc: Global,
     started: Started<D, L, R>,
 ) -> bool {
-    let Started {
-        recorder,
-        seats,
-        writer,
-        readers: _,
-    } = started;
-    match recorder.close(seats, writer, Vec::new(alloc)) {
+    match &close(alloc, started) {
         Err(Unclosed::Foreign(back)) => {
             let is_unposted = back.posts.last().entries == 0;
             back.seats.len() == 1 && back.closed.placed.is_empty() && is_unposted

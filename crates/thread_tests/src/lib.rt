@@ -23,4 +23,6 @@ mod scenes;
 #[cfg(test)]
 mod starting;
 #[cfg(test)]
+mod values;
+#[cfg(test)]
 mod work;

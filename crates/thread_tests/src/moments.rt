@@ -1,7 +1,7 @@
 //! Tests of the time at which the device gets a seat's request.
 ghost use Rattle.std.specs.Prelude.{◌≡◌};
 
-use crate::starting::{Act, start};
+use crate::starting::{Act, close, start, submit};
 use crate::work::{Call, bio_of};
 use bio::{Bio, DevError, Ms};
 use blockdev::BlockDev;
@@ -93,26 +93,25 @@ impl<D: BlockDev + Drop, L: BlockDev + Drop> Act<Timed<D>, L> for Submit {
         alloc: Global,
         started: Started<Timed<D>, L, R>,
     ) -> Result<bool, AllocError> {
-        let Started {
-            recorder,
-            mut seats,
-            writer,
-            readers: _,
-        } = started;
-        let is_asked_first = !self.late || recorder.ask_close(rt).is_ok();
-        let is_answered = match seats.as_mut_slice() {
-            [seat] => {
-                let answer = recorder.submit(rt, seat, self.bio, Ms::new(5));
-                matches!(answer, Answer::Done | Answer::Read(_))
-            }
-            _ => false,
-        };
-        let is_asked = is_asked_first && recorder.ask_close(rt).is_ok();
-        let is_at_five = match recorder.close(seats, writer, Vec::new(alloc)) {
-            Ok(ending) => ending.closed.device.last == Ms::new(5),
-            Err(_) => false,
-        };
-        Ok(is_answered && is_asked && is_at_five)
+        let mut started = started;
+        let is_asked_first = !self.late || started.recorder.ask_close(rt).is_ok();
+        let answer = submit(rt, &mut started, self.bio, Ms::new(5));
+        let is_answered = matches!(answer, Some(Answer::Done | Answer::Read(_)));
+        let is_asked = started.recorder.ask_close(rt).is_ok();
+        let is_at_five = is_last_at(alloc, started, Ms::new(5));
+        Ok(is_asked_first && is_answered && is_asked && is_at_five)
+    }
+}
+
+// Closes a recorder. Returns whether the device's last call was at the time `moment`.
+fn is_last_at<D: BlockDev + Drop, L: BlockDev + Drop, R: Run + Names>(
+    alloc: Global,
+    started: Started<Timed<D>, L, R>,
+    moment: Ms,
+) -> bool {
+    match &close(alloc, started) {
+        Ok(ending) => ending.closed.device.last == moment,
+        Err(_) => false,
     }
 }
 

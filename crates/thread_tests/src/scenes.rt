@@ -134,7 +134,7 @@ fn gated<H: Threads + Wait + Clock + Print + Sync + Send + Copy + Drop>(
     };
     let is_let_go = holds(
         rt,
-        played.let_go,
+        played.found.let_go,
         "the call was held until the other was answered",
     );
     let is_status = is_same(rt, &played.closed.status, &scene.status, "a scene's status");
@@ -144,7 +144,7 @@ fn gated<H: Threads + Wait + Clock + Print + Sync + Send + Copy + Drop>(
         &scene.status.end,
         "why waiters are let go",
     );
-    let are_tallies = are_answered(rt, played.tallies.as_slice(), scene.tallies);
+    let are_tallies = are_answered(rt, played.found.tallies.as_slice(), scene.tallies);
     Ok(are_tallies && is_let_go && is_status && is_end)
 }
 
@@ -352,7 +352,7 @@ fn small_log<H: Threads + Wait + Clock + Print + Sync + Send + Copy + Drop>(
     };
     let is_status = is_same(rt, &played.closed.status, &status, "a small log's status");
     let is_told = is_same(rt, &played.released, &status.end, "why a waiter is let go");
-    let [found] = played.tallies.as_slice() else {
+    let [found] = played.found.tallies.as_slice() else {
         return Ok(holds(rt, false, "one tally"));
     };
     Ok(is_same(rt, found, &answer, "one seat's answer") && is_status && is_told)
@@ -417,7 +417,10 @@ fn failing_log<H: Threads + Wait + Clock + Print + Sync>(
     let is_stop = is_same(rt, &played.closed.stop, &end, "why logging stopped");
     let is_told = is_same(rt, &played.released, &end, "why a waiter is let go");
     let is_status = is_same(rt, &played.closed.status, &status, "a failed log's status");
-    let ([found], [seen]) = (played.tallies.as_slice(), played.seen.as_slice()) else {
+    let ([found], [seen]) = (
+        played.found.tallies.as_slice(),
+        played.found.seen.as_slice(),
+    ) else {
         return Ok(holds(rt, false, "one tally, and one reader"));
     };
     let is_seen = is_same(rt, seen, &status, "the status that was seen last");
@@ -464,7 +467,7 @@ fn failing_device<H: Threads + Wait + Clock + Print + Sync>(
     let Some(played) = stage(rt, alloc, tables, device, log, 0)? else {
         return Ok(holds(rt, false, "one seat plays"));
     };
-    let [found] = played.tallies.as_slice() else {
+    let [found] = played.found.tallies.as_slice() else {
         return Ok(holds(rt, false, "one tally"));
     };
     let failed = Tally {

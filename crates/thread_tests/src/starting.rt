@@ -3,10 +3,11 @@
 ghost use Rattle.std.specs.Prelude.{◌≡◌, ◌<◌, ◌≤◌};
 ghost use Rattle.lock_state.specs.PlacedItems.{ground_of};
 
+use bio::{Bio, Ms};
 use blockdev::BlockDev;
 use board::Names;
-use lock_state::Run;
-use shared::{Shared, Started, Unnamed};
+use lock_state::{Receipt, Run};
+use shared::{Answer, Ending, Mismatch, Open, Shared, Started, Unclosed, Unnamed};
 use std::alloc::{AllocError, Global};
 use std::marker::Brand;
 use std::sync::Wait;
@@ -80,4 +81,27 @@ fn start_named<
         Ok(started) => Ok(Some(act.act(rt, alloc, started)?)),
         Err(_) => Ok(None),
     }
+}
+
+/// Submits a request of the one seat at the time `now`. Returns None if there isn't one seat.
+pub fn submit<D: BlockDev + Drop, L: BlockDev + Drop, R: Run + Names, H: Wait>(
+    rt: &H,
+    started: &mut Started<D, L, R>,
+    bio: Bio,
+    now: Ms,
+) -> Option<Answer<Receipt<R>>> {
+    match started.seats.as_mut_slice() {
+        [seat] => Some(started.recorder.submit(rt, seat, bio, now)),
+        _ => None,
+    }
+}
+
+/// Closes a recorder without receipts.
+pub fn close<D: BlockDev + Drop, L: BlockDev + Drop, R: Run + Names>(
+    alloc: Global,
+    started: Started<D, L, R>,
+) -> Result<Ending<D, L, R>, Unclosed<Open<D, L, R>, Mismatch<D, L, R>>> {
+    started
+        .recorder
+        .close(started.seats, started.writer, Vec::new(alloc))
 }

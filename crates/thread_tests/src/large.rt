@@ -128,7 +128,7 @@ fn four_seats<H: Threads + Wait + Clock + Print + Sync + Send + Copy + Drop>(
         return Ok(holds(rt, false, "four seats play"));
     };
     let is_found = is_found(rt, &played, &status);
-    let read = read_back(alloc, played.closed.log.into_lower());
+    let read = read_back(alloc, played.ended.closed.log.into_lower());
     let is_read = is_same(rt, &read, &listed, "entries that are read back");
     Ok(is_found && is_read)
 }
@@ -136,11 +136,16 @@ fn four_seats<H: Threads + Wait + Clock + Print + Sync + Send + Copy + Drop>(
 // Returns whether the answers, the receipts and the status are those of `four_seats`.
 fn is_found<D: Drop, L: Drop>(rt: &impl Print, played: &Played<D, L>, status: &Status) -> bool {
     let found = &played.found;
-    let has_status = is_same(rt, &played.closed.status, status, "four seats' status");
+    let has_status = is_same(
+        rt,
+        &played.ended.closed.status,
+        status,
+        "four seats' status",
+    );
     let have_answered = have_answers(rt, found.tallies.as_slice(), &tally(OWN, 1, 0));
     let do_rise = holds(rt, found.rises, "no status goes back");
     let are_seen = have_seen(rt, found.seen.as_slice(), status);
-    let placed = played.closed.placed.as_slice();
+    let placed = played.ended.closed.placed.as_slice();
     let are_named = are_named(rt, found.receipts.as_slice(), placed);
     has_status && have_answered && do_rise && are_seen && are_named
 }
@@ -285,7 +290,7 @@ fn readback<H: Threads + Wait + Clock + Print + Sync + Send + Copy + Drop>(
         ..tally(OWN + 4, 0, OWN + 3)
     };
     let have_answered = have_answers(rt, played.found.tallies.as_slice(), &wanted);
-    let mut disk = played.closed.device.into_lower();
+    let mut disk = played.ended.closed.device.into_lower();
     let has_last = have_bytes(&mut disk, alloc, [LATE, LATE, 0])?;
     disk.crash(&[]);
     let has_flushed = have_bytes(&mut disk, alloc, [1, LATE, 3])?;

@@ -8,7 +8,7 @@ use bio::{End, Id, Status};
 use blockdev::BlockDev;
 use board::Names;
 use lock_state::{Receipt, Run, Seat};
-use shared::{Closed, Shared, Started, StatusSeat, WriterSeat};
+use shared::{Closed, Open, Shared, Started, StatusSeat, WriterSeat};
 use std::alloc::{AllocError, Global};
 use std::sync::Wait;
 use std::thread;
@@ -66,13 +66,19 @@ pub struct Found {
     pub rises: bool,
 }
 
+/// A closed recorder.
+#[derive(Drop)]
+pub struct Ended<D: Drop, L: Drop> {
+    pub closed: Closed<D, L>,
+    /// Why the waiting seats were released, if they were.
+    pub released: Option<End>,
+}
+
 /// The results of a closed recorder.
 #[derive(Drop)]
 pub struct Played<D: Drop, L: Drop> {
     pub found: Found,
-    pub closed: Closed<D, L>,
-    /// Why the waiting seats were released, if they were.
-    pub released: Option<End>,
+    pub ended: Ended<D, L>,
 }
 
 // Starts the writer and the readers, makes each seat's calls in a thread, calls `ask_close`, and
@@ -303,20 +309,28 @@ impl<D: BlockDev + Drop, L: BlockDev + Drop, R: Run + Names> Stage<D, L, R> {
         Ok(found)
     }
 
-    // Closes the recorder. Returns None if this is refused.
-    fn close(self, alloc: Global, found: Found) -> Result<Option<Played<D, L>>, AllocError> {
+    // Returns what a close takes.
+    fn open(self, alloc: Global) -> Result<Open<D, L, R>, AllocError> {
         let parts = parts_of(alloc, self.works)?;
-        match self
-            .recorder
-            .close(parts.seats, self.writer, parts.receipts)
-        {
-            Ok(ending) => Ok(Some(Played {
-                found,
-                closed: ending.closed,
-                released: ending.released,
-            })),
-            Err(_) => Ok(None),
-        }
+        Ok(Open {
+            recorder: self.recorder,
+            seats: parts.seats,
+            writer: self.writer,
+            receipts: parts.receipts,
+        })
+    }
+}
+
+// Closes a recorder. Returns None if this is refused.
+fn ended<D: BlockDev + Drop, L: BlockDev + Drop, R: Run + Names>(
+    open: Open<D, L, R>,
+) -> Option<Ended<D, L>> {
+    match open.recorder.close(open.seats, open.writer, open.receipts) {
+        Ok(ending) => Some(Ended {
+            closed: ending.closed,
+            released: ending.released,
+        }),
+        Err(_) => None,
     }
 }
 
@@ -337,16 +351,17 @@ impl<D: BlockDev + Drop + Send, L: BlockDev + Drop + Send> Act<D, L> for Play {
         started: Started<D, L, R>,
     ) -> Result<Option<Played<D, L>>, AllocError> {
         let mut stage = Stage::new(alloc, started, self.tables)?;
-        if !play(rt, alloc, &mut stage) {
+        if !make_calls(rt, alloc, &mut stage) {
             return Ok(None);
         }
         let found = stage.found(alloc)?;
-        stage.close(alloc, found)
+        let ended = ended(stage.open(alloc)?);
+        Ok(ended.map(|ended| Played { found, ended }))
     }
 }
 
 // Makes the calls of a stage. Returns whether the threads were started, and `ask_close` succeeded.
-fn play<
+fn make_calls<
     D: BlockDev + Drop + Send,
     L: BlockDev + Drop + Send,
     R: Run + Names + Send + Sync,

@@ -21,4 +21,8 @@ mod recording;
 #[cfg(test)]
 mod scenes;
 #[cfg(test)]
+mod starting;
+#[cfg(test)]
+mod values;
+#[cfg(test)]
 mod work;

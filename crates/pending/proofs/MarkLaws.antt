@@ -168,8 +168,4 @@ module _ {T : Type 0} where
       (marks : List Bool) → IsMarked links rows walk marks → walk ≡ Some w
       → new.next.items ≡ links.next.items → new.lasts.items ≡ set links.lasts.items w.chain w.at
       → IsMarked new rows None marks
-  rest-marked links new rows walk w marks s is same noted = record {
-    sound = rest-made links new rows walk w s.sound is same noted;
-    known =
-        grind arith;
-  }
+  rest-marked links new rows walk w marks s is same noted = grind (arith, rest-made)

@@ -307,19 +307,8 @@ module _ {T : Type 0} where
       → value_at rows row ≡ Some value
       → TakesOut (chain_in (map (values_of rows) chains) 1) value
       (values_of rows front ++ values_of rows back)
-  values-amid rows chains row front back value is found = record {
-    front = values_of rows front;
-    back = values_of rows back;
-    whole =
-        grind (
-          arith,
-          chain-map (values_of rows) chains 1 refl,
-          ap (values_of rows) is,
-          values-append rows front (row ∷ back),
-          values-first rows row back value found,
-        );
-    left = refl;
-  }
+  values-amid rows chains row front back value is found =
+      grind (arith, chain-map, values-append, values-first)
 
   pub shown-passed : (rows : List (Option T)) (chains : List (List ℕ)) (row onto : ℕ)
       (front back : List ℕ) (value : T) → value_at rows row ≡ Some value

@@ -205,8 +205,7 @@ middle-taken {next} {lasts} {chains} h new chain row before last left front back
         snoc-last (front ++ row ∷ parts.0) end.0 parts.1 last
         (append_assoc front (row ∷ parts.0) (parts.1 ∷ [])
         ∙ ap (λ rs. front ++ row ∷ rs) (sym parts.2) ∙ sym at ∙ end.1) in
-        let back_is : b ∷ bs ≡ parts.0 ++ last ∷ [] =
-        grind (arith, parts.2, same) in
+        let back_is : b ∷ bs ≡ parts.0 ++ last ∷ [] = grind (arith, parts.2, same) in
         let rows = (b ∷ bs) ++ front in
         let within : chain < length chains = let e = h.size in omega arith in
         let cut_out = row-cut h new chain row before left front (b ∷ bs) less at small leads cut in

@@ -65,10 +65,8 @@ ring-before next last rows front row back ring is leads few =
         let more = ends ys y rest.1.1 in
         let apart = times-append last front (row ∷ b ∷ y ∷ ys) in
         elim (cases_eq row last) [
-          | inl same ↦
-              let e = times-same last row (b ∷ y ∷ ys) same in omega arith
-          | inr other ↦
-              let e = times-other last row (b ∷ y ∷ ys) other in omega arith
+          | inl same ↦ let e = times-same last row (b ∷ y ∷ ys) same in omega arith
+          | inr other ↦ let e = times-other last row (b ∷ y ∷ ys) other in omega arith
         ])
     by_back [] [] way once = inl (refl, refl)
     by_back (f ∷ fs) [] way once = grind (arith, leads-back, times-same, times-append)
@@ -137,8 +135,7 @@ before-there {next} {lasts} {chains} h chain last noted =
               elim (cases_eq last end.0) [
                 | inl same ↦
                     let there = ap (λ r. times r (chain_in chains chain)) same in omega arith
-                | inr other ↦
-                    let first = times-other end.0 last (row ∷ rows) other in omega arith
+                | inr other ↦ let first = times-other end.0 last (row ∷ rows) other in omega arith
               ]),
           end.1,
         )
@@ -152,20 +149,15 @@ pub back-rows : {next : List ℕ} {lasts : List (Option ℕ)} {chains : List (Li
     × Holds next (set lasts chain (Some row)) [] (set chains chain new)
 back-rows {next} {lasts} {chains} h chain last row noted small leads =
     let ring = ring-at h chain last noted in
-    let parts =
-    around row (chain_in chains chain) (row-of h chain last row noted small leads) in
+    let parts = around row (chain_in chains chain) (row-of h chain last row noted small leads) in
     let few = few-in h chain last in
     elim (ring-before next last (chain_in chains chain) parts.0 row parts.1 ring parts.2 leads
     (omega arith)) [
       | inl alone ↦
           grind (arith, holds-turned h chain [] row [] (grind (arith, parts.2, alone.0, alone.1)))
       | inr before ↦
-          grind (
-            arith,
-            append_assoc parts.0 (row ∷ []) (last ∷ []),
-            holds-turned h chain parts.0
-                row (last ∷ []) (grind (arith, parts.2, before)),
-          )
+          let step = append_assoc parts.0 (row ∷ []) (last ∷ []) in
+          grind (arith, holds-turned h chain parts.0 row (last ∷ []) (grind (arith, parts.2, before)))
     ]
 
 module _ {T : Type 0} where
@@ -233,8 +225,7 @@ module _ {T : Type 0} where
           let at = full first (omega arith) in
           let value = value-there (value_at rows row)
           (grind (arith, here, at.1)) in
-          let end : left ≡ None =
-          grind (arith, rest, eq-eqb row last (here ∙ leads.1)) in
+          let end : left ≡ None = grind (arith, rest, eq-eqb row last (here ∙ leads.1)) in
           let less = at.0 in
           let found = way-found next before first [] last (length next) leads few long in (
             omega arith,
@@ -259,8 +250,7 @@ module _ {T : Type 0} where
           let apart : row ≢ last = λ e.
           let same = times-same last first (second ∷ todo) (sym here ∙ e) in
           absurd (omega (arith, times-append last ends.0 (last ∷ []))) in
-          let on : left ≡ Some row =
-          grind (arith, rest, ne_eqb row last apart) in
+          let on : left ≡ Some row = grind (arith, rest, ne_eqb row last apart) in
           let less = at.0 in
           let found = way-found next before first (second ∷ todo) last (length next)
           leads few long in

@@ -67,8 +67,7 @@ shorter-free chains = by_chain (chain_in chains 0) refl
     by_chain : (free : List ℕ) → chain_in chains 0 ≡ free
         → length (chain_in (shortened chains 0) 0) ≡ length (chain_in chains 0) - 1
     by_chain [] is = grind (arith, nothing-cut)
-    by_chain (row ∷ free) is =
-        grind (arith, there, length, in-put, drop)
+    by_chain (row ∷ free) is = grind (arith, there, length, in-put, drop)
 
 pub free-kept : (chains : List (List ℕ)) (chain : ℕ) (rows : List ℕ) → 0 < chain
     → chain_in (set chains chain rows) 0 ≡ chain_in chains 0
@@ -132,12 +131,9 @@ module _ {T : Type 0} where
       rest_count [] same = refl
       rest_count (rs ∷ more) same =
           let here = same 0 in
-          omega (
-            arith,
-            sum_by-cons length rs more,
-            sum_by-cons length (values_of rows rs) (map (values_of rows) more),
-            rest_count more (λ chain. same (suc chain)),
-          )
+          let step = sum_by-cons length rs more in
+          let next_step = sum_by-cons length (values_of rows rs) (map (values_of rows) more) in
+          omega (arith, rest_count more (λ chain. same (suc chain)))
 
       by_chains : (cs : List (List ℕ)) → IsTable next lasts rows cs → cs ≡ chains
           → count_in (map (values_of rows) chains) + length (chain_in chains 0) ≡ length rows

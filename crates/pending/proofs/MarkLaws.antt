@@ -66,10 +66,8 @@ pub put-counts : (chains : List (List ℕ)) (chain row : ℕ) (rows : List ℕ)
     → times row (chain_in chains 1) ≤ times row (chain_in (set chains chain rows) 1)
 put-counts chains chain row rows more = elim (cases_eq chain 1) [
   | inl same ↦ elim (cases_lt chain (length chains)) [
-    | inl within ↦
-        grind (arith, in-put, set)
-    | inr past ↦
-        let none = ap (times row) (get_or_past chains 1 [] (omega arith)) in omega arith
+    | inl within ↦ grind (arith, in-put, set)
+    | inr past ↦ let none = ap (times row) (get_or_past chains 1 [] (omega arith)) in omega arith
   ]
   | inr other ↦
       let kept = ap (times row) (in-other chains chain 1 rows (λ e. other (sym e))) in omega arith
@@ -77,8 +75,7 @@ put-counts chains chain row rows more = elim (cases_eq chain 1) [
 
 pub begun-counts : (chains : List (List ℕ)) (row : ℕ)
     → times row (chain_in chains 1) ≤ times row (chain_in (chains ++ [] ∷ []) 1)
-begun-counts chains row =
-    let same = ap (times row) (default-grown chains 1 []) in omega arith
+begun-counts chains row = let same = ap (times row) (default-grown chains 1 []) in omega arith
 
 pub longer-counts : (chains : List (List ℕ)) (chain row r : ℕ)
     → times r (chain_in chains 1)
@@ -149,8 +146,7 @@ module _ {T : Type 0} where
       → IsMarked new other walk marks
   marked-same links new rows other walk marks e d f s = record {
     sound = sound-same links new rows other walk e d f s.sound;
-    known =
-        grind arith;
+    known = grind arith;
   }
 
   pub walk-marked : (links : Links) (rows : List (Option T)) (walk : Option Walk) (chain : ℕ)
@@ -160,16 +156,11 @@ module _ {T : Type 0} where
       → IsMarked links rows (Some (record { chain = chain; at = at })) marks
   walk-marked links rows walk chain at marks s rest shown less is = record {
     sound = walk-made links rows walk chain at s.sound rest shown less is;
-    known =
-        grind (arith, set, last-again);
+    known = grind (arith, set, last-again);
   }
 
   pub rest-marked : (links new : Links) (rows : List (Option T)) (walk : Option Walk) (w : Walk)
       (marks : List Bool) → IsMarked links rows walk marks → walk ≡ Some w
       → new.next.items ≡ links.next.items → new.lasts.items ≡ set links.lasts.items w.chain w.at
       → IsMarked new rows None marks
-  rest-marked links new rows walk w marks s is same noted = record {
-    sound = rest-made links new rows walk w s.sound is same noted;
-    known =
-        grind arith;
-  }
+  rest-marked links new rows walk w marks s is same noted = grind (arith, rest-made)

@@ -205,8 +205,7 @@ middle-taken {next} {lasts} {chains} h new chain row before last left front back
         snoc-last (front ++ row ∷ parts.0) end.0 parts.1 last
         (append_assoc front (row ∷ parts.0) (parts.1 ∷ [])
         ∙ ap (λ rs. front ++ row ∷ rs) (sym parts.2) ∙ sym at ∙ end.1) in
-        let back_is : b ∷ bs ≡ parts.0 ++ last ∷ [] =
-        grind (arith, parts.2, same) in
+        let back_is : b ∷ bs ≡ parts.0 ++ last ∷ [] = grind (arith, parts.2, same) in
         let rows = (b ∷ bs) ++ front in
         let within : chain < length chains = let e = h.size in omega arith in
         let cut_out = row-cut h new chain row before left front (b ∷ bs) less at small leads cut in
@@ -307,19 +306,8 @@ module _ {T : Type 0} where
       → value_at rows row ≡ Some value
       → TakesOut (chain_in (map (values_of rows) chains) 1) value
       (values_of rows front ++ values_of rows back)
-  values-amid rows chains row front back value is found = record {
-    front = values_of rows front;
-    back = values_of rows back;
-    whole =
-        grind (
-          arith,
-          chain-map (values_of rows) chains 1 refl,
-          ap (values_of rows) is,
-          values-append rows front (row ∷ back),
-          values-first rows row back value found,
-        );
-    left = refl;
-  }
+  values-amid rows chains row front back value is found =
+      grind (arith, chain-map, values-append, values-first)
 
   pub shown-passed : (rows : List (Option T)) (chains : List (List ℕ)) (row onto : ℕ)
       (front back : List ℕ) (value : T) → value_at rows row ≡ Some value

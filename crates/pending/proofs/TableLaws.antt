@@ -102,8 +102,7 @@ module _ {T : Type 0} where
       → IsTable links.next.items (seen_lasts links.lasts.items walk) rows chains
       → IsWalk links.lasts.items walk → IsSound links rows walk
   sound-of links rows walk chains t walks = record {
-    table =
-        grind (arith, chains-found t.holds);
+    table = grind (arith, chains-found t.holds);
     walks = walks;
   }
 
@@ -201,22 +200,10 @@ module _ {T : Type 0} where
       {chains : List (List ℕ)} → IsTable next lasts rows chains
       → IsOpen (next ++ 0 ∷ []) lasts (rows ++ None ∷ []) (length rows) chains
   open-grown {next} {lasts} {rows} {chains} t =
-      grind (
-        arith,
-        holds-grown t.holds,
-        length-append next (0 ∷ []),
-        length-append rows (None ∷
-            []),
-        default-grown,
-        cases_eq,
-        length,
-        times-same,
-        few-in,
-        get_or_past,
-        one-of,
-        times-other,
-        length-append,
-      )
+      let step = holds-grown t.holds in
+      let next_step = length-append next (0 ∷ []) in
+      let last_step = length-append rows (None ∷ []) in
+      grind (arith, default-grown, cases_eq, length, times-same, few-in, get_or_past, one-of, times-other, length-append)
 
   pub shown-grown : {next : List ℕ} {lasts : List (Option ℕ)} {rows : List (Option T)}
       {chains : List (List ℕ)} → IsTable next lasts rows chains
@@ -252,17 +239,11 @@ module _ {T : Type 0} where
             (λ e. absurd (omega arith))) in
             elim (cases_eq row r) [
               | inl same ↦
-                  grind (
-                    arith,
-                    times-same r row [] same,
-                    few-in-two t.holds chain 0 r (λ e.
-                        absurd (omega arith)),
-                    set rows row None,
-                    get_or-set_same rows row None None
-                        small,
-                  )
-              | inr apart ↦
-                  grind (arith, times-other, length-set, get_or-set_other)
+                  let step = times-same r row [] same in
+                  let next_step = set rows row None in
+                  let last_step = get_or-set_same rows row None None small in
+                  grind (arith, few-in-two t.holds chain 0 r (λ e. absurd (omega arith)))
+              | inr apart ↦ grind (arith, times-other, length-set, get_or-set_other)
             ];
       }
 
@@ -285,8 +266,7 @@ module _ {T : Type 0} where
       ∙ sym (length-set seen chain (drop 1 (chain_in seen chain))
       ∙ length-map chains (values_of rows)))
       (λ other. elim (cases_eq other chain) [
-        | inl same ↦
-            grind (arith, in-put, drop, values-kept, values-first, chain-map)
+        | inl same ↦ grind (arith, in-put, drop, values-kept, values-first, chain-map)
         | inr apart ↦
             let two = few-in-two t.holds chain other row (λ e. apart (sym e)) in
             ap (values_of (set rows row None)) (in-other chains chain other (drop 1 (chain_in chains chain)) apart)
@@ -356,8 +336,6 @@ module _ {T : Type 0} where
       let few = few-in o.holds other row in
       let kept = values-kept rows row (Some value) (chain_in chains other) (omega arith) in
       elim (cases_eq other chain) [
-        | inl same ↦
-            grind (arith, in-put, values-append, values-first, get_or-set_same, chain-map)
-        | inr apart ↦
-            grind (arith, in-other, chain-map)
+        | inl same ↦ grind (arith, in-put, values-append, values-first, get_or-set_same, chain-map)
+        | inr apart ↦ grind (arith, in-other, chain-map)
       ])

@@ -163,15 +163,10 @@ module _ {T : Type 0} where
             let full = t.full r (omega (arith, length-set rows row (Some value))) in
             elim (cases_eq r row) [
               | inl same ↦
-                  grind (
-                    arith,
-                    few-in-two t.holds chain 0 r (λ e. absurd (omega arith)),
-                    set rows
-                        row (Some value),
-                    get_or-set_same rows row (Some value) None small,
-                  )
-              | inr apart ↦
-                  grind (arith, get_or-set_other)
+                  let step = set rows row (Some value) in
+                  let next_step = get_or-set_same rows row (Some value) None small in
+                  grind (arith, few-in-two t.holds chain 0 r (λ e. absurd (omega arith)))
+              | inr apart ↦ grind (arith, get_or-set_other)
             ];
       }
 

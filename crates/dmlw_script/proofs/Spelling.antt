@@ -199,25 +199,11 @@ text_good fields fits =
     line_text_append (word_text fields.first) (text_after fields.others)
     (let w = writable fields.first fits.first in w.good) (line_after fields.others fits.others)
 
-ending_spelled : (ending : Option (List ℕ)) (ss : List LineMeaning)
-    → flat_map ended_line (with_ending ending ss) ≡ flat_map ended_line ss ++ ending_text ending
-ending_spelled None ss = sym (append-nil (flat_map ended_line ss))
-ending_spelled (Some picks) ss = grind (arith, flat_map-append, append-nil)
-
 pub picks_spelled : (picks : List ℕ)
     → text_after (map number picks) ≡ flat_map (λ n. 32 ∷ decimal n) picks
 picks_spelled [] = refl
 picks_spelled (pick ∷ picks) =
     grind (arith, after_field (number pick) (map number picks), picks_spelled picks)
-
--- `head`, `body` and `whole` are the texts after the three parts that `print_script` writes.
-pub text_in_parts : (plan : ScriptValue) (d l : Disk) (size : SectorSize)
-    (start head body whole : List ℕ) → d ≡ plan.data_disk → l ≡ plan.log_disk → size ≡ plan.log_size
-    → start ≡ [] → head ≡ start ++ flat_map ended_line (head_of d l size)
-    → body ≡ head ++ flat_map ended_line (lines_of_body plan.names 0 plan.commands)
-    → whole ≡ body ++ ending_text plan.ending → whole ≡ canonical_text plan
-text_in_parts plan d l size start head body whole is_data is_log is_size none is_head is_body
-    is_whole = grind (arith, append_assoc, ending_spelled, flat_map-append)
 
 data_layers_spelled : (layers : List LayerSpec)
     → flat_map ended_run_line (map data_layer layers)

@@ -1,5 +1,5 @@
 -- For each clause about a replay, its reads or a copy: an example that the clause refuses.
-use Rattle.std.proofs.Common.{false, None, Result, slice_index_or, refl, ap, ◌≡◌, ℕ, ◌+◌}
+use Rattle.std.proofs.Common.{false, None, Some, Result, slice_index_or, refl, ap, ◌≡◌, ℕ, ◌+◌}
 use Rattle.std.proofs.Common.{true, sym, ◌∙◌, inl, inr, arith, Ok, Err, List}
 use Rattle.std.proofs.Common.{[], ◌∷◌, ◌++◌, length, replicate}
 use Rattle.refusals.specs.declared.run_error.End.TheVariants as ends
@@ -26,6 +26,7 @@ use Rattle.replay.specs.declared.fault.ReplayError.TheVariants as replays
 use Rattle.replay.specs.declared.replaying.Upto.{Upto}
 use Rattle.replay.specs.declared.replaying.Upto.TheVariants.{Count, Flush, Mark}
 use Rattle.replay.specs.Replays.{AsksTooMany, IsApplied, IsUpto, LacksFlush, LacksMark, ReachesPast}
+use Rattle.replay.specs.Replays.{HasReplayCause, LeavesBy}
 
 -- For each clause about the content after a replay, its calls, or the cause of a refusal: an
 -- example that the clause refuses.
@@ -82,6 +83,15 @@ lacks_mark (Count n) asks none = absurd asks
 lacks_mark (Mark text) asks none =
     none 1 mark (omega arith) refl (record { mark = refl; body = sym asks })
 lacks_mark Flush asks none = absurd asks
+
+-- no entry is applied in part where there is none
+leaves_target : LeavesBy 512 [] 0 (all 0) (all 0) 0 (replays.Target Io) → ⊥
+leaves_target told = let there = told.there in cc
+
+-- no mark is told as missing in a log with a fault
+cause_fault : (upto : Upto) (log : Reader) (v : View)
+    → HasReplayCause [] (Some CutShort) upto log log v v 0 replays.NoSuchMark → ⊥
+cause_fault upto log v told = let none = told.2 in cc
 
 -- the write reaches past a target of 5 sectors, and not past one of 6
 reaches : ReachesPast 512 (write ∷ []) 0 5

@@ -294,18 +294,6 @@ pub lent_is : (mine part : Me (Unit {0}) Knows) (number : ℕ) (held : Option �
     → part ≡ (holder_of number held, [])
 lent_is mine part number held is e = grind arith
 
-pub set_is : (before after : Me (Unit {0}) Knows) (all : List (Option ℕ)) (number : ℕ)
-    (held new : Option ℕ) → before ≡ (both_of all number held, []) → Sets before.0 new after
-    → (slice_get all number ≡ Some held)
-    × (after ≡ (both_of (slice_set all number new) number new, []))
-set_is before after all number held new is told = grind arith
-
-pub same_is : (before after : Me (Unit {0}) Knows) (all : List (Option ℕ)) (number : ℕ)
-    (held : Option ℕ) → before ≡ (both_of all number held, [])
-    → Agree before.0 × (after ≡ (both_of before.0.all before.0.number before.0.held, []))
-    → (slice_get all number ≡ Some held) × (after ≡ (both_of all number held, []))
-same_is before after all number held is told = grind arith
-
 pub enrolled_is : (before after : Me (Unit {0}) Knows) (all : List (Option ℕ))
     → before ≡ (keeper_of all, [])
     → after ≡ (both_of (before.0.all ++ None ∷ []) (length before.0.all) None, [])

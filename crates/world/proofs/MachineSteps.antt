@@ -143,11 +143,7 @@ destage_steps events at old new may within size is image =
 settled_is : (events : List CoreEvent) (cells : List CellState) (calls : List Step) (off : Bool)
     (step : Step)
     → settled_if_ended events (machine_in cells calls off) step ≡ end_settled events cells step
-settled_is events cells calls off (End id ok) = refl
-settled_is events cells calls off (Submit id) = refl
-settled_is events cells calls off (Land id sector) = refl
-settled_is events cells calls off (Destage sector) = refl
-settled_is events cells calls off Power = refl
+settled_is events cells calls off other = refl
 
 all_settled : (events : List CoreEvent) (cells : List CellState) (calls : List Step) (off : Bool)
     (steps : List Step)
@@ -167,11 +163,9 @@ succeeds_is events cells calls off id =
 pub allowed_is : (events : List CoreEvent) (cells : List CellState) (calls : List Step) (off : Bool)
     (step : Step)
     → may_take events (machine_in cells calls off) step ≡ is_allowed events cells calls step
-allowed_is events cells calls off (Submit id) = refl
-allowed_is events cells calls off (Land id sector) = refl
-allowed_is events cells calls off (Destage sector) = refl
 allowed_is events cells calls off (End id ok) = simp (succeeds_is)
 allowed_is events cells calls off Power = refl
+allowed_is events cells calls off other = refl
 
 like : (a b : Machine) → IsSameMachine a b → a ≡ b
 like a b same = grind (arith, fun_ext)
@@ -199,12 +193,9 @@ left_durable : (events : List CoreEvent) (m : Machine) (step : Step) (first old 
     (sector : ℕ) → IsSound events m → may_take events m step ≡ true
     → old sector ≡ durable events first m sector
     → left_after events m step old sector ≡ durable events first (after m step) sector
-left_durable events m (Submit id) first old sector sound may same = same
-left_durable events m (Land id at) first old sector sound may same = same
-left_durable events m (End id ok) first old sector sound may same = same
-left_durable events m Power first old sector sound may same = same
 left_durable events m (Destage at) first old sector sound may same =
     grind (arith, eqb_tells, put_newest)
+left_durable events m other first old sector sound may same = same
 
 runs_on : (events : List CoreEvent) (first : Content) (steps : List Step) (old new : WorldState)
     → IsSound events (machine_of old)

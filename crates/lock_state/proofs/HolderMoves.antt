@@ -25,9 +25,8 @@ module _ {A : Type 0} where
       → slice_get (set xs k y) j ≡ slice_get xs j
   get_set_else [] k j y apart = refl
   get_set_else (z ∷ zs) zero zero y apart = absurd (apart refl)
-  get_set_else (z ∷ zs) zero (suc j) y apart = refl
-  get_set_else (z ∷ zs) (suc k) zero y apart = refl
   get_set_else (z ∷ zs) (suc k) (suc j) y apart = get_set_else zs k j y (λ e. apart (ap suc e))
+  get_set_else (z ∷ zs) other rest y apart = refl
 
   pub get_front : (xs ys : List A) (k : ℕ) (x : A) → slice_get xs k ≡ Some x
       → slice_get (xs ++ ys) k ≡ Some x

@@ -39,9 +39,8 @@ get_set_other : {A : Type 0} (xs : List A) (k j : ℕ) (x : A) → (j ≡ k → 
     → slice_get (set xs k x) j ≡ slice_get xs j
 get_set_other [] k j x differ = refl
 get_set_other (y ∷ xs) zero zero x differ = absurd (differ refl)
-get_set_other (y ∷ xs) zero (suc j) x differ = refl
-get_set_other (y ∷ xs) (suc k) zero x differ = refl
 get_set_other (y ∷ xs) (suc k) (suc j) x differ = grind (arith, get_set_other xs k j x)
+get_set_other (y ∷ xs) other rest x differ = refl
 
 -- `see` is `landed_of` or `settled_of`
 set_seen : (see : Option CellState → List ℕ) (cells : List CellState) (at : ℕ) (cell : CellState)
@@ -164,8 +163,7 @@ pub allowed_is : (events : List CoreEvent) (cells : List CellState) (calls : Lis
     (step : Step)
     → may_take events (machine_in cells calls off) step ≡ is_allowed events cells calls step
 allowed_is events cells calls off (End id ok) = simp (succeeds_is)
-allowed_is events cells calls off Power = refl
-allowed_is events cells calls off other = refl
+allowed_is events cells calls off rest = refl
 
 like : (a b : Machine) → IsSameMachine a b → a ≡ b
 like a b same = grind (arith, fun_ext)

@@ -286,10 +286,9 @@ lawful_ends sectors events lawful small = λ id bio is.
 
 past_end : (places : List (Option ℕ)) (index : ℕ) → length places ≤ index
     → place_at places index ≡ None
-past_end [] zero h = refl
-past_end [] (suc index) h = refl
 past_end (place ∷ places) zero h = absurd (omega arith)
 past_end (place ∷ places) (suc index) h = past_end places index (omega arith)
+past_end [] other h = refl
 
 place_within : (places : List (Option ℕ)) (index place : ℕ) → place_at places index ≡ Some place
     → index < length places

@@ -1,7 +1,7 @@
 -- Proves that the canonical text of a line's fields has these fields, for words, fields and lines.
 -- A script's canonical text is split into the parts that are printed one after another.
 use Rattle.std.proofs.Common.{zero, suc, ◌∙◌, sym, subst, arith, append_assoc, ◌≡◌, ℕ, ◌^◌, ◌<◌}
-use Rattle.std.proofs.Common.{Bool, true, false, not, List, [], ◌∷◌, ◌++◌, Option, Some, None, refl}
+use Rattle.std.proofs.Common.{Bool, true, false, not, List, [], ◌∷◌, ◌++◌, Some, None, refl}
 use Rattle.std.specs.Prelude.{Result, ◌==◌, decimal, replicate, flat_map, map}
 use Rattle.std.proofs.lemmas.Bool.{and_from, and_parts, cond-true}
 use Rattle.std.proofs.lemmas.Bool.Decides.{nat_tests}
@@ -25,13 +25,11 @@ use Rattle.dmlw_script.specs.Fields.{IsLineWith, IsWord, Name, Number, One, Seat
 use Rattle.dmlw_script.specs.Fields.{word_text, Byte, Choice, Field, Fields, Given, HasFields}
 use Rattle.dmlw_script.specs.Fields.{field_text, number, option_text, table_text, text_after}
 use Rattle.dmlw_script.specs.Fields.{text_of}
-use Rattle.dmlw_script.specs.Grammar.{canonical_text, ended_line, ended_run_line, seats_line}
-use Rattle.dmlw_script.specs.Grammar.{ending_text}
-use Rattle.dmlw_script.specs.LineMeaning.{LineMeaning}
+use Rattle.dmlw_script.specs.Grammar.{ended_line, ended_run_line, seats_line}
 use Rattle.dmlw_script.specs.Words.{byte_text, hex_digit, id_of_word, is_id, is_line_byte}
 use Rattle.dmlw_script.specs.Words.{is_line_text, is_name_byte, letters_of, script_id}
-use Rattle.dmlw_script.specs.Plans.{IsName, lines_of_body, with_ending, Disk, data_line, layer_line}
-use Rattle.dmlw_script.specs.Plans.{log_line, ScriptValue, head_of}
+use Rattle.dmlw_script.specs.Plans.{IsName, Disk, data_line, layer_line}
+use Rattle.dmlw_script.specs.Plans.{log_line}
 use Rattle.dmlw_script.specs.RunPlans.{data_layer, log_layer, run_head, RunPlan}
 
 abbrev pub IsLineText : List ℕ → Type 0

@@ -9,7 +9,7 @@ use Rattle.std.proofs.lemmas.Nat.{le-div}
 use Rattle.std.proofs.Math.Nat.{div-mul-le_self, lt-div-mul-add, mul-le-mul_right}
 use Rattle.std.specs.Prelude.{Result, nat_le, nat_lt, if◌then◌else◌}
 use Rattle.bio.specs.declared.outcome.DevError.{DevError}
-use Rattle.blockdev.specs.View.{Call, Discards, Flushes, Reads, View, Writes}
+use Rattle.blockdev.specs.View.{Call, Flushes, Reads, View}
 use Rattle.blockdev.specs.JoinLaws.{goes_cut, goes_next, goes_none, lands_all, lands_first}
 use Rattle.blockdev.specs.JoinLaws.{lands_next, no_lie_parts}
 use Rattle.blockdev.specs.Law.{DeviceFrame, WriteDone, NoLie}

@@ -1,5 +1,5 @@
 -- Laws of a machine's calls (submissions and ends), of their events, and of its lists of requests.
-use Rattle.std.proofs.Common.{Some, None, List, [], ◌∷◌, ◌++◌, refl, ap, sym, ◌∙◌, inl, inr, arith}
+use Rattle.std.proofs.Common.{Some, List, [], ◌∷◌, ◌++◌, refl, ap, sym, ◌∙◌, inl, inr, arith}
 use Rattle.std.proofs.Common.{◌≡◌, ℕ, ◌+◌, ◌-◌, zero, suc, ◌<◌, ◌==◌, Bool, true, false, not, ◌&&◌}
 use Rattle.std.proofs.Common.{◌||◌, Option}
 use Rattle.std.specs.Prelude.{slice_get}
@@ -15,7 +15,7 @@ use Rattle.bio.specs.Possible.{covers_at}
 use Rattle.bio.specs.RequestLaws.{covers-parts}
 use Rattle.bio.specs.Requests.{first_sector, sector_count}
 use Rattle.world.specs.declared.step.Step.{Step}
-use Rattle.world.specs.declared.step.Step.TheVariants.{Submit, Land, Destage, End, Power}
+use Rattle.world.specs.declared.step.Step.TheVariants.{Submit, End}
 use Rattle.world.specs.Machine.{before_submit, call_of, calls_below, each_sector, is_among, is_end}
 use Rattle.world.specs.Machine.{is_submit, with_sector}
 

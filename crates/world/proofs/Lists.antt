@@ -15,9 +15,6 @@ use Rattle.bio.specs.Content.{Patch, over, sector_of}
 use Rattle.bio.specs.ContentLaws.{over-after, over-before, over-in}
 use Rattle.bio.specs.Places.{collect}
 use Rattle.world.specs.Cells.{IsPut}
-use Rattle.world.specs.declared.step.Step.{Step}
-use Rattle.world.specs.inside.{IsBefore}
-use Rattle.world.specs.Machine.{is_submit}
 
 pub any_reverse : {A : Type 0} (test : A → Bool) (xs : List A)
     → list_any test (reverse xs) ≡ list_any test xs

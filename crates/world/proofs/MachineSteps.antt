@@ -23,7 +23,7 @@ use Rattle.world.specs.Cells.{AllSteps, CellState, IsFresh, IsSameMachine, IsRun
 use Rattle.world.specs.Cells.{WorldState, empty_cell, landed_of, left_after, landing, machine_in}
 use Rattle.world.specs.Cells.{machine_of, settled_of, settling}
 use Rattle.world.specs.declared.step.Step.{Step}
-use Rattle.world.specs.declared.step.Step.TheVariants.{Submit, Land, Destage, End, Power}
+use Rattle.world.specs.declared.step.Step.TheVariants.{Land, Destage, End}
 use Rattle.world.specs.inside.{end_settled, is_allowed, succeeds}
 use Rattle.world.specs.Machine.{Machine, after, durable, has_step, is_among, is_pending, is_run}
 use Rattle.world.specs.Machine.{may_succeed, may_take, newest, settled_if_ended, start, taken}

@@ -1,6 +1,6 @@
 -- A machine is sound after any steps, and so a run leaves only contents that the device could hold.
 use Rattle.std.proofs.Common.{List, [], ◌∷◌, length, refl, ap, sym, ◌∙◌, inl, inr, arith, ◌≡◌, ℕ}
-use Rattle.std.proofs.Common.{◌==◌, ◌<◌, Bool, true, false, not, ◌&&◌, ◌||◌, Option, Some, None}
+use Rattle.std.proofs.Common.{◌==◌, ◌<◌, Bool, true, false, not, ◌&&◌, ◌||◌, Option, Some}
 use Rattle.std.specs.Prelude.{◌⊎◌, slice_get}
 use Rattle.std.proofs.lemmas.Bool.{and_parts, eq-eqb, eqb-true, ltb-true}
 use Rattle.std.specs.List.{list_all, list_any}

@@ -19,7 +19,8 @@ use Rattle.log_reader.specs.declared.fault.ReadDeviceError.TheVariants as reads
 use Rattle.log_reader.specs.Reader.{Reader}
 use Rattle.replay.specs.Calls.{IsCalled, ReadsToStop, entry_calls}
 use Rattle.replay.specs.Copies.{EndsSince, IsCopied, IsUnaligned}
-use Rattle.replay.specs.Copies.{RefusesNoMore as CopyRefusesNoMore, Replays, SettlesOnly, StopsBy}
+use Rattle.replay.specs.Copies.{RefusesNoMore as CopyRefusesNoMore, Replays, SettledBy, SettlesOnly}
+use Rattle.replay.specs.Copies.{StopsBy}
 use Rattle.replay.specs.Copies.{StopsCalls, copy_calls, is_aligned_to, resized}
 use Rattle.replay.specs.declared.fault.CopyError.TheVariants as copies
 use Rattle.replay.specs.declared.fault.ReplayError.TheVariants as replays
@@ -222,6 +223,14 @@ swapped new honest empty copied have =
     bodies : List Entry → List ℕ
     bodies [] = []
     bodies (e ∷ es) = e.body
+
+-- two marks that aren't settled, where the store ended
+unsettled_store : SettledBy (end_mark ∷ end_mark ∷ []) 0 2 none none (copies.Store ends.Full) → ⊥
+unsettled_store (inl all) = let less = all 0 end_mark (omega arith) refl refl in omega arith
+unsettled_store (inr last) =
+    let two = last.is_last in
+    let less = last.settled 0 end_mark (omega arith) refl refl in
+    omega arith
 
 -- a settle behind the entries that are told of
 settled_beyond : SettlesOnly (end_mark ∷ end_mark ∷ []) 0 1 none (record one { settled = 2 }) → ⊥

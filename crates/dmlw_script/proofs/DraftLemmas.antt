@@ -65,9 +65,7 @@ flags_end n flags body request inside old = record {
 
 listed_step : (t any : Bool) (n length : ℕ) → nat_lt n length ≡ any
     → nat_lt (cond (not t) (1 + n) 0) (suc length) ≡ (t || any)
-listed_step true any n length same = grind (arith, nat_tests)
-listed_step false any n length
-    same = grind (arith, nat_tests)
+listed_step other any n length same = grind (arith, nat_tests)
 
 pub listed : {X : Type 0} (p : X → Bool) (xs : List X)
     → nat_lt (position_or_len p xs) (length xs) ≡ list_any p xs

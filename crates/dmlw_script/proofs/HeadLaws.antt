@@ -164,13 +164,6 @@ pub data Takes (closed : Bool) : Stage → HeadLine → Stage → Type 0 where
       → Takes closed (heads.Whole d l size) (head_lines.Layer disks.Log (Ok spec))
       (heads.Whole d (with_layer l spec) size)
 
-layered : (least : ℕ) (disk top : Disk) (asked : Result LayerSpec TableError)
-    → layer_step least disk asked ≡ Ok top
-    → (spec : LayerSpec) × (Ok spec ≡ asked) × Fits least disk spec × (with_layer disk spec ≡ top)
-layered least disk top (Err error) e = grind (arith, tested_ok)
-layered least disk top (Ok spec) e =
-    grind (arith, tested_ok, cond_ok, ltb-true, leb-true)
-
 data_taken : (d l : Disk) (size : SectorSize) (k : Stage) (asked : Result LayerSpec TableError)
     (layers : List LayerSpec) → l.layers ≡ layers → data_layer layers d l size asked ≡ Ok k
     → Takes false (heads.Whole d l size) (head_lines.Layer disks.Data asked) k

@@ -500,18 +500,11 @@ range_low bytes sectors first count small e = grind (arith, barred_ok, sized_pas
 pub submission_fits : (bytes sectors : ℕ) (submission : Submission) → sectors ≤ 1048576
     → submission_answer bytes sectors submission ≡ Ok tt → WritesByte submission
     → FitsWord (Given (submission_word submission)) × Fits (submission_fields submission)
-submission_fits bytes sectors (submits.Write first count byte options) small passes low =
-    grind (arith, range_low)
-submission_fits bytes sectors (submits.Discard first count) small passes low =
-    grind (arith, range_low)
 submission_fits bytes sectors submits.Flush small passes low = ((refl, refl), tt)
+submission_fits bytes sectors other small passes low = grind (arith, range_low)
 
 pub step_fits : (bytes sectors : ℕ) (it : Step) → sectors ≤ 1048576
     → step_answer bytes sectors it ≡ Ok tt → HasLineText it → FitsLine (step_fields it)
 step_fits bytes sectors steps.Close small passes text = grind arith
 step_fits bytes sectors (steps.Read first count) small passes text = grind (arith, range_low)
-step_fits bytes sectors steps.Turn small passes text = grind arith
-step_fits bytes sectors (steps.At moment) small passes low = grind arith
-step_fits bytes sectors (steps.Message disks.Data layer text) small passes has = grind arith
-step_fits bytes sectors (steps.Message disks.Log layer text) small passes has = grind arith
-step_fits bytes sectors (steps.Mark mark) small passes text = grind arith
+step_fits bytes sectors other small passes rest = grind arith

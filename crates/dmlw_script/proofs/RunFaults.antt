@@ -144,9 +144,7 @@ head_refuses h (Some seats) [] line refusal (no_layer d l size disks.Data asked 
 head_refuses h (Some seats) [] line refusal (no_layer d l size disks.Log asked may stands why) =
     let plan = run_plan d l size seats [] in
     inr (stands, plan, refl, head_refusal_is plan disks.Log asked ∙ why)
-head_refuses h None done line refusal (no_layer d l size over asked may stands why) = absurd (cc)
-head_refuses h (Some seats) (one ∷ done) line refusal
-    (no_layer d l size over asked may stands why) = absurd (cc)
+head_refuses h other rest line refusal (no_layer d l size over asked may stands why) = absurd (cc)
 
 seats_refused : (h : Stage) (seats : Option ℕ) (done : List SeatCall) (count : ℕ)
     (refusal : Refusal) →

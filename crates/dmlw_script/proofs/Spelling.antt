@@ -1,7 +1,7 @@
 -- Proves that the canonical text of a line's fields has these fields, for words, fields and lines.
 -- A script's canonical text is split into the parts that are printed one after another.
 use Rattle.std.proofs.Common.{zero, suc, ◌∙◌, sym, subst, arith, append_assoc, ◌≡◌, ℕ, ◌^◌, ◌<◌}
-use Rattle.std.proofs.Common.{Bool, true, false, not, List, [], ◌∷◌, ◌++◌, Option, Some, None, refl}
+use Rattle.std.proofs.Common.{Bool, true, false, not, List, [], ◌∷◌, ◌++◌, Some, None, refl}
 use Rattle.std.specs.Prelude.{Result, ◌==◌, decimal, replicate, flat_map, map}
 use Rattle.std.proofs.lemmas.Bool.{and_from, and_parts, cond-true}
 use Rattle.std.proofs.lemmas.Bool.Decides.{nat_tests}
@@ -25,13 +25,11 @@ use Rattle.dmlw_script.specs.Fields.{IsLineWith, IsWord, Name, Number, One, Seat
 use Rattle.dmlw_script.specs.Fields.{word_text, Byte, Choice, Field, Fields, Given, HasFields}
 use Rattle.dmlw_script.specs.Fields.{field_text, number, option_text, table_text, text_after}
 use Rattle.dmlw_script.specs.Fields.{text_of}
-use Rattle.dmlw_script.specs.Grammar.{canonical_text, ended_line, ended_run_line, seats_line}
-use Rattle.dmlw_script.specs.Grammar.{ending_text}
-use Rattle.dmlw_script.specs.LineMeaning.{LineMeaning}
+use Rattle.dmlw_script.specs.Grammar.{ended_line, ended_run_line, seats_line}
 use Rattle.dmlw_script.specs.Words.{byte_text, hex_digit, id_of_word, is_id, is_line_byte}
 use Rattle.dmlw_script.specs.Words.{is_line_text, is_name_byte, letters_of, script_id}
-use Rattle.dmlw_script.specs.Plans.{IsName, lines_of_body, with_ending, Disk, data_line, layer_line}
-use Rattle.dmlw_script.specs.Plans.{log_line, ScriptValue, head_of}
+use Rattle.dmlw_script.specs.Plans.{IsName, Disk, data_line, layer_line}
+use Rattle.dmlw_script.specs.Plans.{log_line}
 use Rattle.dmlw_script.specs.RunPlans.{data_layer, log_layer, run_head, RunPlan}
 
 abbrev pub IsLineText : List ℕ → Type 0
@@ -199,25 +197,11 @@ text_good fields fits =
     line_text_append (word_text fields.first) (text_after fields.others)
     (let w = writable fields.first fits.first in w.good) (line_after fields.others fits.others)
 
-ending_spelled : (ending : Option (List ℕ)) (ss : List LineMeaning)
-    → flat_map ended_line (with_ending ending ss) ≡ flat_map ended_line ss ++ ending_text ending
-ending_spelled None ss = sym (append-nil (flat_map ended_line ss))
-ending_spelled (Some picks) ss = grind (arith, flat_map-append, append-nil)
-
 pub picks_spelled : (picks : List ℕ)
     → text_after (map number picks) ≡ flat_map (λ n. 32 ∷ decimal n) picks
 picks_spelled [] = refl
 picks_spelled (pick ∷ picks) =
     grind (arith, after_field (number pick) (map number picks), picks_spelled picks)
-
--- `head`, `body` and `whole` are the texts after the three parts that `print_script` writes.
-pub text_in_parts : (plan : ScriptValue) (d l : Disk) (size : SectorSize)
-    (start head body whole : List ℕ) → d ≡ plan.data_disk → l ≡ plan.log_disk → size ≡ plan.log_size
-    → start ≡ [] → head ≡ start ++ flat_map ended_line (head_of d l size)
-    → body ≡ head ++ flat_map ended_line (lines_of_body plan.names 0 plan.commands)
-    → whole ≡ body ++ ending_text plan.ending → whole ≡ canonical_text plan
-text_in_parts plan d l size start head body whole is_data is_log is_size none is_head is_body
-    is_whole = grind (arith, append_assoc, ending_spelled, flat_map-append)
 
 data_layers_spelled : (layers : List LayerSpec)
     → flat_map ended_run_line (map data_layer layers)

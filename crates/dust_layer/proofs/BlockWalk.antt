@@ -9,7 +9,7 @@ use Rattle.std.proofs.lemmas.Nat.{le-div}
 use Rattle.std.proofs.Math.Nat.{div-mul-le_self, lt-div-mul-add, mul-le-mul_right}
 use Rattle.std.specs.Prelude.{Result, nat_le, nat_lt, if◌then◌else◌}
 use Rattle.bio.specs.declared.outcome.DevError.{DevError}
-use Rattle.blockdev.specs.View.{Call, Discards, Flushes, Reads, View, Writes}
+use Rattle.blockdev.specs.View.{Call, Flushes, Reads, View}
 use Rattle.blockdev.specs.JoinLaws.{goes_cut, goes_next, goes_none, lands_all, lands_first}
 use Rattle.blockdev.specs.JoinLaws.{lands_next, no_lie_parts}
 use Rattle.blockdev.specs.Law.{DeviceFrame, WriteDone, NoLie}
@@ -102,9 +102,8 @@ pub record HasPassed {D : Type 0} (does : D → Call → ℕ → Result ℕ DevE
 
 none-passed : (begin : ℕ) (call : Call) (bad : Bad) → IsList bad (list_passed call begin 0 bad)
 none-passed begin (Reads first before after) bad = λ place. refl
-none-passed begin (Writes first bytes fua) bad = without-none begin bad
-none-passed begin (Discards first count) bad = without-none begin bad
 none-passed begin Flushes bad = λ place. refl
+none-passed begin other bad = without-none begin bad
 
 pub passed_next : {D : Type 0} (does : D → Call → ℕ → Result ℕ DevError → D → Type 0) (block : ℕ)
     (call : Call) (bad before after : Bad) (count from to : ℕ)
@@ -149,17 +148,13 @@ pub stops-change : (first count : ℕ) (change : Change) (begin done : ℕ) (bad
     → IsList before (list_passed (call_of first count change) begin done bad)
     → stops (call_of first count change) bad (begin + done)
     ≡ nat_lt 0 (left_at before (begin + done))
-stops-change first count (changes.Write bytes fua) begin done bad before same =
-    grind (arith, without-after)
-stops-change first count changes.Discard begin done bad before same = grind (arith, without-after)
+stops-change first count other begin done bad before same = grind (arith, without-after)
 
 pub list-next : (first count : ℕ) (change : Change) (begin done : ℕ) (bad before struck after : Bad)
     → IsList before (list_passed (call_of first count change) begin done bad) → IsList struck before
     → IsList after (with_entry (begin + done) None struck)
     → IsList after (list_passed (call_of first count change) begin (suc done) bad)
-list-next first count (changes.Write bytes fua) begin done bad before struck after same stays
-    forgets = grind (arith, without-next)
-list-next first count changes.Discard begin done bad before struck after same stays forgets =
+list-next first count other begin done bad before struck after same stays forgets =
     grind (arith, without-next)
 
 -- The first `count` blocks of a write or a discard are done: its values below sector `from` are

@@ -92,8 +92,7 @@ joined_step : (t : Bool) (b mark : ℕ) (bytes f rest : List ℕ) (behind_rest :
     → (t ≡ true → b ≡ mark)
     → (behind_rest ≡ Some rest → bytes ≡ f ++ mark ∷ rest)
     → cond t (Some bytes) behind_rest ≡ Some rest → b ∷ bytes ≡ cond t [] (b ∷ f) ++ mark ∷ rest
-joined_step true b mark bytes f rest behind_rest here more e = grind arith
-joined_step false b mark bytes f rest behind_rest here more e = grind arith
+joined_step other b mark bytes f rest behind_rest here more e = grind arith
 
 cut_joined : (mark : ℕ) (bytes rest : List ℕ) → after_byte mark bytes ≡ Some rest
     → bytes ≡ before_byte mark bytes ++ mark ∷ rest
@@ -226,6 +225,4 @@ pub order_again : (text : List ℕ) (order : Order) → AsksFor text order → o
 order_again text (orders.Add block count) asks =
     grind (arith, add_again asks.block_word asks.count_words block count asks.number asks.counted)
 order_again text (orders.Remove block) asks = grind (arith, number_again)
-order_again text orders.Clear asks = rw asks refl
-order_again text orders.Enable asks = rw asks refl
-order_again text orders.Disable asks = rw asks refl
+order_again text other asks = rw asks refl

@@ -70,10 +70,8 @@ kept-flush told = let kept : false ≡ true = told.kept in cc
 
 -- the sectors below it hold what they held at first
 below-first : (lower : ℕ) → lower < 3 → PossibleAt events (holding 0) (holding 0) lower
-below-first zero below = inl (refl, refl)
-below-first (suc zero) below = inl (refl, refl)
-below-first (suc (suc zero)) below = inl (refl, refl)
 below-first (suc (suc (suc lower))) below = absurd (omega arith)
+below-first other below = inl (refl, refl)
 
 -- so an image of zeroes fails at sector 3
 failing : FailsAt events (holding 0) (holding 0) 16 3 (Some 1)

@@ -25,9 +25,8 @@ module _ {A : Type 0} where
       → slice_get (set xs k y) j ≡ slice_get xs j
   get_set_else [] k j y apart = refl
   get_set_else (z ∷ zs) zero zero y apart = absurd (apart refl)
-  get_set_else (z ∷ zs) zero (suc j) y apart = refl
-  get_set_else (z ∷ zs) (suc k) zero y apart = refl
   get_set_else (z ∷ zs) (suc k) (suc j) y apart = get_set_else zs k j y (λ e. apart (ap suc e))
+  get_set_else (z ∷ zs) other rest y apart = refl
 
   pub get_front : (xs ys : List A) (k : ℕ) (x : A) → slice_get xs k ≡ Some x
       → slice_get (xs ++ ys) k ≡ Some x
@@ -293,18 +292,6 @@ pub lent_is : (mine part : Me (Unit {0}) Knows) (number : ℕ) (held : Option �
     → mine ≡ (holder_of number held, []) → part ≡ (part_of mine.0, [])
     → part ≡ (holder_of number held, [])
 lent_is mine part number held is e = grind arith
-
-pub set_is : (before after : Me (Unit {0}) Knows) (all : List (Option ℕ)) (number : ℕ)
-    (held new : Option ℕ) → before ≡ (both_of all number held, []) → Sets before.0 new after
-    → (slice_get all number ≡ Some held)
-    × (after ≡ (both_of (slice_set all number new) number new, []))
-set_is before after all number held new is told = grind arith
-
-pub same_is : (before after : Me (Unit {0}) Knows) (all : List (Option ℕ)) (number : ℕ)
-    (held : Option ℕ) → before ≡ (both_of all number held, [])
-    → Agree before.0 × (after ≡ (both_of before.0.all before.0.number before.0.held, []))
-    → (slice_get all number ≡ Some held) × (after ≡ (both_of all number held, []))
-same_is before after all number held is told = grind arith
 
 pub enrolled_is : (before after : Me (Unit {0}) Knows) (all : List (Option ℕ))
     → before ≡ (keeper_of all, [])

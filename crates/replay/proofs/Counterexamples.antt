@@ -1,5 +1,5 @@
 -- For each clause about a replay, its reads or a copy: an example that the clause refuses.
-use Rattle.std.proofs.Common.{false, None, Result, slice_index_or, refl, ap, ◌≡◌, ℕ, ◌+◌}
+use Rattle.std.proofs.Common.{false, None, Some, Result, slice_index_or, refl, ap, ◌≡◌, ℕ, ◌+◌}
 use Rattle.std.proofs.Common.{true, sym, ◌∙◌, inl, inr, arith, Ok, Err, List}
 use Rattle.std.proofs.Common.{[], ◌∷◌, ◌++◌, length, replicate}
 use Rattle.refusals.specs.declared.run_error.End.TheVariants as ends
@@ -19,13 +19,15 @@ use Rattle.log_reader.specs.declared.fault.ReadDeviceError.TheVariants as reads
 use Rattle.log_reader.specs.Reader.{Reader}
 use Rattle.replay.specs.Calls.{IsCalled, ReadsToStop, entry_calls}
 use Rattle.replay.specs.Copies.{EndsSince, IsCopied, IsUnaligned}
-use Rattle.replay.specs.Copies.{RefusesNoMore as CopyRefusesNoMore, Replays, SettlesOnly, StopsBy}
+use Rattle.replay.specs.Copies.{RefusesNoMore as CopyRefusesNoMore, Replays, SettledBy, SettlesOnly}
+use Rattle.replay.specs.Copies.{StopsBy}
 use Rattle.replay.specs.Copies.{StopsCalls, copy_calls, is_aligned_to, resized}
 use Rattle.replay.specs.declared.fault.CopyError.TheVariants as copies
 use Rattle.replay.specs.declared.fault.ReplayError.TheVariants as replays
 use Rattle.replay.specs.declared.replaying.Upto.{Upto}
 use Rattle.replay.specs.declared.replaying.Upto.TheVariants.{Count, Flush, Mark}
 use Rattle.replay.specs.Replays.{AsksTooMany, IsApplied, IsUpto, LacksFlush, LacksMark, ReachesPast}
+use Rattle.replay.specs.Replays.{HasReplayCause, LeavesBy}
 
 -- For each clause about the content after a replay, its calls, or the cause of a refusal: an
 -- example that the clause refuses.
@@ -82,6 +84,15 @@ lacks_mark (Count n) asks none = absurd asks
 lacks_mark (Mark text) asks none =
     none 1 mark (omega arith) refl (record { mark = refl; body = sym asks })
 lacks_mark Flush asks none = absurd asks
+
+-- no entry is applied in part where there is none
+leaves_target : LeavesBy 512 [] 0 (all 0) (all 0) 0 (replays.Target Io) → ⊥
+leaves_target told = let there = told.there in cc
+
+-- no mark is told as missing in a log with a fault
+cause_fault : (upto : Upto) (log : Reader) (v : View)
+    → HasReplayCause [] (Some CutShort) upto log log v v 0 replays.NoSuchMark → ⊥
+cause_fault upto log v told = let none = told.2 in cc
 
 -- the write reaches past a target of 5 sectors, and not past one of 6
 reaches : ReachesPast 512 (write ∷ []) 0 5
@@ -212,6 +223,14 @@ swapped new honest empty copied have =
     bodies : List Entry → List ℕ
     bodies [] = []
     bodies (e ∷ es) = e.body
+
+-- two marks that aren't settled, where the store ended
+unsettled_store : SettledBy (end_mark ∷ end_mark ∷ []) 0 2 none none (copies.Store ends.Full) → ⊥
+unsettled_store (inl all) = let less = all 0 end_mark (omega arith) refl refl in omega arith
+unsettled_store (inr last) =
+    let two = last.is_last in
+    let less = last.settled 0 end_mark (omega arith) refl refl in
+    omega arith
 
 -- a settle behind the entries that are told of
 settled_beyond : SettlesOnly (end_mark ∷ end_mark ∷ []) 0 1 none (record one { settled = 2 }) → ⊥

@@ -76,16 +76,11 @@ goes_flushed size calls base begun true =
 goes_flushed size calls base begun false =
     goes_flush size (content_at calls base) (past_of calls begun false)
 
-pub read_now : (disk : SectorDisk) (first n : ℕ) → first + n ≤ disk.sectors
-    → gather (content_at disk.calls.items disk.newest.items) first n
-    ≡ gather (cache_of disk).now first n
-read_now disk first n within = grind (arith, gather-ext)
-
 pub read_of : (disk : SectorDisk) (calls : List Call) (newest buffer : List ℕ) (first n : ℕ)
     → calls ≡ disk.calls.items → newest ≡ disk.newest.items
     → first + n ≤ disk.sectors → buffer ≡ gather (content_at calls newest) first n
     → buffer ≡ gather (cache_of disk).now first n
-read_of disk calls newest buffer first n same_calls same_newest within is = grind (arith, read_now)
+read_of disk calls newest buffer first n same_calls same_newest within is = grind (arith, gather-ext)
 
 -- `image` is the disk's whole content
 pub record IsGiven (disk : SectorDisk) (image : List ℕ) : Type 0 where

@@ -36,17 +36,9 @@ pub place_past : (places : List ℕ) (sector : ℕ) → length places ≤ sector
     → place_of places sector ≡ 0
 place_past places sector past = grind (arith, slice_get_past)
 
-pub first_place : (n sector : ℕ) → place_of (replicate n 0) sector ≡ 0
-first_place n sector =
-    grind (arith, cases_lt, unwrap_or-slice_get, get_or-replicate, place_past, length-replicate)
-
 new_place : (n : ℕ) (none table : List ℕ) → length none ≡ 0 → table ≡ replicate n 0 → (sector : ℕ)
     → place_of none sector ≡ place_of table sector
-new_place n none table empty zeroes sector = grind (arith, place_past, first_place)
-
-pub start_opened : (calls : List Call) (none others : List ℕ) → length none ≡ 0 → others ≡ []
-    → content_at calls none ≡ content_at calls others
-start_opened calls none others empty is = grind (arith, same_content, place_past)
+new_place n none table empty zeroes sector = grind (arith, place_past, cases_lt, unwrap_or-slice_get, get_or-replicate, length-replicate)
 
 -- an empty table gives the index 0 for each sector, so a table of zeroes changes nothing
 pub kept_opened : (sectors : ℕ) (calls : List Call) (newest base places others : List ℕ)
@@ -56,7 +48,7 @@ pub kept_opened : (sectors : ℕ) (calls : List Call) (newest base places others
     → IsKept sectors calls places others begun synced flushed
 kept_opened sectors calls newest base places others begun synced flushed kept empty zeroes
     bare =
-    grind (arith, length-replicate, whole_table, place_past, start_opened, new_place)
+    grind (arith, length-replicate, whole_table, place_past, same_content, new_place)
 
 call-kept : (calls : List Call) (call : Call) (place : ℕ) → place < length calls
     → slice_get (calls ++ call ∷ []) place ≡ slice_get calls place

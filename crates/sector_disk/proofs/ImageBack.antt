@@ -196,11 +196,10 @@ chain-closed calls synced s (suc (suc n)) place e closed = grind (arith, chain_p
 pub walk-within : (calls : List Call) (synced s n place k : ℕ)
     → is_chain calls synced s n place ≡ true → k < n → walk calls s k place < length calls
 walk-within calls synced s n place zero e h = chain-within calls synced s n place e
-walk-within calls synced s zero place (suc k) e h = absurd (omega arith)
-walk-within calls synced s (suc zero) place (suc k) e h = absurd (omega arith)
 walk-within calls synced s (suc (suc n)) place (suc k) e h =
     walk-within calls synced s (suc n) (before_at calls place s) k
     (chain_parts calls synced s n place e).2 (omega arith)
+walk-within calls synced s other place (suc k) e h = absurd (omega arith)
 
 pub length-back : (calls : List Call) (s n place : ℕ) → length (back calls s n place) ≡ n
 length-back calls s zero place = refl

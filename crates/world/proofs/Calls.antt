@@ -1,5 +1,5 @@
 -- Laws of a machine's calls (submissions and ends), of their events, and of its lists of requests.
-use Rattle.std.proofs.Common.{Some, None, List, [], ◌∷◌, ◌++◌, refl, ap, sym, ◌∙◌, inl, inr, arith}
+use Rattle.std.proofs.Common.{Some, List, [], ◌∷◌, ◌++◌, refl, ap, sym, ◌∙◌, inl, inr, arith}
 use Rattle.std.proofs.Common.{◌≡◌, ℕ, ◌+◌, ◌-◌, zero, suc, ◌<◌, ◌==◌, Bool, true, false, not, ◌&&◌}
 use Rattle.std.proofs.Common.{◌||◌, Option}
 use Rattle.std.specs.Prelude.{slice_get}
@@ -15,7 +15,7 @@ use Rattle.bio.specs.Possible.{covers_at}
 use Rattle.bio.specs.RequestLaws.{covers-parts}
 use Rattle.bio.specs.Requests.{first_sector, sector_count}
 use Rattle.world.specs.declared.step.Step.{Step}
-use Rattle.world.specs.declared.step.Step.TheVariants.{Submit, Land, Destage, End, Power}
+use Rattle.world.specs.declared.step.Step.TheVariants.{Submit, End}
 use Rattle.world.specs.Machine.{before_submit, call_of, calls_below, each_sector, is_among, is_end}
 use Rattle.world.specs.Machine.{is_submit, with_sector}
 
@@ -31,10 +31,7 @@ came_before early late (call ∷ calls) =
 
 pub good_end : (id : ℕ) (step : Step) → is_good_end id step ≡ true → is_end id step ≡ true
 good_end id (End ended ok) good = (and_parts (ended == id) ok good).0
-good_end id (Submit other) good = cc
-good_end id (Land other sector) good = cc
-good_end id (Destage sector) good = cc
-good_end id Power good = cc
+good_end id rest good = cc
 
 pub any_weaker : (s t : Step → Bool) → ((step : Step) → s step ≡ true → t step ≡ true)
     → (steps : List Step) → list_any s steps ≡ true → list_any t steps ≡ true
@@ -126,11 +123,7 @@ submit_call : (id k : ℕ) (event : Option CoreEvent)
     → (bio : Bio) × (k ≡ id) × (event ≡ Some (core_events.Submit bio))
 submit_call id k (Some (core_events.Submit bio)) h =
     (bio, eqb-true k id (first_of_two (k == id) h), refl)
-submit_call id k (Some (core_events.Complete ended ok)) h = cc
-submit_call id k (Some (core_events.Mark text)) h = cc
-submit_call id k (Some (core_events.Stop cause)) h = cc
-submit_call id k (Some core_events.Close) h = cc
-submit_call id k None h = cc
+submit_call id k other h = cc
 
 end_call : (id k : ℕ) (event : Option CoreEvent) → list_any (is_end id) (call_of k event) ≡ true
     → (ok : Bool) × (event ≡ Some (core_events.Complete id ok))
@@ -139,10 +132,7 @@ end_call id k (Some (core_events.Complete ended ok)) h = (
   ok,
   rw (eqb-true ended id (first_of_two (ended == id) h)),
 )
-end_call id k (Some (core_events.Mark text)) h = cc
-end_call id k (Some (core_events.Stop cause)) h = cc
-end_call id k (Some core_events.Close) h = cc
-end_call id k None h = cc
+end_call id k other h = cc
 
 pub submit_from : (events : List CoreEvent) (n id : ℕ)
     → list_any (is_submit id) (calls_below events n) ≡ true
@@ -163,11 +153,7 @@ end_from events n id h = grind (arith, call_from, end_call)
 other_submit : (id k : ℕ) (event : Option CoreEvent) (calls : List Step) → (k ≡ id → ⊥)
     → before_submit id (call_of k event ++ calls) ≡ before_submit id calls
 other_submit id k (Some (core_events.Submit bio)) calls differ = grind (arith, differ-eqb)
-other_submit id k (Some (core_events.Complete ended ok)) calls differ = refl
-other_submit id k (Some (core_events.Mark text)) calls differ = refl
-other_submit id k (Some (core_events.Stop cause)) calls differ = refl
-other_submit id k (Some core_events.Close) calls differ = refl
-other_submit id k None calls differ = refl
+other_submit id k other calls differ = refl
 
 pub before_submit_at : (events : List CoreEvent) (n id : ℕ) (bio : Bio) → id < n
     → slice_get events id ≡ Some (core_events.Submit bio)
@@ -222,8 +208,4 @@ each_covered test (Some (core_events.Submit bio)) sector each covered =
     ap test (sym place)
     ∙ all_below-each (λ place. test (first_sector bio + place)) (sector_count bio) each
     (sector - first_sector bio) (omega arith)
-each_covered test (Some (core_events.Complete id ok)) sector each covered = cc
-each_covered test (Some (core_events.Mark text)) sector each covered = cc
-each_covered test (Some (core_events.Stop cause)) sector each covered = cc
-each_covered test (Some core_events.Close) sector each covered = cc
-each_covered test None sector each covered = cc
+each_covered test other sector each covered = cc

@@ -339,10 +339,7 @@ may_end events mid k id ok bio well_formed is submitted tracked less ends calls 
     of_event place (Some (core_events.Submit other)) there early is_flush end = refl
     of_event place (Some (core_events.Complete other good_one)) there early is_flush end =
         grind (arith, of_end)
-    of_event place (Some (core_events.Mark text)) there early is_flush end = refl
-    of_event place (Some (core_events.Stop cause)) there early is_flush end = refl
-    of_event place (Some core_events.Close) there early is_flush end = refl
-    of_event place None there early is_flush end = refl
+    of_event place other there early is_flush end = refl
 
 ended_one : (events : List CoreEvent) (place a b : ℕ) (good fine : Bool)
     → slice_get events place ≡ Some (core_events.Complete a good)
@@ -570,25 +567,7 @@ follow_event events wanted sure k m (Some (core_events.Submit bio)) well_formed 
     follow_submit events wanted sure k m bio well_formed choice is before
 follow_event events wanted sure k m (Some (core_events.Complete id ok)) well_formed choice is
     before = follow_end events wanted sure k m id ok well_formed choice is before
-follow_event events wanted sure k m (Some (core_events.Mark text)) well_formed choice is before = (
-  m,
-  go_none events m,
-  follow_other events wanted sure k m (ap (call_of k) is)
-      (λ sector. ap (covers_at sector) is) before,
-)
-follow_event events wanted sure k m (Some (core_events.Stop cause)) well_formed choice is before = (
-  m,
-  go_none events m,
-  follow_other events wanted sure k m (ap (call_of k) is)
-      (λ sector. ap (covers_at sector) is) before,
-)
-follow_event events wanted sure k m (Some core_events.Close) well_formed choice is before = (
-  m,
-  go_none events m,
-  follow_other events wanted sure k m (ap (call_of k) is)
-      (λ sector. ap (covers_at sector) is) before,
-)
-follow_event events wanted sure k m None well_formed choice is before = (
+follow_event events wanted sure k m other well_formed choice is before = (
   m,
   go_none events m,
   follow_other events wanted sure k m (ap (call_of k) is)

@@ -140,9 +140,6 @@ durable-nothing = refl
 text-failed : end_text false ≡ codes "failed"
 text-failed = refl
 
-number_is : (a b : ℕ) → a ≡ b → a ≡ b
-number_is a b same = same
-
 -- a world of one sector that holds sevens, and what isn't one
 abbrev fresh : WorldState
 fresh = record { cells = empty_cell ∷ []; calls = []; off = false; image = replicate 512 7 }
@@ -168,7 +165,7 @@ abbrev bare : WorldState
 bare = record { cells = []; calls = []; off = false; image = [] }
 
 steps-longer : Steps [] Power bare (record bare { off = true; image = 7 ∷ [] }) → ⊥
-steps-longer told = let contra = number_is 1 0 told.size in omega arith
+steps-longer told = let contra : 1 ≡ 0 = told.size in omega arith
 
 -- no steps leave a world as it was
 all-none : AllSteps [] [] fresh fresh

@@ -15,12 +15,6 @@ use Rattle.bio.specs.Content.{Patch, over, sector_of}
 use Rattle.bio.specs.ContentLaws.{over-after, over-before, over-in}
 use Rattle.bio.specs.Places.{collect}
 use Rattle.world.specs.Cells.{IsPut}
-use Rattle.world.specs.declared.step.Step.{Step}
-use Rattle.world.specs.inside.{IsBefore}
-use Rattle.world.specs.Machine.{is_submit}
-
-pub reverse_snoc : {A : Type 0} (xs : List A) (x : A) → reverse (xs ++ x ∷ []) ≡ x ∷ reverse xs
-reverse_snoc xs x = reverse-append xs (x ∷ [])
 
 pub any_reverse : {A : Type 0} (test : A → Bool) (xs : List A)
     → list_any test (reverse xs) ≡ list_any test xs
@@ -54,30 +48,6 @@ take_next [] k x is = cc
 take_next (y ∷ xs) zero x is = grind arith
 take_next (y ∷ xs) (suc k) x is = grind (arith, take_next xs k x is)
 
-pub before_here : (calls : List Step) (id place next end : ℕ) (call : Step) → next ≡ suc place
-    → slice_get calls place ≡ Some call → is_submit id call ≡ true
-    → IsBefore calls id place end → IsBefore calls id next place
-before_here calls id place next end call is there here before =
-    grind (
-      arith,
-      take_next calls place call there,
-      reverse_snoc (take place calls) call,
-      take place
-          calls,
-    )
-
-pub before_other : (calls : List Step) (id place next end : ℕ) (call : Step) → next ≡ suc place
-    → slice_get calls place ≡ Some call → is_submit id call ≡ false
-    → IsBefore calls id place end → IsBefore calls id next end
-before_other calls id place next end call is there other before =
-    grind (
-      arith,
-      take_next calls place call there,
-      reverse_snoc (take place calls) call,
-      take place
-          calls,
-    )
-
 pub some_fails : {A : Type 0} (test : A → Bool) (xs : List A) (k : ℕ) (x : A)
     → slice_get xs k ≡ Some x → test x ≡ false → list_all test xs ≡ false
 some_fails test [] k x is fails = cc
@@ -88,12 +58,6 @@ some_fails test (y ∷ xs) (suc k) x is fails =
     and_false : (a : Bool) → (a && false) ≡ false
     and_false true = refl
     and_false false = refl
-
-pub all_more : {A : Type 0} (test : A → Bool) (xs : List A) (k next : ℕ) (x : A) → next ≡ suc k
-    → slice_get xs k ≡ Some x → test x ≡ true
-    → list_all test (take k xs) ≡ true → list_all test (take next xs) ≡ true
-all_more test xs k next x is there passes before =
-    grind (arith, take_next xs k x there, list_all-append test (take k xs) (x ∷ []), take k xs)
 
 pub grown : {A : Type 0} (f : ℕ → List A) (n next : ℕ) (old mid new : List A) → next ≡ suc n
     → mid ≡ old ++ collect f n → new ≡ mid ++ f n

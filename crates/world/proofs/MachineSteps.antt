@@ -23,7 +23,7 @@ use Rattle.world.specs.Cells.{AllSteps, CellState, IsFresh, IsSameMachine, IsRun
 use Rattle.world.specs.Cells.{WorldState, empty_cell, landed_of, left_after, landing, machine_in}
 use Rattle.world.specs.Cells.{machine_of, settled_of, settling}
 use Rattle.world.specs.declared.step.Step.{Step}
-use Rattle.world.specs.declared.step.Step.TheVariants.{Submit, Land, Destage, End, Power}
+use Rattle.world.specs.declared.step.Step.TheVariants.{Land, Destage, End}
 use Rattle.world.specs.inside.{end_settled, is_allowed, succeeds}
 use Rattle.world.specs.Machine.{Machine, after, durable, has_step, is_among, is_pending, is_run}
 use Rattle.world.specs.Machine.{may_succeed, may_take, newest, settled_if_ended, start, taken}
@@ -39,9 +39,8 @@ get_set_other : {A : Type 0} (xs : List A) (k j : ℕ) (x : A) → (j ≡ k → 
     → slice_get (set xs k x) j ≡ slice_get xs j
 get_set_other [] k j x differ = refl
 get_set_other (y ∷ xs) zero zero x differ = absurd (differ refl)
-get_set_other (y ∷ xs) zero (suc j) x differ = refl
-get_set_other (y ∷ xs) (suc k) zero x differ = refl
 get_set_other (y ∷ xs) (suc k) (suc j) x differ = grind (arith, get_set_other xs k j x)
+get_set_other (y ∷ xs) other rest x differ = refl
 
 -- `see` is `landed_of` or `settled_of`
 set_seen : (see : Option CellState → List ℕ) (cells : List CellState) (at : ℕ) (cell : CellState)
@@ -143,11 +142,7 @@ destage_steps events at old new may within size is image =
 settled_is : (events : List CoreEvent) (cells : List CellState) (calls : List Step) (off : Bool)
     (step : Step)
     → settled_if_ended events (machine_in cells calls off) step ≡ end_settled events cells step
-settled_is events cells calls off (End id ok) = refl
-settled_is events cells calls off (Submit id) = refl
-settled_is events cells calls off (Land id sector) = refl
-settled_is events cells calls off (Destage sector) = refl
-settled_is events cells calls off Power = refl
+settled_is events cells calls off other = refl
 
 all_settled : (events : List CoreEvent) (cells : List CellState) (calls : List Step) (off : Bool)
     (steps : List Step)
@@ -167,11 +162,8 @@ succeeds_is events cells calls off id =
 pub allowed_is : (events : List CoreEvent) (cells : List CellState) (calls : List Step) (off : Bool)
     (step : Step)
     → may_take events (machine_in cells calls off) step ≡ is_allowed events cells calls step
-allowed_is events cells calls off (Submit id) = refl
-allowed_is events cells calls off (Land id sector) = refl
-allowed_is events cells calls off (Destage sector) = refl
 allowed_is events cells calls off (End id ok) = simp (succeeds_is)
-allowed_is events cells calls off Power = refl
+allowed_is events cells calls off rest = refl
 
 like : (a b : Machine) → IsSameMachine a b → a ≡ b
 like a b same = grind (arith, fun_ext)
@@ -199,12 +191,9 @@ left_durable : (events : List CoreEvent) (m : Machine) (step : Step) (first old 
     (sector : ℕ) → IsSound events m → may_take events m step ≡ true
     → old sector ≡ durable events first m sector
     → left_after events m step old sector ≡ durable events first (after m step) sector
-left_durable events m (Submit id) first old sector sound may same = same
-left_durable events m (Land id at) first old sector sound may same = same
-left_durable events m (End id ok) first old sector sound may same = same
-left_durable events m Power first old sector sound may same = same
 left_durable events m (Destage at) first old sector sound may same =
     grind (arith, eqb_tells, put_newest)
+left_durable events m other first old sector sound may same = same
 
 runs_on : (events : List CoreEvent) (first : Content) (steps : List Step) (old new : WorldState)
     → IsSound events (machine_of old)

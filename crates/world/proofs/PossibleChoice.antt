@@ -71,11 +71,7 @@ ended_called events id request is_ended = elim (option_cases (end_of events id))
 covers_request : (event : Option CoreEvent) (sector : ℕ) → covers_at sector event ≡ true
     → is_request event ≡ true
 covers_request (Some (core_events.Submit bio)) sector covered = (covers-parts bio sector covered).0
-covers_request (Some (core_events.Complete id ok)) sector covered = cc
-covers_request (Some (core_events.Mark text)) sector covered = cc
-covers_request (Some (core_events.Stop cause)) sector covered = cc
-covers_request (Some core_events.Close) sector covered = cc
-covers_request None sector covered = cc
+covers_request other sector covered = cc
 
 begin_finish : (events : List CoreEvent) (wanted : ℕ → Option ℕ) (sure : ℕ → ℕ → Bool) (m : Machine)
     → is_well_formed events ≡ true
@@ -290,10 +286,9 @@ lawful_ends sectors events lawful small = λ id bio is.
 
 past_end : (places : List (Option ℕ)) (index : ℕ) → length places ≤ index
     → place_at places index ≡ None
-past_end [] zero h = refl
-past_end [] (suc index) h = refl
 past_end (place ∷ places) zero h = absurd (omega arith)
 past_end (place ∷ places) (suc index) h = past_end places index (omega arith)
+past_end [] other h = refl
 
 place_within : (places : List (Option ℕ)) (index place : ℕ) → place_at places index ≡ Some place
     → index < length places

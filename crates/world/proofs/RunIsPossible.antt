@@ -1,6 +1,6 @@
 -- A machine is sound after any steps, and so a run leaves only contents that the device could hold.
 use Rattle.std.proofs.Common.{List, [], ◌∷◌, length, refl, ap, sym, ◌∙◌, inl, inr, arith, ◌≡◌, ℕ}
-use Rattle.std.proofs.Common.{◌==◌, ◌<◌, Bool, true, false, not, ◌&&◌, ◌||◌, Option, Some, None}
+use Rattle.std.proofs.Common.{◌==◌, ◌<◌, Bool, true, false, not, ◌&&◌, ◌||◌, Option, Some}
 use Rattle.std.specs.Prelude.{◌⊎◌, slice_get}
 use Rattle.std.proofs.lemmas.Bool.{and_parts, eq-eqb, eqb-true, ltb-true}
 use Rattle.std.specs.List.{list_all, list_any}
@@ -185,10 +185,7 @@ good_settled events m id (step ∷ steps) all good =
         → has_settled events m id ≡ true
     of_step (End ended ok) passes good =
         let both = and_parts (ended == id) ok good in of_end ended ok passes both.0 both.1
-    of_step (Submit other) passes good = cc
-    of_step (Land other sector) passes good = cc
-    of_step (Destage sector) passes good = cc
-    of_step Power passes good = cc
+    of_step rest passes good = cc
 
 other_way : (a b : Bool) → (not a || b) ≡ true → a ≡ true → b ≡ true
 other_way true b h is = h
@@ -298,10 +295,7 @@ end_is : (id : ℕ) (event : Option CoreEvent) → is_end_of id event ≡ true
 end_is id (Some (core_events.Submit bio)) h = cc
 end_is id (Some (core_events.Complete ended ok)) h =
     (ok, rw (eqb-true ended id h))
-end_is id (Some (core_events.Mark text)) h = cc
-end_is id (Some (core_events.Stop cause)) h = cc
-end_is id (Some core_events.Close) h = cc
-end_is id None h = cc
+end_is id other h = cc
 
 pub record Ends (events : List CoreEvent) (id place : ℕ) : Type 0 where
   pub within : place < length events
@@ -344,20 +338,12 @@ end_call events place id ok is = ap (call_of place) is
 pub submits_some : (test : Bio → Bool) (event : Option CoreEvent) → submits test event ≡ true
     → (bio : Bio) × (event ≡ Some (core_events.Submit bio))
 submits_some test (Some (core_events.Submit bio)) h = (bio, refl)
-submits_some test (Some (core_events.Complete id ok)) h = cc
-submits_some test (Some (core_events.Mark text)) h = cc
-submits_some test (Some (core_events.Stop cause)) h = cc
-submits_some test (Some core_events.Close) h = cc
-submits_some test None h = cc
+submits_some test other h = cc
 
 pub flush_some : (event : Option CoreEvent) → is_flush_submit event ≡ true
     → (bio : Bio) × (event ≡ Some (core_events.Submit bio))
 flush_some (Some (core_events.Submit bio)) h = (bio, refl)
-flush_some (Some (core_events.Complete id ok)) h = cc
-flush_some (Some (core_events.Mark text)) h = cc
-flush_some (Some (core_events.Stop cause)) h = cc
-flush_some (Some core_events.Close) h = cc
-flush_some None h = cc
+flush_some other h = cc
 
 good_step : (id : ℕ) → is_good_end id (End id true) ≡ true
 good_step id = grind (arith, eq-eqb)

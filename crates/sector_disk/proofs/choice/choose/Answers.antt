@@ -4,12 +4,6 @@ use Rattle.sector_disk.proofs.NewPast.{chosen-next, unsynced-next}
 use Rattle.sector_disk.proofs.choice.choose.Goals as goal
 use Rattle.sector_disk.proofs.choice.choose.Goals.{then-count-gt1, else-count-gt1}
 
-pub loop-sector-init : goal.loop-sector-init
-loop-sector-init c = grind arith
-
-pub overflow_add-unsynced : goal.overflow_add-unsynced
-overflow_add-unsynced c = let few = c.loop-sector.invariant.few in omega arith
-
 pub loop-sector-preserved : goal.loop-sector-preserved
 loop-sector-preserved c =
     let before = c.loop-sector.invariant in
@@ -44,6 +38,3 @@ loop-sector-preserved c =
                 before.length_kept counts old.0 c.pick_at.ensures c.walk_back.ensures old.1,
           );
     }
-
-pub returns-clause-chosen : goal.returns-clause-chosen
-returns-clause-chosen c cache placed = grind arith

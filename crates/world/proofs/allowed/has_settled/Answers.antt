@@ -1,6 +1,6 @@
 use Rattle.std.proofs.Common.{ℕ, ◌+◌, Bool, sym, ◌∙◌, arith}
 use Rattle.std.specs.Prelude.{slice_get}
-use Rattle.bio.specs.PlaceLaws.{all_next, not_all}
+use Rattle.bio.specs.PlaceLaws.{not_all}
 use Rattle.bio.specs.Requests.{first_sector, sector_count}
 use Rattle.world.specs.Cells.{settled_of}
 use Rattle.world.specs.Machine.{is_among}
@@ -17,6 +17,3 @@ returns-then-not-has_settled_at c =
     (omega arith)
     (grind (arith, c.first_sector-first.ensures)
     ∙ (sym c.has_settled_at.ensures ∙ c.if-not-has_settled_at.true))
-
-pub loop-place-preserved : goal.loop-place-preserved
-loop-place-preserved c = grind (arith, all_next)

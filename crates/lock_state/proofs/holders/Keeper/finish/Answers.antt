@@ -1,5 +1,5 @@
 use Rattle.std.proofs.Common.{sym, ap, ◌∙◌, arith}
-use Rattle.lock_state.proofs.HolderMoves.{sets, splits, joins, joined, lent_is, set_is}
+use Rattle.lock_state.proofs.HolderMoves.{sets, splits, joins, joined, lent_is}
 use Rattle.lock_state.proofs.holders.Keeper.finish.Goals as goal
 
 pub split_seat-lent-requires : goal.split_seat-lent-requires
@@ -34,4 +34,4 @@ store-requires g c =
     (j.0 ∙ i.1 ∙ sym i.0, omega arith, sets _ _ _ (λ _. 0) _ _ _ _ _ both)
 
 pub split_seat-requires : goal.split_seat-requires
-split_seat-requires g c = grind (arith, lent_is, joined, set_is, splits)
+split_seat-requires g c = grind (arith, lent_is, joined, splits)

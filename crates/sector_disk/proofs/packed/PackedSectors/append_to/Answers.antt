@@ -1,6 +1,5 @@
 use Rattle.std.proofs.Common.{ℕ, List, ◌≡◌, ◌+◌, ◌*◌, ◌++◌, ◌∙◌, append_assoc, arith, drop, take}
 use Rattle.std.proofs.Math.Seq.{take-add}
-use Rattle.std.proofs.lemmas.List.{take_all}
 use Rattle.sector_disk.proofs.packed.PackedSectors.append_to.Goals as goal
 
 more : (old now all : List ℕ) (sector : ℕ) → now ≡ old ++ take (512 * sector) all
@@ -17,6 +16,3 @@ pub loop-sector-preserved : goal.loop-sector-preserved
 loop-sector-preserved c =
     c.in_ok-extend_from_slice.ensures.items ∙ rw c.read_sector.ensures (more c.args.to.now.items
     c.loop-sector.to.items c.args.self.now c.loop-sector.sector c.loop-sector.invariant)
-
-pub returns : goal.returns
-returns c = grind (arith, take_all)

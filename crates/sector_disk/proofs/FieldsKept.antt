@@ -36,9 +36,13 @@ pub place_past : (places : List ℕ) (sector : ℕ) → length places ≤ sector
     → place_of places sector ≡ 0
 place_past places sector past = grind (arith, slice_get_past)
 
+pub first_place : (n sector : ℕ) → place_of (replicate n 0) sector ≡ 0
+first_place n sector =
+    grind (arith, cases_lt, unwrap_or-slice_get, get_or-replicate, place_past, length-replicate)
+
 new_place : (n : ℕ) (none table : List ℕ) → length none ≡ 0 → table ≡ replicate n 0 → (sector : ℕ)
     → place_of none sector ≡ place_of table sector
-new_place n none table empty zeroes sector = grind (arith, place_past, cases_lt, unwrap_or-slice_get, get_or-replicate, length-replicate)
+new_place n none table empty zeroes sector = grind (arith, place_past, first_place)
 
 -- an empty table gives the index 0 for each sector, so a table of zeroes changes nothing
 pub kept_opened : (sectors : ℕ) (calls : List Call) (newest base places others : List ℕ)

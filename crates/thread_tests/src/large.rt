@@ -127,27 +127,23 @@ fn four_seats<H: Threads + Wait + Clock + Print + Sync + Send + Copy + Drop>(
     let Some(played) = stage(rt, alloc, tables, device, log, SEATS)? else {
         return Ok(holds(rt, false, "four seats play"));
     };
-    let is_found = is_found(rt, &played, &status);
-    let read = read_back(alloc, played.ended.closed.log.into_lower());
+    let Played {
+        tallies,
+        let_go: _,
+        seen,
+        rises,
+        receipts,
+        closed,
+        released: _,
+    } = played;
+    let has_status = is_same(rt, &closed.status, &status, "four seats' status");
+    let have_answered = have_answers(rt, tallies.as_slice(), &tally(OWN, 1, 0));
+    let do_rise = holds(rt, rises, "no status goes back");
+    let are_seen = have_seen(rt, seen.as_slice(), &status);
+    let are_named = are_named(rt, receipts.as_slice(), closed.placed.as_slice());
+    let read = read_back(alloc, closed.log.into_lower());
     let is_read = is_same(rt, &read, &listed, "entries that are read back");
-    Ok(is_found && is_read)
-}
-
-// Returns whether the answers, the receipts and the status are those of `four_seats`.
-fn is_found<D: Drop, L: Drop>(rt: &impl Print, played: &Played<D, L>, status: &Status) -> bool {
-    let found = &played.found;
-    let has_status = is_same(
-        rt,
-        &played.ended.closed.status,
-        status,
-        "four seats' status",
-    );
-    let have_answered = have_answers(rt, found.tallies.as_slice(), &tally(OWN, 1, 0));
-    let do_rise = holds(rt, found.rises, "no status goes back");
-    let are_seen = have_seen(rt, found.seen.as_slice(), status);
-    let placed = played.ended.closed.placed.as_slice();
-    let are_named = are_named(rt, found.receipts.as_slice(), placed);
-    has_status && have_answered && do_rise && are_seen && are_named
+    Ok(has_status && have_answered && do_rise && are_seen && are_named && is_read)
 }
 
 #[test]
@@ -289,8 +285,9 @@ fn readback<H: Threads + Wait + Clock + Print + Sync + Send + Copy + Drop>(
         refused: 1,
         ..tally(OWN + 4, 0, OWN + 3)
     };
-    let have_answered = have_answers(rt, played.found.tallies.as_slice(), &wanted);
-    let mut disk = played.ended.closed.device.into_lower();
+    let have_answered = have_answers(rt, played.tallies.as_slice(), &wanted);
+    let closed = played.closed;
+    let mut disk = closed.device.into_lower();
     let has_last = have_bytes(&mut disk, alloc, [LATE, LATE, 0])?;
     disk.crash(&[]);
     let has_flushed = have_bytes(&mut disk, alloc, [1, LATE, 3])?;

@@ -21,8 +21,4 @@ mod recording;
 #[cfg(test)]
 mod scenes;
 #[cfg(test)]
-mod starting;
-#[cfg(test)]
-mod values;
-#[cfg(test)]
 mod work;

@@ -1,19 +1,17 @@
 //! Tests of the time at which the device gets a seat's request.
 ghost use Rattle.std.specs.Prelude.{◌≡◌};
+ghost use Rattle.thread_tests.specs.Disks.{disk_ground};
 
-use crate::starting::{Act, close, start, submit};
-use crate::work::{Call, bio_of};
-use bio::{Bio, DevError, Ms};
+use bio::{Bio, Bytes, DevError, Ms};
 use blockdev::BlockDev;
 use board::Names;
 use lock_state::Run;
 use sector_disk::SectorDisk;
-use shared::{Answer, Started};
+use shared::{Answer, Ending, Shared, Started, Unnamed};
 use std::alloc::{AllocError, Global};
+use std::marker::Brand;
 use std::sync::Wait;
 use std::test::*;
-use std::thread::Threads;
-use std::time::Clock;
 
 // Each disk has this many sectors.
 const SECTORS: u64 = 16;
@@ -76,78 +74,85 @@ impl<D: BlockDev + Drop> BlockDev for Timed<D> {
     ghost lawful = { λ device. D.lawful device.lower };
 }
 
-// Submits `bio`, after `ask_close` if `late`, and closes the recorder. Returns whether the device's
-// call began at the time of the submission.
-#[derive(Drop)]
-struct Submit {
+// Submits a seat's request, and returns whether the device's call begins at the time of the
+// submission. If `late`, submits it after `ask_close`.
+fn is_handed_on<R: Run + Names, H: Wait>(
+    rt: &H,
+    alloc: Global,
+    unnamed: Unnamed,
     bio: Bio,
     late: bool,
+) -> Result<bool, AllocError>
+    requires ledger { (unnamed.ledger.name ≡ R.name) × (unnamed.ledger.parts ≡ R.parts)
+        × (unnamed.ledger.parts ≡ 1) }
+    requires table { (unnamed.table ≡ R.table) × (unnamed.stops ≡ R.stops)
+        × (unnamed.ends ≡ R.ends) }
+    requires board { unnamed.board ≡ R.board }
+    requires sectors { (R.sectors ≡ 16) × (R.log ≡ disk_ground 16) }
+    requires sector_size { R.sector_bytes ≡ 512 }
+{
+    let device = Timed::new(SectorDisk::new(alloc, SECTORS)?);
+    let log = SectorDisk::new(alloc, SECTORS)?;
+    let Ok(started) = Shared::new(alloc, unnamed, device, log, 1, 0) else {
+        return Ok(false);
+    };
+    let started: Started<Timed<SectorDisk>, SectorDisk, R> = started;
+    let Started {
+        recorder,
+        mut seats,
+        writer,
+        readers: _,
+    } = started;
+    let Some(mut seat) = seats.pop() else {
+        return Ok(false);
+    };
+    let is_asked_first = !late || recorder.ask_close(rt).is_ok();
+    let answer = recorder.submit(rt, &mut seat, bio, Ms::new(5));
+    seats.push(seat)?;
+    let is_asked = is_asked_first && recorder.ask_close(rt).is_ok();
+    let Ok(
+        Ending {
+            closed,
+            posts: _,
+            released: _,
+            written: _,
+            found: _,
+        },
+    ) = recorder.close(seats, writer, Vec::new(alloc))
+    else {
+        return Ok(false);
+    };
+    let is_answered = matches!(answer, Answer::Done | Answer::Read(_));
+    Ok(is_answered && is_asked && closed.device.last == Ms::new(5))
 }
 
-impl<D: BlockDev + Drop, L: BlockDev + Drop> Act<Timed<D>, L> for Submit {
-    type Out = bool;
-
-    fn act<R: Run + Names + Send + Sync, H: Threads + Wait + Clock + Sync>(
-        self,
-        rt: &H,
-        alloc: Global,
-        started: Started<Timed<D>, L, R>,
-    ) -> Result<bool, AllocError> {
-        let mut started = started;
-        let is_asked_first = !self.late || started.recorder.ask_close(rt).is_ok();
-        let answer = submit(rt, &mut started, self.bio, Ms::new(5));
-        let is_answered = matches!(answer, Some(Answer::Done | Answer::Read(_)));
-        let is_asked = started.recorder.ask_close(rt).is_ok();
-        let is_at_five = is_last_at(alloc, started, Ms::new(5));
-        Ok(is_asked_first && is_answered && is_asked && is_at_five)
-    }
-}
-
-// Closes a recorder. Returns whether the device's last call was at the time `moment`.
-fn is_last_at<D: BlockDev + Drop, L: BlockDev + Drop, R: Run + Names>(
-    alloc: Global,
-    started: Started<Timed<D>, L, R>,
-    moment: Ms,
-) -> bool {
-    match &close(alloc, started) {
-        Ok(ending) => ending.closed.device.last == moment,
-        Err(_) => false,
-    }
-}
-
-// Submits a request to a new recorder. Returns whether it began at its time.
-fn begins_at_its_moment<H: Threads + Wait + Clock + Sync>(
+// Starts a new recorder, and returns what `is_handed_on` returns for it.
+fn begins_at_its_moment<H: Wait>(
     rt: &H,
     alloc: Global,
     bio: Bio,
     late: bool,
 ) -> Result<bool, AllocError> {
-    let device = Timed::new(SectorDisk::new(alloc, SECTORS)?);
-    let log = SectorDisk::new(alloc, SECTORS)?;
-    Ok(start(rt, alloc, device, log, 1, 0, Submit { bio, late })?.unwrap_or(false))
-}
-
-// Returns a write, a flush, a discard and a read.
-fn requests(alloc: Global) -> Result<Vec<Bio>, AllocError> {
-    let write = Call::Write {
-        first: 1,
-        byte: 7,
-        fua: false,
-    };
-    Ok(vec![in alloc;
-        bio_of(alloc, write)?,
-        Bio::Flush,
-        Bio::Discard { first: 1, count: 2 },
-        Bio::Read { first: 1, count: 2 },
-    ]?)
+    let unnamed = Unnamed::new(alloc, 1)?;
+    is_handed_on::<Brand, H>(rt, alloc, unnamed, bio, late)
 }
 
 #[test]
 fn a_request_begins_at_its_moment(rt: HostRuntime) -> Result<(), Fail> {
+    let alloc = rt.alloc();
     for late in [false, true] {
-        for bio in requests(rt.alloc())? {
-            assert!(rt; begins_at_its_moment(&rt, rt.alloc(), bio, late)?);
-        }
+        let bytes = Bytes::from_vec(vec![in alloc; 7; 512]?);
+        let write = Bio::Write {
+            first: 1,
+            bytes,
+            flush: false,
+            fua: false,
+            meta: false,
+        };
+        assert!(rt; begins_at_its_moment(&rt, alloc, write, late)?);
+        assert!(rt; begins_at_its_moment(&rt, alloc, Bio::Flush, late)?);
+        assert!(rt; begins_at_its_moment(&rt, alloc, Bio::Discard { first: 1, count: 2 }, late)?);
+        assert!(rt; begins_at_its_moment(&rt, alloc, Bio::Read { first: 1, count: 2 }, late)?);
     }
     Ok(())
 }

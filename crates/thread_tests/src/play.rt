@@ -1,14 +1,15 @@
 //! Runs a recorder with a thread for each seat, for the readers and for the writer, and closes it.
+ghost use Rattle.std.specs.Prelude.{◌≡◌, ◌<◌, ◌≤◌};
 ghost use Rattle.std.specs.Thread.{IsSend};
+ghost use Rattle.lock_state.specs.PlacedItems.{ground_of};
 
 use crate::gate::Sign;
-use crate::starting::Act;
 use crate::work::{Call, Player, Tally, Work};
 use bio::{End, Id, Status};
 use blockdev::BlockDev;
 use board::Names;
 use lock_state::{Receipt, Run, Seat};
-use shared::{Closed, Open, Shared, Started, StatusSeat, WriterSeat};
+use shared::{Closed, Ending, Shared, Started, StatusSeat, Unnamed, WriterSeat};
 use std::alloc::{AllocError, Global};
 use std::sync::Wait;
 use std::thread;
@@ -52,37 +53,32 @@ impl<R: Run + Names> Watch<R> {
     }
 }
 
-/// What was found before the close. `tallies` has a tally for each table, in their order. `let_go`
+/// The results of a closed recorder. `tallies` has a tally for each table, in their order. `let_go`
 /// says whether each seat with a sign released a held call.
 #[derive(Drop)]
-pub struct Found {
+pub struct Played<D: Drop, L: Drop> {
     pub tallies: Vec<Tally>,
     pub let_go: bool,
-    /// The id and the number of each receipt.
-    pub receipts: Vec<(Id, u64)>,
     /// For each reader, the status that it read after all threads had ended.
     pub seen: Vec<Status>,
     /// Whether no reader read a status that went back.
     pub rises: bool,
-}
-
-/// A closed recorder.
-#[derive(Drop)]
-pub struct Ended<D: Drop, L: Drop> {
+    /// The id and the number of each receipt.
+    pub receipts: Vec<(Id, u64)>,
     pub closed: Closed<D, L>,
     /// Why the waiting seats were released, if they were.
     pub released: Option<End>,
 }
 
-/// The results of a closed recorder.
+// The seats and the readers after all calls.
 #[derive(Drop)]
-pub struct Played<D: Drop, L: Drop> {
-    pub found: Found,
-    pub ended: Ended<D, L>,
+struct Called<R: Run + Names> {
+    works: Vec<Work<R>>,
+    watches: Vec<Watch<R>>,
 }
 
 // Starts the writer and the readers, makes each seat's calls in a thread, calls `ask_close`, and
-// makes the late calls. Returns false if a thread can't be started or `ask_close` is refused. In
+// makes the late calls. Returns None if a thread can't be started or `ask_close` is refused. In
 // that case it ends logging, if the writer runs, since the writer would wait for more entries.
 fn run_all<
     D: BlockDev + Drop + Send,
@@ -94,33 +90,33 @@ fn run_all<
     alloc: Global,
     recorder: &Shared<D, L, R>,
     writer: &mut WriterSeat<R>,
-    works: &mut [Work<R>],
-    watches: &mut [Watch<R>],
-) -> bool {
+    works: Vec<Work<R>>,
+    watches: Vec<Watch<R>>,
+) -> Option<Called<R>> {
     thread::scope(
         thread::scope_env(),
         rt,
-        |scope| -> bool
+        |scope| -> Option<Called<R>>
             requires { IsSend D.row × IsSend L.row × IsSend R.row }
         {
             if scope
                 .spawn(move || recorder.write_loop(rt, writer))
                 .is_err()
             {
-                return false;
+                return None;
             }
             let Ok(lookers) = scope.spawn(move || look_all(rt, recorder, watches)) else {
                 recorder.give_up(rt);
-                return false;
+                return None;
             };
-            call_all(rt, alloc, recorder, works);
+            let works = call_all(rt, alloc, recorder, works);
             if recorder.ask_close(rt).is_err() {
                 recorder.give_up(rt);
-                return false;
+                return None;
             }
-            call_all_late(rt, alloc, recorder, works);
-            lookers.join(rt);
-            true
+            let works = call_all_late(rt, alloc, recorder, works);
+            let watches = lookers.join(rt);
+            Some(Called { works, watches })
         },
     )
 }
@@ -131,14 +127,16 @@ fn look_all<
     L: BlockDev + Drop + Send,
     R: Run + Names + Send + Sync,
     H: Threads + Wait + Sync,
->(rt: &H, recorder: &Shared<D, L, R>, watches: &mut [Watch<R>]) {
+>(rt: &H, recorder: &Shared<D, L, R>, watches: Vec<Watch<R>>) -> Vec<Watch<R>> {
+    let mut watches = watches;
     let threads = watches.len().saturating_add(1);
     thread::for_each_mut(
         rt,
-        watches,
+        watches.as_mut_slice(),
         threads,
         &|_, watch: &mut Watch<R>| { watch.look(recorder, LOOKS) },
     );
+    watches
 }
 
 // Makes each seat's calls, each seat in its own thread.
@@ -147,14 +145,16 @@ fn call_all<
     L: BlockDev + Drop + Send,
     R: Run + Names + Send + Sync,
     H: Threads + Wait + Clock + Sync,
->(rt: &H, alloc: Global, recorder: &Shared<D, L, R>, works: &mut [Work<R>]) {
+>(rt: &H, alloc: Global, recorder: &Shared<D, L, R>, works: Vec<Work<R>>) -> Vec<Work<R>> {
+    let mut works = works;
     let threads = works.len().saturating_add(1);
     thread::for_each_mut(
         rt,
-        works,
+        works.as_mut_slice(),
         threads,
         &|_, work: &mut Work<R>| { work.run(rt, alloc, recorder) },
     );
+    works
 }
 
 // Makes each seat's late calls, each seat in its own thread.
@@ -163,14 +163,16 @@ fn call_all_late<
     L: BlockDev + Drop + Send,
     R: Run + Names + Send + Sync,
     H: Threads + Wait + Clock + Sync,
->(rt: &H, alloc: Global, recorder: &Shared<D, L, R>, works: &mut [Work<R>]) {
+>(rt: &H, alloc: Global, recorder: &Shared<D, L, R>, works: Vec<Work<R>>) -> Vec<Work<R>> {
+    let mut works = works;
     let threads = works.len().saturating_add(1);
     thread::for_each_mut(
         rt,
-        works,
+        works.as_mut_slice(),
         threads,
         &|_, work: &mut Work<R>| { work.run_late(rt, alloc, recorder) },
     );
+    works
 }
 
 // Pairs each seat with a table, before its first call.
@@ -217,164 +219,137 @@ fn watches_of<R: Run + Names>(
     Ok(watches)
 }
 
-// Returns what the seats found, and no reader.
-fn found_by<R: Run + Names>(alloc: Global, works: &[Work<R>]) -> Result<Found, AllocError> {
-    let mut found = Found {
-        tallies: Vec::new(alloc),
-        let_go: true,
-        receipts: Vec::new(alloc),
-        seen: Vec::new(alloc),
-        rises: true,
-    };
-    for work in works {
-        found.let_go = found.let_go && work.let_go;
-        found.tallies.push(work.player.tally)?;
-        for receipt in work.player.receipts.as_slice() {
-            found.receipts.push((receipt.id(), receipt.number()))?;
-        }
-    }
-    Ok(found)
-}
-
-// Makes each reader read once more. Notes the status that each read last, and whether no reader
-// read a status that went back.
-fn last_looks<D: BlockDev + Drop, L: BlockDev + Drop, R: Run + Names>(
-    recorder: &Shared<D, L, R>,
-    watches: &mut [Watch<R>],
-    found: &mut Found,
-) -> Result<(), AllocError> {
-    for watch in watches.iter_mut() {
-        watch.look(recorder, 1);
-        found.rises = found.rises && !watch.fell;
-        found.seen.push(watch.last)?;
-    }
-    Ok(())
-}
-
-// The seats and the receipts of the works.
+// What the works leave: seats, receipts and tallies.
 #[derive(Drop)]
 struct Parts<R: Run + Names> {
     seats: Vec<Seat<R>>,
     receipts: Vec<Receipt<R>>,
+    tallies: Vec<Tally>,
+    let_go: bool,
 }
 
-// Takes the seats and the receipts out of the works.
+// Splits the works into their seats, their tallies in the same order, and their receipts.
 fn parts_of<R: Run + Names>(alloc: Global, works: Vec<Work<R>>) -> Result<Parts<R>, AllocError> {
-    let mut parts = Parts {
-        seats: Vec::new(alloc),
-        receipts: Vec::new(alloc),
-    };
+    let mut seats = Vec::new(alloc);
+    let mut receipts = Vec::new(alloc);
+    let mut tallies = Vec::new(alloc);
+    let mut let_go = true;
     for work in works {
-        take_apart(work.player, &mut parts)?;
+        let_go = let_go && work.let_go;
+        let Player {
+            seat,
+            tally,
+            receipts: mut own,
+        } = work.player;
+        tallies.push(tally)?;
+        receipts.append(&mut own)?;
+        seats.push(seat)?;
     }
-    Ok(parts)
+    Ok(Parts {
+        seats,
+        receipts,
+        tallies,
+        let_go,
+    })
 }
 
-// Adds a player's seat and receipts to the parts.
-fn take_apart<R: Run + Names>(player: Player<R>, parts: &mut Parts<R>) -> Result<(), AllocError> {
-    let mut player = player;
-    parts.receipts.append(&mut player.receipts)?;
-    parts.seats.push(player.seat)?;
-    Ok(())
+// Returns the id and the number of each receipt.
+fn names_of<R: Run>(alloc: Global, receipts: &[Receipt<R>]) -> Result<Vec<(Id, u64)>, AllocError> {
+    let mut names = Vec::new(alloc);
+    for receipt in receipts {
+        names.push((receipt.id(), receipt.number()))?;
+    }
+    Ok(names)
 }
 
-// A recorder with its seats and readers.
-#[derive(Drop)]
-struct Stage<D: BlockDev + Drop, L: BlockDev + Drop, R: Run + Names> {
-    recorder: Shared<D, L, R>,
-    writer: WriterSeat<R>,
-    works: Vec<Work<R>>,
+// Makes each reader read once more. Returns the status that each read last, and whether no reader
+// read a status that went back.
+fn last_looks<D: BlockDev + Drop, L: BlockDev + Drop, R: Run + Names>(
+    alloc: Global,
+    recorder: &Shared<D, L, R>,
     watches: Vec<Watch<R>>,
+) -> Result<(Vec<Status>, bool), AllocError> {
+    let mut seen = Vec::new(alloc);
+    let mut rises = true;
+    for watch in watches {
+        let mut watch = watch;
+        watch.look(recorder, 1);
+        rises = rises && !watch.fell;
+        seen.push(watch.last)?;
+    }
+    Ok((seen, rises))
 }
 
-impl<D: BlockDev + Drop, L: BlockDev + Drop, R: Run + Names> Stage<D, L, R> {
-    // Pairs each seat of a new recorder with a table.
-    fn new(
-        alloc: Global,
-        started: Started<D, L, R>,
-        tables: Vec<Table>,
-    ) -> Result<Stage<D, L, R>, AllocError> {
-        Ok(Stage {
-            works: works_of(alloc, started.seats, tables)?,
-            watches: watches_of(alloc, started.readers)?,
-            recorder: started.recorder,
-            writer: started.writer,
-        })
-    }
-
-    // Returns what was found after all calls.
-    fn found(&mut self, alloc: Global) -> Result<Found, AllocError> {
-        let mut found = found_by(alloc, self.works.as_slice())?;
-        last_looks(&self.recorder, self.watches.as_mut_slice(), &mut found)?;
-        Ok(found)
-    }
-
-    // Returns what a close takes.
-    fn open(self, alloc: Global) -> Result<Open<D, L, R>, AllocError> {
-        let parts = parts_of(alloc, self.works)?;
-        Ok(Open {
-            recorder: self.recorder,
-            seats: parts.seats,
-            writer: self.writer,
-            receipts: parts.receipts,
-        })
-    }
-}
-
-// Closes a recorder. Returns None if this is refused.
-fn ended<D: BlockDev + Drop, L: BlockDev + Drop, R: Run + Names>(
-    open: Open<D, L, R>,
-) -> Option<Ended<D, L>> {
-    match open.recorder.close(open.seats, open.writer, open.receipts) {
-        Ok(ending) => Some(Ended {
-            closed: ending.closed,
-            released: ending.released,
-        }),
-        Err(_) => None,
-    }
-}
-
-/// Makes the calls of the tables, with a seat for each, and closes the recorder. Returns None if a
-/// thread can't be started, or if `ask_close` or the close is refused.
-#[derive(Drop)]
-pub struct Play {
-    pub tables: Vec<Table>,
-}
-
-impl<D: BlockDev + Drop + Send, L: BlockDev + Drop + Send> Act<D, L> for Play {
-    type Out = Option<Played<D, L>>;
-
-    fn act<R: Run + Names + Send + Sync, H: Threads + Wait + Clock + Sync>(
-        self,
-        rt: &H,
-        alloc: Global,
-        started: Started<D, L, R>,
-    ) -> Result<Option<Played<D, L>>, AllocError> {
-        let mut stage = Stage::new(alloc, started, self.tables)?;
-        if !make_calls(rt, alloc, &mut stage) {
-            return Ok(None);
-        }
-        let found = stage.found(alloc)?;
-        let ended = ended(stage.open(alloc)?);
-        Ok(ended.map(|ended| Played { found, ended }))
-    }
-}
-
-// Makes the calls of a stage. Returns whether the threads were started, and `ask_close` succeeded.
-fn make_calls<
+/// Makes the calls of the tables, with a seat for each, and closes the recorder. Returns None if
+/// the recorder or a thread can't be started, or if `ask_close` or the close is refused.
+pub fn play<
     D: BlockDev + Drop + Send,
     L: BlockDev + Drop + Send,
     R: Run + Names + Send + Sync,
     H: Threads + Wait + Clock + Sync,
->(rt: &H, alloc: Global, stage: &mut Stage<D, L, R>) -> bool {
-    let works = stage.works.as_mut_slice();
-    let watches = stage.watches.as_mut_slice();
-    run_all(
-        rt,
-        alloc,
-        &stage.recorder,
-        &mut stage.writer,
-        works,
-        watches,
-    )
+>(
+    rt: &H,
+    alloc: Global,
+    unnamed: Unnamed,
+    device: D,
+    log: L,
+    tables: Vec<Table>,
+    count: u64,
+    readers: u64,
+) -> Result<Option<Played<D, L>>, AllocError>
+    requires seats { (0 < count) × (count ≤ 64) }
+    requires readers { readers ≤ 64 }
+    requires ledger { (unnamed.ledger.name ≡ R.name) × (unnamed.ledger.parts ≡ R.parts)
+        × (unnamed.ledger.parts ≡ count) }
+    requires table { (unnamed.table ≡ R.table) × (unnamed.stops ≡ R.stops)
+        × (unnamed.ends ≡ R.ends) }
+    requires board { unnamed.board ≡ R.board }
+    requires sectors { (D.shown device).size ≡ R.sectors }
+    requires log { R.log ≡ ground_of (L.shown log) }
+    requires sector_size { R.sector_bytes ≡ 512 }
+{
+    let Ok(started) = Shared::<D, L, R>::new(alloc, unnamed, device, log, count, readers) else {
+        return Ok(None);
+    };
+    let Started {
+        recorder,
+        seats,
+        mut writer,
+        readers,
+    } = started;
+    let watches = watches_of(alloc, readers)?;
+    let works = works_of(alloc, seats, tables)?;
+    let Some(called) = run_all(rt, alloc, &recorder, &mut writer, works, watches) else {
+        return Ok(None);
+    };
+    let Called { works, watches } = called;
+    let Parts {
+        seats,
+        receipts,
+        tallies,
+        let_go,
+    } = parts_of(alloc, works)?;
+    let (seen, rises) = last_looks(alloc, &recorder, watches)?;
+    let kept = names_of(alloc, receipts.as_slice())?;
+    let Ok(
+        Ending {
+            closed,
+            posts: _,
+            released,
+            written: _,
+            found: _,
+        },
+    ) = recorder.close(seats, writer, receipts)
+    else {
+        return Ok(None);
+    };
+    Ok(Some(Played {
+        tallies,
+        let_go,
+        seen,
+        rises,
+        receipts: kept,
+        closed,
+        released,
+    }))
 }

@@ -6,7 +6,6 @@ ghost use Rattle.lock_state.specs.PlacedItems.{ground_of};
 ghost use Rattle.log_store.specs.Calls.{store_of};
 ghost use Rattle.sector_disk.specs.DiskView.{shown_of};
 
-use crate::values::{Values, tables};
 use bio::{Bio, Bytes, Ms, SectorSize, check, check_sized};
 use lock_state::{DataState, Fresh, LogState, QueueState, Run, Seat, WriterPart, drain};
 use log_store::LogStore;
@@ -160,33 +159,6 @@ fn agree<R: Run>(
 fn two_seats_record<R: Run>(
     rt: &impl Print,
     alloc: Global,
-    values: &mut Values<R>,
-    size: SectorSize,
-) -> Result<bool, AllocError>
-    requires sectors { R.sectors ≡ 64 }
-    requires size { bytes_of size ≡ R.sector_bytes }
-{
-    let (queue, log, data_state) = (&mut values.queue, &mut values.log, &mut values.data_state);
-    let [one, other] = values.seats.as_mut_slice() else {
-        return Ok(false);
-    };
-    let are_made = calls(alloc, queue, data_state, one, other, size)?;
-    let is_closed = turn(queue, log) && queue.close().is_ok();
-    let is_passed = pass(queue, other)?;
-    let do_agree = agree(alloc, queue, data_state, one, other)?;
-    let is_whole = writes_rest(queue, log, 10);
-    Ok(
-        holds(rt, are_made, "the calls")
-            && holds(rt, is_closed && is_passed, "the close")
-            && holds(rt, do_agree, "the seats and the device")
-            && holds(rt, is_whole, "the log"),
-    )
-}
-
-// Makes a new recorder with the name `R` and two seats, and returns what `two_seats_record` returns.
-fn named<R: Run>(
-    rt: &impl Print,
-    alloc: Global,
     blank: Blank,
     fresh: (Fresh, Fresh, Fresh),
     size: SectorSize,
@@ -202,19 +174,42 @@ fn named<R: Run>(
     requires empty { ((store_of store).placed ≡ 0) × ((store_of store).end ≡ None) }
     requires device { (shown_of device).size ≡ 64 }
 {
-    let mut values = Values::<R>::new(alloc, blank, fresh, size, store, device)?;
-    two_seats_record(rt, alloc, &mut values, size)
+    let (table, stops, ends) = fresh;
+    let mut log = LogState::new(alloc, store, ends);
+    let mut data_state = DataState::<SectorDisk, R>::new(alloc, device);
+    let (mut queue, mut seats, _) = QueueState::<R>::start(alloc, blank, table, stops, size, 2)?;
+    let (Some(mut one), Some(mut other)) = (seats.pop(), seats.pop()) else {
+        return Ok(false);
+    };
+    let are_made = calls(
+        alloc,
+        &mut queue,
+        &mut data_state,
+        &mut one,
+        &mut other,
+        size,
+    )?;
+    let is_closed = turn(&mut queue, &mut log) && queue.close().is_ok();
+    let is_passed = pass(&queue, &mut other)?;
+    let do_agree = agree(alloc, &queue, &data_state, &one, &other)?;
+    let is_whole = writes_rest(&mut queue, &mut log, 10);
+    Ok(
+        holds(rt, are_made, "the calls")
+            && holds(rt, is_closed && is_passed, "the close")
+            && holds(rt, do_agree, "the seats and the device")
+            && holds(rt, is_whole, "the log"),
+    )
 }
 
 // Makes a new recorder with two seats, and returns what `two_seats_record` returns.
 fn two_seats(rt: &impl Print, alloc: Global, size: SectorSize) -> Result<bool, AllocError> {
     let blank = Blank::new(2);
-    let fresh = tables(alloc)?;
+    let fresh = (Fresh::new(alloc)?, Fresh::new(alloc)?, Fresh::new(alloc)?);
     let device = SectorDisk::new(alloc, SECTORS)?;
     let Ok(store) = LogStore::create_sized(SectorDisk::new(alloc, LOG_SECTORS)?, size) else {
         return Ok(false);
     };
-    named::<Brand>(rt, alloc, blank, fresh, size, store, device)
+    two_seats_record::<Brand>(rt, alloc, blank, fresh, size, store, device)
 }
 
 #[test]

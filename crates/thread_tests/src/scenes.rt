@@ -3,14 +3,15 @@
 ghost use Rattle.std.specs.Prelude.{◌<◌, ◌≤◌};
 
 use crate::gate::{Gate, Sign};
-use crate::play::{Ended, Play, Played, Table};
-use crate::starting::start;
+use crate::play::{Played, Table, play};
 use crate::work::{Call, Tally};
 use bio::{End, Status};
 use blockdev::BlockDev;
 use sector_disk::SectorDisk;
+use shared::Unnamed;
 use std::alloc::{AllocError, Global};
 use std::io::Print;
+use std::marker::Brand;
 use std::sync::Wait;
 use std::test::*;
 use std::thread::Threads;
@@ -72,7 +73,8 @@ pub fn stage<
     if count == 0 || 64 < count {
         return Ok(None);
     }
-    Ok(start(rt, alloc, device, log, count, readers, Play { tables })?.flatten())
+    let unnamed = Unnamed::new(alloc, count)?;
+    play::<D, L, Brand, H>(rt, alloc, unnamed, device, log, tables, count, readers)
 }
 
 // Which device holds a call.
@@ -132,31 +134,20 @@ fn gated<H: Threads + Wait + Clock + Print + Sync + Send + Copy + Drop>(
     let Some(played) = stage(rt, alloc, tables, device, log, 0)? else {
         return Ok(holds(rt, false, "two seats play"));
     };
-    Ok(is_scene(rt, &played, &scene))
-}
-
-// Returns whether the answers and the status are those of a scene.
-fn is_scene<D: Drop, L: Drop>(rt: &impl Print, played: &Played<D, L>, scene: &Scene) -> bool {
     let is_let_go = holds(
         rt,
-        played.found.let_go,
+        played.let_go,
         "the call was held until the other was answered",
     );
-    let is_status = has_status(rt, &played.ended, &scene.status, "a scene's status");
-    let are_tallies = are_answered(rt, played.found.tallies.as_slice(), scene.tallies);
-    are_tallies && is_let_go && is_status
-}
-
-// Returns whether a log has this status, and waiters were let go for its end. `what` names the
-// status.
-fn has_status<D: Drop, L: Drop>(
-    rt: &impl Print,
-    ended: &Ended<D, L>,
-    status: &Status,
-    what: &str,
-) -> bool {
-    let is_status = is_same(rt, &ended.closed.status, status, what);
-    is_same(rt, &ended.released, &status.end, "why waiters are let go") && is_status
+    let is_status = is_same(rt, &played.closed.status, &scene.status, "a scene's status");
+    let is_end = is_same(
+        rt,
+        &played.released,
+        &scene.status.end,
+        "why waiters are let go",
+    );
+    let are_tallies = are_answered(rt, played.tallies.as_slice(), scene.tallies);
+    Ok(are_tallies && is_let_go && is_status && is_end)
 }
 
 // Returns the status of a log that hasn't ended, with `entries` entries up to sector `sector`.
@@ -361,22 +352,12 @@ fn small_log<H: Threads + Wait + Clock + Print + Sync + Send + Copy + Drop>(
     let Some(played) = stage(rt, alloc, tables, device, log, 0)? else {
         return Ok(holds(rt, false, "one seat plays"));
     };
-    let is_status = has_status(rt, &played.ended, &status, "a small log's status");
-    let is_told = has_one(
-        rt,
-        played.found.tallies.as_slice(),
-        answer,
-        "one seat's answer",
-    );
-    Ok(is_told && is_status)
-}
-
-// Returns whether there is one tally, and it is `answer`. `what` names it.
-fn has_one(rt: &impl Print, tallies: &[Tally], answer: Tally, what: &str) -> bool {
-    match tallies {
-        [tally] => is_same(rt, tally, &answer, what),
-        _ => holds(rt, false, "one tally"),
-    }
+    let is_status = is_same(rt, &played.closed.status, &status, "a small log's status");
+    let is_told = is_same(rt, &played.released, &status.end, "why a waiter is let go");
+    let [found] = played.tallies.as_slice() else {
+        return Ok(holds(rt, false, "one tally"));
+    };
+    Ok(is_same(rt, found, &answer, "one seat's answer") && is_status && is_told)
 }
 
 // A log of two sectors has no room for a mark.
@@ -425,12 +406,6 @@ fn failing_log<H: Threads + Wait + Clock + Print + Sync>(
     let Some(played) = stage(rt, alloc, tables, device, log, 1)? else {
         return Ok(holds(rt, false, "one seat plays"));
     };
-    Ok(is_failed(rt, &played))
-}
-
-// Returns whether the log and the logging ended by the device's failure, and the seat and the
-// reader were told so.
-fn is_failed<D: Drop, L: Drop>(rt: &impl Print, played: &Played<D, L>) -> bool {
     let end = Some(End::Device);
     let status = Status {
         end,
@@ -440,17 +415,16 @@ fn is_failed<D: Drop, L: Drop>(rt: &impl Print, played: &Played<D, L>) -> bool {
         not_logged: 1,
         ..tally(0, 0, 0)
     };
-    let closed = &played.ended.closed;
-    let is_log = is_same(rt, &closed.store_end, &end, "why the log ended");
-    let is_stop = is_same(rt, &closed.stop, &end, "why logging stopped");
-    let is_status = has_status(rt, &played.ended, &status, "a failed log's status");
-    let is_seen = match played.found.seen.as_slice() {
-        [seen] => is_same(rt, seen, &status, "the status that was seen last"),
-        _ => holds(rt, false, "one reader"),
+    let is_log = is_same(rt, &played.closed.store_end, &end, "why the log ended");
+    let is_stop = is_same(rt, &played.closed.stop, &end, "why logging stopped");
+    let is_told = is_same(rt, &played.released, &end, "why a waiter is let go");
+    let is_status = is_same(rt, &played.closed.status, &status, "a failed log's status");
+    let ([found], [seen]) = (played.tallies.as_slice(), played.seen.as_slice()) else {
+        return Ok(holds(rt, false, "one tally, and one reader"));
     };
-    let tallies = played.found.tallies.as_slice();
-    let is_answered = has_one(rt, tallies, not_logged, "one seat's answer");
-    is_log && is_stop && is_status && is_seen && is_answered
+    let is_seen = is_same(rt, seen, &status, "the status that was seen last");
+    let is_answered = is_same(rt, found, &not_logged, "one seat's answer");
+    Ok(is_log && is_stop && is_told && is_status && is_seen && is_answered)
 }
 
 #[test]
@@ -492,15 +466,17 @@ fn failing_device<H: Threads + Wait + Clock + Print + Sync>(
     let Some(played) = stage(rt, alloc, tables, device, log, 0)? else {
         return Ok(holds(rt, false, "one seat plays"));
     };
+    let [found] = played.tallies.as_slice() else {
+        return Ok(holds(rt, false, "one tally"));
+    };
     let failed = Tally {
         failed: 10,
         ..tally(0, 0, 0)
     };
-    let tallies = played.found.tallies.as_slice();
-    Ok(has_one(
+    Ok(is_same(
         rt,
-        tallies,
-        failed,
+        found,
+        &failed,
         "the answers of a seat whose device fails",
     ))
 }

@@ -209,8 +209,8 @@ fn is_filled(bytes: &[u8], call: Call) -> bool {
     }
 }
 
-/// Returns the request of a call; a flush for a call without a request.
-pub fn bio_of(alloc: Global, call: Call) -> Result<Bio, AllocError> {
+// Returns the request of a call; a flush for a call without a request.
+fn bio_of(alloc: Global, call: Call) -> Result<Bio, AllocError> {
     Ok(match call {
         Call::Write { first, byte, fua } => Bio::Write {
             first,

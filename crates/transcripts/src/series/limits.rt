@@ -19,9 +19,6 @@ const SCRIPT_BYTES: usize = 4_194_304;
 // A log with sectors of 512 bytes keeps this many bytes of a mark's text.
 const MARK_BYTES: usize = 479;
 
-// How `list` prints a log with a mark, up to the mark's text.
-const MARK_LISTED: &str = "super version 1 entries 2 sectorsize 512\n0 @1 mark ";
-
 // The image of the largest disk has this many bytes.
 const IMAGE_BYTES: usize = 536_870_912;
 
@@ -96,26 +93,14 @@ fn check_lines<H: Threads + Wait + Sync>(
     check(rt, alloc, case, &wanted, folder, report)
 }
 
-// Runs each line of `lines`, as `check_lines` does, on a folder with a script and zeroes.
-fn check_script<H: Threads + Wait + Sync>(
-    rt: &H,
-    alloc: Global,
-    case: &str,
-    script: &str,
-    lines: &[(&str, &str)],
-    report: &mut Report,
-) -> Result<(), AllocError> {
-    let mut folder = folder_of(alloc, script)?;
-    folder.put(alloc, "zeroes", vec![in alloc; 0; 8192]?)?;
-    check_lines(rt, alloc, case, lines, &mut folder, report)
-}
-
 // Checks that a script and a command line may have numbers of 20 digits.
 fn check_numbers<H: Threads + Wait + Sync>(
     rt: &H,
     alloc: Global,
     report: &mut Report,
 ) -> Result<(), AllocError> {
+    let mut folder = folder_of(alloc, LONG_NUMBERS)?;
+    folder.put(alloc, "zeroes", vec![in alloc; 0; 8192]?)?;
     let lines = [
         ("record script log", "a ok\n2 10\n"),
         (
@@ -125,7 +110,14 @@ fn check_numbers<H: Threads + Wait + Sync>(
         ("judge script 00000000000000000003 out", "yes\n"),
         ("copy log other 00000000000000000040", "copied 2\n"),
     ];
-    check_script(rt, alloc, "numbers of 20 digits", LONG_NUMBERS, &lines, report)
+    check_lines(
+        rt,
+        alloc,
+        "numbers of 20 digits",
+        &lines,
+        &mut folder,
+        report,
+    )
 }
 
 // Checks a script of 4 MiB. Nearly all of its bytes are the text of one mark.
@@ -134,23 +126,25 @@ fn check_mark<H: Threads + Wait + Sync>(
     alloc: Global,
     report: &mut Report,
 ) -> Result<(), AllocError> {
-    let script = text_of(alloc, "data 16\nlog 32\nmark ", SCRIPT_BYTES - 27, "\nclose\n")?;
-    let listed = text_of(alloc, MARK_LISTED, MARK_BYTES, "\n1 @2 mark dm-log-writes-end\n")?;
+    let mut script = String::from_str(alloc, "data 16\nlog 32\nmark ")?;
+    for _byte in script.len()..SCRIPT_BYTES.saturating_sub(7) {
+        script.push('x')?;
+    }
+    script.push_str("\nclose\n")?;
+    let mut folder = folder_of(alloc, script.as_str())?;
+    let mut listed = String::from_str(
+        alloc,
+        "super version 1 entries 2 sectorsize 512\n0 @1 mark ",
+    )?;
+    for _byte in 0..MARK_BYTES {
+        listed.push('x')?;
+    }
+    listed.push_str("\n1 @2 mark dm-log-writes-end\n")?;
     let lines = [
         ("record script log", "2 2\n"),
         ("list log", listed.as_str()),
     ];
-    check_script(rt, alloc, "a mark of 4 MiB", script.as_str(), &lines, report)
-}
-
-// Returns a text with `count` letters x between `first` and `last`.
-fn text_of(alloc: Global, first: &str, count: usize, last: &str) -> Result<String, AllocError> {
-    let mut text = String::from_str(alloc, first)?;
-    for _ in 0..count {
-        text.push('x')?;
-    }
-    text.push_str(last)?;
-    Ok(text)
+    check_lines(rt, alloc, "a mark of 4 MiB", &lines, &mut folder, report)
 }
 
 // Checks a data disk of the largest size, with a request of the largest size at its end.
@@ -183,11 +177,19 @@ fn check_log<H: Threads + Wait + Sync>(
     alloc: Global,
     report: &mut Report,
 ) -> Result<(), AllocError> {
+    let mut folder = folder_of(alloc, LARGE_LOG)?;
     let lines = [
         ("record script log", "a ok\n2 2050\n"),
         ("status log", "2 2050\n"),
     ];
-    check_script(rt, alloc, "a log of 2^20 sectors", LARGE_LOG, &lines, report)
+    check_lines(
+        rt,
+        alloc,
+        "a log of 2^20 sectors",
+        &lines,
+        &mut folder,
+        report,
+    )
 }
 
 // Checks 70,000 writes that are all submitted before the first of them completes.
@@ -196,37 +198,30 @@ fn check_requests<H: Threads + Wait + Sync>(
     alloc: Global,
     report: &mut Report,
 ) -> Result<(), AllocError> {
-    let script = many_requests(alloc)?;
-    let recorded = many_ends(alloc)?;
-    let lines = [
-        ("record script log", recorded.as_str()),
-        ("replay log zeroes out entries:70000", "replayed 70000\n"),
-        ("judge script 140000 out", "yes\n"),
-    ];
-    check_script(rt, alloc, "140,000 events", script.as_str(), &lines, report)
-}
-
-// Returns the script with 70,000 writes.
-fn many_requests(alloc: Global) -> Result<String, AllocError> {
-    let mut script = String::from_str(alloc, "data 16\nlog 140003\n")?;
+    let sectors = REQUESTS.saturating_mul(2).saturating_add(1);
+    let mut script = String::from_str(alloc, "data 16\n")?;
+    let mut recorded = String::new(alloc);
+    writeln!(script, "log {}", sectors.saturating_add(2))?;
     for number in 0..REQUESTS {
         writeln!(script, "w a{number} 5 1 41")?;
     }
     for number in 0..REQUESTS {
         writeln!(script, "c a{number}")?;
-    }
-    script.push_str("close\n")?;
-    Ok(script)
-}
-
-// Returns what `record` prints for the script with 70,000 writes.
-fn many_ends(alloc: Global) -> Result<String, AllocError> {
-    let mut recorded = String::new(alloc);
-    for number in 0..REQUESTS {
         writeln!(recorded, "a{number} ok")?;
     }
-    recorded.push_str("70001 140001\n")?;
-    Ok(recorded)
+    script.push_str("close\n")?;
+    writeln!(recorded, "{} {sectors}", REQUESTS.saturating_add(1))?;
+    let mut folder = folder_of(alloc, script.as_str())?;
+    folder.put(alloc, "zeroes", vec![in alloc; 0; 8192]?)?;
+    let replay = format!(in alloc; "replay log zeroes out entries:{REQUESTS}")?;
+    let replayed = format!(in alloc; "replayed {REQUESTS}\n")?;
+    let judge = format!(in alloc; "judge script {} out", REQUESTS.saturating_mul(2))?;
+    let lines = [
+        ("record script log", recorded.as_str()),
+        (replay.as_str(), replayed.as_str()),
+        (judge.as_str(), "yes\n"),
+    ];
+    check_lines(rt, alloc, "140,000 events", &lines, &mut folder, report)
 }
 
 // Lists a log of 400,000 flushes, asks for its status, and replays it.
@@ -235,14 +230,21 @@ fn check_entries<H: Threads + Wait + Sync>(
     alloc: Global,
     report: &mut Report,
 ) -> Result<(), AllocError> {
-    let listed = many_flushes(alloc)?;
     let mut folder = Folder::new(alloc);
     folder.put(alloc, "log", flushes(alloc)?)?;
     folder.put(alloc, "zeroes", vec![in alloc; 0; 512]?)?;
+    let mut listed = String::new(alloc);
+    writeln!(listed, "super version 1 entries {ENTRIES} sectorsize 512")?;
+    for number in 0..ENTRIES {
+        writeln!(listed, "{number} @{} flush", number.saturating_add(1))?;
+    }
+    let status = format!(in alloc; "{ENTRIES} {ENTRIES}\n")?;
+    let replay = format!(in alloc; "replay log zeroes out entries:{ENTRIES}")?;
+    let replayed = format!(in alloc; "replayed {ENTRIES}\n")?;
     let lines = [
         ("list log", listed.as_str()),
-        ("status log", "400000 400000\n"),
-        ("replay log zeroes out entries:400000", "replayed 400000\n"),
+        ("status log", status.as_str()),
+        (replay.as_str(), replayed.as_str()),
     ];
     check_lines(
         rt,
@@ -252,16 +254,6 @@ fn check_entries<H: Threads + Wait + Sync>(
         &mut folder,
         report,
     )
-}
-
-// Returns what `list` prints for the log of 400,000 flushes.
-fn many_flushes(alloc: Global) -> Result<String, AllocError> {
-    let mut listed = String::new(alloc);
-    writeln!(listed, "super version 1 entries {ENTRIES} sectorsize 512")?;
-    for number in 0..ENTRIES {
-        writeln!(listed, "{number} @{} flush", number.saturating_add(1))?;
-    }
-    Ok(listed)
 }
 
 // Returns the image of a log of 400,000 flushes.
@@ -293,30 +285,17 @@ fn check_seats<H: Threads + Wait + Sync>(
     alloc: Global,
     report: &mut Report,
 ) -> Result<(), AllocError> {
-    let script = many_seats(alloc)?;
-    let told = many_tallies(alloc)?;
-    let lines = [("run script log", told.as_str())];
-    check_script(rt, alloc, "64 seats", script.as_str(), &lines, report)
-}
-
-// Returns the script with 64 seats.
-fn many_seats(alloc: Global) -> Result<String, AllocError> {
     let mut script = String::from_str(alloc, "data 128\nlog 323\nseats 64\n")?;
+    let mut told = String::new(alloc);
     for seat in 0..SEATS {
         let own = seat.saturating_mul(2);
         writeln!(script, "s{seat} w {own} 1 11")?;
         writeln!(script, "s{seat} w {} 1 12 fua", own.saturating_add(1))?;
         writeln!(script, "s{seat} mark seat {seat}")?;
-    }
-    Ok(script)
-}
-
-// Returns what `run` prints for the script with 64 seats.
-fn many_tallies(alloc: Global) -> Result<String, AllocError> {
-    let mut told = String::new(alloc);
-    for seat in 0..SEATS {
         writeln!(told, "seat {seat}: {TOLD}")?;
     }
     told.push_str("193 321\n")?;
-    Ok(told)
+    let mut folder = folder_of(alloc, script.as_str())?;
+    let lines = [("run script log", told.as_str())];
+    check_lines(rt, alloc, "64 seats", &lines, &mut folder, report)
 }

@@ -6,7 +6,6 @@ ghost use Rattle.sector_disk.specs.DiskView.{shown_of};
 use crate::series::asking::Told;
 use crate::series::report::Report;
 use bio::Status;
-use blockdev::BlockDev;
 use board::Names;
 use lock_state::Run;
 use sector_disk::SectorDisk;
@@ -61,26 +60,28 @@ fn start_most<R: Run + Names>(
     requires log { R.log ≡ ground_of (shown_of log) }
     requires sector_size { R.sector_bytes ≡ 512 }
 {
-    let result = Shared::<SectorDisk, SectorDisk, R>::new(alloc, unnamed, device, log, MOST, MOST);
-    match result {
-        Ok(started) => Some(seats_and_readers(started)),
-        Err(_) => None,
-    }
-}
-
-// Returns the number of seats, and the number of readers that read the status of an empty log.
-fn seats_and_readers<D: BlockDev + Drop, L: BlockDev + Drop, R: Run + Names>(
-    started: Started<D, L, R>,
-) -> (usize, usize) {
+    let Ok(started) = Shared::<SectorDisk, SectorDisk, R>::new(
+        alloc, unnamed, device, log, MOST, MOST,
+    ) else {
+        return None;
+    };
+    let Started {
+        recorder,
+        seats,
+        writer: _,
+        readers,
+    } = started;
     let none = Status {
         entries: 0,
         sector: 0,
         end: None,
     };
-    let mut started = started;
     let mut seen: usize = 0;
-    for reader in started.readers.iter_mut() {
-        seen = seen.saturating_add(usize::from(started.recorder.status(reader) == none));
+    for reader in readers {
+        let mut mine = reader;
+        if recorder.status(&mut mine) == none {
+            seen = seen.saturating_add(1);
+        }
     }
-    (started.seats.len(), seen)
+    Some((seats.len(), seen))
 }

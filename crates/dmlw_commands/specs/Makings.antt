@@ -1,4 +1,4 @@
--- What a command does that makes an image for a file: `record`, `run`, `replay` and `copy`.
+-- What a command does that makes an image for a file.
 use Rattle.std.specs.Prelude.{◌≡◌, ℕ, List, MatchResult, Option, Result}
 use Rattle.std.specs.Io.KnownBytes.{Appends, Keeps}
 use Rattle.refusals.specs.declared.refusal.Refusal.TheVariants as refusals

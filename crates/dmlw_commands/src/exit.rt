@@ -16,7 +16,7 @@ pub enum Exit {
     Usage,
     /// Logging ended early: the log has the entries up to there, or no log could be made.
     LoggingEnded,
-    /// `judge` or `path` found that the image isn't possible.
+    /// The command found that the image isn't possible.
     RuledOut,
 }
 

@@ -45,8 +45,8 @@ pub struct RunResult {
 /// the log's disk is crashed at the end, with the script's picks.
 ///
 /// The log is returned even if logging ended before the script did. If no log can be made, the
-/// fault says why. If a close or a message is refused, the fault names its line. If memory runs out
-/// or the output can't be written, the fault names no line.
+/// fault says why. If a line is refused, the fault names the line. If memory runs out or the output
+/// can't be written, the fault names no line.
 pub fn record<O: Write>(
     alloc: Global,
     text: &[u8],

@@ -17,9 +17,8 @@ use std::io::Write;
 /// requests yet. Its data device has the size of the data disk's topmost layer, and its log has the
 /// sectors that the script names. What the lines print is written to `out`.
 ///
-/// If a close or a message is refused, the run ends, and the fault names its line. If the output
-/// can't be written, or memory runs out for the run itself, the run ends too, and the fault names
-/// no line.
+/// If a line is refused, the run ends, and the fault names the line. If the output can't be written,
+/// or memory runs out for the run itself, the run ends too, and the fault names no line.
 pub fn run<D: Message + Drop, L: Message + Drop, O: Write>(
     text: &[u8],
     script: &Script,

@@ -75,7 +75,7 @@ pub fn explain_running<F: Files>(
     }
 }
 
-/// Returns what `--explain` adds after `list` or `status`.
+/// Returns what `--explain` adds after a command that only reads a log.
 pub fn explain_reading<F: Files>(
     alloc: Global,
     explains: bool,
@@ -97,7 +97,7 @@ pub fn explain_reading<F: Files>(
     }
 }
 
-/// Returns what `--explain` adds after a fault of `judge` or `path`.
+/// Returns what `--explain` adds after a fault of a command that asks about an image.
 pub fn explain_judging<F: Files>(
     alloc: Global,
     explains: bool,
@@ -292,7 +292,7 @@ fn write_line_of<F: Files, W: Write>(
     write_line(grammar, script, &text, number, refusal, to)
 }
 
-// Writes the explanation of `list` or `status` with this result.
+// Writes the explanation of a command that only reads a log, with this result.
 fn write_reading<F: Files, W: Write>(
     alloc: Global,
     done: Result<(), RunError>,
@@ -312,7 +312,7 @@ fn write_reading<F: Files, W: Write>(
     }
 }
 
-// Writes the explanation of `judge` or `path` with this result.
+// Writes the explanation of a command that asks about an image, with this result.
 fn write_judging<F: Files, W: Write>(
     alloc: Global,
     done: Result<(), RunError>,

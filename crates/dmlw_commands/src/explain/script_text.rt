@@ -6,9 +6,9 @@ use refusals::number_of;
 /// The two kinds of script.
 #[derive(Clone, Copy, PartialEq, Eq)]
 pub(crate) enum Grammar {
-    /// The scripts of `record`, `judge` and `path`.
+    /// The script of one recorder.
     Recorder,
-    /// The scripts of `run`.
+    /// The script of several seats.
     Seats,
 }
 

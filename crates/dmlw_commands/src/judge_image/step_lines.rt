@@ -18,7 +18,7 @@ use std::fmt;
 use std::fmt::Write;
 use world::Step;
 
-// A line of a script that is an event of its run: a submission, an end, a mark or the close.
+// A line of a script that is an event of its run (`is_event`).
 #[derive(Clone, Copy)]
 struct EventLine<'a> {
     // The line's number, counted from 1.

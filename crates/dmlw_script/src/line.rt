@@ -90,7 +90,7 @@ pub(crate) enum HeadLine {
 /// The meaning of a line of a body.
 #[derive(Drop)]
 pub(crate) enum BodyLine {
-    /// `w <id> <first> <count> <byte> [flush] [fua] [meta]`, `f <id>`, or `d <id> <first> <count>`
+    /// A line that submits a request with the id `name`.
     Submit {
         name: ScriptId,
         submission: Submission,
@@ -99,8 +99,7 @@ pub(crate) enum BodyLine {
     Complete {
         name: ScriptId,
     },
-    /// `close`, `r <first> <count>`, `turn`, `mark <text>`,
-    /// `message data|log <layer> <text>`, or `at <ms>`
+    /// A line that names no request.
     Step(Step),
 }
 
@@ -115,8 +114,8 @@ pub fn seat_forms() -> &'static [&'static str] {
     &SEAT_FORMS
 }
 
-/// Parses a line that is no crash, no mark and no message. `verb` is its first word, and `words`
-/// are the other words, if it has any. Returns None if the line isn't of the grammar.
+/// Parses a line that needs no memory for its words. `verb` is its first word, and `words` are the
+/// other words, if it has any. Returns None if the line isn't of the grammar.
 pub(crate) fn parse_parts(verb: &[u8], words: Option<&[u8]>) -> Option<Line>
     ensures { option_map as_meaning result ≡ plain_parts verb.now (option_copied words.entry) }
 {

@@ -93,8 +93,8 @@ impl Reader {
         }
     }
 
-    // Reads a line that isn't skipped, and is no crash, no mark and no message. `verb` and `words`
-    // are as in `read_words`.
+    // Reads a line that isn't skipped, and needs no memory for its words. `verb` and `words` are as
+    // in `read_words`.
     fn read_plain(&mut self, verb: &[u8], words: Option<&[u8]>) -> Result<(), LineError>
         requires { IsReader self.old }
         ensures reader { OnOk result (IsReader self.new) }
@@ -253,8 +253,7 @@ impl Reader {
 /// `BadId`: an id is submitted again, or the request that a line ends isn't open.
 ///
 /// `NotWhole`, `TooLong`, `PastEnd` or `Unaligned`: `bio::check_sized` refuses the sectors of a
-/// write, a discard or a read. It tests them for the top of the data disk and the size of the log's
-/// sectors.
+/// line. It tests them for the top of the data disk and the size of the log's sectors.
 ///
 /// If memory runs out, the refusal is `Memory`, and the fault has no line.
 pub fn read_script(alloc: Global, text: &[u8]) -> Result<Script, Fault>

@@ -38,8 +38,7 @@ pub(crate) enum RunLine {
     Head(HeadLine),
     /// `seats <n>`
     Seats(u64),
-    /// `s<k> w <first> <count> <byte> [flush] [fua] [meta]`,
-    /// `s<k> f`, `s<k> d <first> <count>`, or `s<k> mark <text>`
+    /// `s<k>`, a space, and the words of the seat's call
     Body(SeatCall),
 }
 

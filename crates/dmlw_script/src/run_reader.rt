@@ -167,8 +167,7 @@ impl RunReader {
 /// `BadLine`: a layer of the log disk is shorter than a sector of the log.
 ///
 /// `NotWhole`, `TooLong`, `PastEnd` or `Unaligned`: `bio::check_sized` refuses the sectors of a
-/// write or a discard. It tests them for the top of the data disk and the size of the log's
-/// sectors.
+/// line. It tests them for the top of the data disk and the size of the log's sectors.
 ///
 /// If memory runs out, the refusal is `Memory`, and the fault has no line.
 pub fn read_run_script(alloc: Global, text: &[u8]) -> Result<RunScript, Fault>

@@ -1,4 +1,4 @@
-//! Prints the lines that name no request: reads, turns, marks, times, messages and closes.
+//! Prints the lines that name no request.
 ghost use Rattle.std.specs.Prelude.{◌≡◌, ◌++◌, ◌∷◌, codes, decimal, OnOk};
 ghost use Rattle.dmlw_script.specs.Fields.{step_fields, text_of};
 

@@ -92,7 +92,7 @@ discard_words words = do
   sectors ← sectors_of words
   Some (submits.Discard sectors.0 sectors.1)
 
--- the write or discard with the first word `verb` and the words `words` after the id
+-- the request with the first word `verb` and the words `words` after the id
 abbrev pub submission_with : List ℕ → List ℕ → Option Submission
 submission_with verb words =
     if bytes_eq verb (codes "w") then write_words words
@@ -118,7 +118,7 @@ read_of words = do
   sectors ← sectors_of words
   Some (step (steps.Read sectors.0 sectors.1))
 
--- the meaning of a line of the single word `verb`: a close or a turn
+-- the meaning of a line of the single word `verb`
 abbrev pub lone_word : List ℕ → Option LineMeaning
 lone_word verb =
     if bytes_eq verb (codes "close") then Some (step steps.Close)
@@ -216,8 +216,8 @@ message_of (Some words) = do
   from_layer ← after_byte 32 words
   message_to over from_layer
 
--- the meaning of a line that is no crash, no mark and no message: `verb` is its first word, and
--- `words` are the others, if there are any
+-- the meaning of a line that needs no memory for its words: `verb` is its first word, and `words`
+-- are the others, if there are any
 abbrev pub plain_parts : List ℕ → Option (List ℕ) → Option LineMeaning
 plain_parts verb (Some words) = parse_words verb words
 plain_parts verb None = lone_word verb

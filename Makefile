@@ -18,7 +18,7 @@ all:
 install:
 	program=$$(./dmlw --which) && install -D -m 755 "$$program" "$(ROOT)/lib/dmlw/dmlw"
 	install -D -m 755 packaging/dmlw.sh "$(ROOT)/bin/dmlw"
-	install -D -m 644 docs/dmlw.1 "$(SHARE)/man/man1/dmlw.1"
+	packaging/man.sh "$$(./dmlw --which)" | install -D -m 644 /dev/stdin "$(SHARE)/man/man1/dmlw.1"
 	install -D -m 644 packaging/dmlw.bash "$(SHARE)/bash-completion/completions/dmlw"
 	install -D -m 644 packaging/_dmlw "$(SHARE)/zsh/site-functions/_dmlw"
 	install -D -m 644 packaging/dmlw.fish "$(SHARE)/fish/vendor_completions.d/dmlw.fish"

@@ -628,25 +628,27 @@ def on_devices(room, script, kept, held):
     trial("a device of more than 512 MiB is refused", (ran.returncode, ran.stdout, ran.stderr) == (1, b"", b"dmlw: 32 File\n"), ran)
 
 
-def manual(_):
-    page = (ROOT / "docs/dmlw.1").read_text(encoding="utf-8")
+def manual(room):
+    made = room / "dmlw.1"
+    made.write_bytes(subprocess.run([ROOT / "packaging/man.sh", PROGRAM], capture_output=True).stdout)
+    page = made.read_text(encoding="utf-8")
     section = page.partition(".SH COMMANDS\n")[2].partition("\n.SH ")[0]
     stand = dict(re.findall(r'^\.TP\n\.BI "(\w+) " "([^"]*)"$', section, re.M))
     listed = commands()
     abouts = dict(re.findall(r"^  (\w+)  +(\S.*)$", run("--help").stdout.decode(), re.M))
-    trial("docs/dmlw.1 has the program's commands, and no other", listed and sorted(stand) == sorted(listed), (listed, list(stand)))
+    trial("the manual page has the program's commands, and no other", listed and sorted(stand) == sorted(listed), (listed, list(stand)))
     for command in listed:
         words = words_of(command)
         if command != "help":
             about = run(command, "--help").stdout.decode().split("\n")[0]
             trial(f"help lists what {command} does", abouts.get(command) == about, (abouts.get(command), about))
-            trial(f"docs/dmlw.1 has the words of {command}", words and stand.get(command) == " ".join(words), (words, stand.get(command)))
+            trial(f"the manual page has the words of {command}", words and stand.get(command) == " ".join(words), (words, stand.get(command)))
     for show in (["man", "--warnings", "-l"], ["groff", "-man", "-Tutf8", "-ww"]):
         if shutil.which(show[0]):
-            ran = subprocess.run([*show, ROOT / "docs/dmlw.1"], capture_output=True)
-            trial(f"{show[0]} shows docs/dmlw.1 without a warning", (ran.returncode, ran.stderr) == (0, b"") and b"dm-log-writes" in ran.stdout, ran)
+            ran = subprocess.run([*show, made], capture_output=True)
+            trial(f"{show[0]} shows the manual page without a warning", (ran.returncode, ran.stderr) == (0, b"") and b"dm-log-writes" in ran.stdout, ran)
         else:
-            print(f"--   docs/dmlw.1: no {show[0]}")
+            print(f"--   the manual page: no {show[0]}")
 
 
 with tempfile.TemporaryDirectory() as at:

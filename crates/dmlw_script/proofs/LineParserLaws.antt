@@ -28,7 +28,8 @@ use Rattle.dmlw_script.specs.Fields.{Field, Given, HasFields, IsWord, Name, Numb
 use Rattle.dmlw_script.specs.Fields.{Word, step_fields}
 use Rattle.dmlw_script.specs.Grammar.{ParsesAs}
 use Rattle.dmlw_script.specs.Words.{byte_of, id_of_word, is_line_text, is_skipped}
-use Rattle.dmlw_script.specs.inside.LineParser.{◌>>=◌, body_words, disk_of_word, found_options}
+use Rattle.dmlw_script.specs.inside.LineParser.{◌>>=◌, body_words, discard_words, disk_of_word}
+use Rattle.dmlw_script.specs.inside.LineParser.{found_options}
 use Rattle.dmlw_script.specs.inside.LineParser.{head_words, layer_of, log_of, mark_of, message_of}
 use Rattle.dmlw_script.specs.inside.LineParser.{options_of, parse_line, parse_parts, picks_of}
 use Rattle.dmlw_script.specs.inside.LineParser.{plain_parts, sectors_of, size_of, step}
@@ -172,8 +173,11 @@ options_again left options has =
         → found_options flush fua meta left ≡ Some options
     found_again flush fua meta left is_flush is_fua is_meta none = grind arith
 
+abbrev SaysRequest : Option (List ℕ) → List ℕ → Submission → Type 0
+SaysRequest left verb s = (verb ≡ submission_word s) × HasFields (submission_fields s) left
+
 write_words_read : (words : List ℕ) (s : Submission) → write_words words ≡ Some s
-    → (submission_word s ≡ codes "w") × HasFields (submission_fields s) (Some words)
+    → SaysRequest (Some words) (codes "w") s
 write_words_read words s e =
     let b = bind_some (after_byte 32 words) _ s e in
     let c = bind_some (after_byte 32 b.0) _ s b.2 in
@@ -203,12 +207,23 @@ sectors_read : (words : List ℕ) (sectors : ℕ × ℕ) → sectors_of words �
 sectors_read words sectors e =
     grind (arith, bind_some, same_some, left_with, last_number_read)
 
+discard_words_read : (words : List ℕ) (s : Submission) → discard_words words ≡ Some s
+    → SaysRequest (Some words) (codes "d") s
+discard_words_read words s e =
+    let a = bind_some (sectors_of words) _ s e in
+    rw (← same_some _ s a.2) (refl, sectors_read words a.0 a.1)
+
 pub submission_read : (verb : List ℕ) (left : Option (List ℕ)) (s : Submission)
     → submission_of verb left ≡ Some s
     → (verb ≡ submission_word s) × HasFields (submission_fields s) left
-submission_read verb (Some words) s e =
-    grind (arith, write_words_read, same_bytes, bind_some, same_some, sectors_read)
-submission_read verb None s e = grind (arith, cond_some, same_bytes)
+submission_read verb (Some words) s =
+    verb_read (SaysRequest (Some words)) verb (codes "w") _ _ s (write_words_read words s)
+    (verb_read (SaysRequest (Some words)) verb (codes "d") _ _ s (discard_words_read words s)
+    (λ none. absurd (cc none)))
+submission_read verb None s =
+    verb_read (SaysRequest None) verb (codes "f") _ _ s
+    (λ e. rw (← same_some submits.Flush s e) (refl, tt))
+    (λ none. absurd (cc none))
 
 write_words_again : (words : List ℕ) (first count byte : ℕ) (options : WriteOptions)
     → HasFields (submission_fields (submits.Write first count byte options)) (Some words)

@@ -103,8 +103,8 @@ if all entries were copied, and isn't written over LOG.
 
 `judge SCRIPT M IMAGE` runs the script as `record` does, and writes no log. It judges whether the image could have been on the data disk, had power failed after M of
 the recorder's events. The disk is seen from the top of its layers; at first it holds zeroes. The lines `w`, `f`, `d`, `c`, `mark` and `close` are
-events, counted from 0: for an M of 7, `grep -nE '^((w|f|d|c|mark) |close$)' SCRIPT | head -n 7` prints them. A Stop is an event too. The recorder adds one if logging ends
-early: the log is full, its device failed, or memory ran out.
+events, counted from 0: for an M of 7, `grep -nE '^((w|f|d|c|mark) |close$)' SCRIPT | head -n 7` prints them. A Stop is one too, which the recorder adds if
+logging ends early: the log is full, its device failed, or memory ran out.
 
 `path SCRIPT M IMAGE` prints how the image could have come to the disk, if `judge` says yes: a run that submits and ends the requests of the first M events in their order,
 and after which the disk holds the image. A request's value lands in the cache, sector by sector. A sector is destaged from there to what power leaves. `power` is the end. Which

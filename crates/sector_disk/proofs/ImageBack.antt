@@ -2,16 +2,16 @@
 -- returns.
 use Rattle.std.proofs.Common.{◌/◌, ◌<◌, ◌≤◌, Some, None, ◌&&◌, Bool, false, [], ◌∷◌, ◌++◌, length}
 use Rattle.std.proofs.Common.{take, drop, ◌≡◌, ℕ, suc, zero, ◌+◌, ◌-◌, ◌*◌, replicate, ap, refl}
-use Rattle.std.proofs.Common.{sym, ◌∙◌, inl, inr, arith, true, get_or, List}
+use Rattle.std.proofs.Common.{sym, ◌∙◌, append_assoc, inl, inr, arith, true, get_or, List}
 use Rattle.std.specs.Prelude.{nat_lt, ◌⊎◌, ◌==◌, Option, slice_get, unwrap_or}
 use Rattle.std.proofs.lemmas.Bool.{and_parts, cases_lt, eqb-true, ltb-true}
-use Rattle.std.proofs.lemmas.List.{drop-drop, take_all}
+use Rattle.std.proofs.lemmas.List.{append-nil, drop-drop, take_all}
 use Rattle.std.proofs.lemmas.Slice.{drop-put_mid, take-put_mid}
 use Rattle.std.proofs.Math.Seq.{take-add}
 use borrow.Rule.Slice.PartMut.{put_mid}
 use Rattle.bio.specs.Content.{Content, HasWholeValues, discards, gather, over, sector_of, writes}
 use Rattle.bio.specs.ContentLaws.{over_cases, discards-whole, writes-whole, over-after, over-before}
-use Rattle.bio.specs.ContentLaws.{gather-ext, over-in}
+use Rattle.bio.specs.ContentLaws.{gather-ext, gather-sector_of, length-gather, over-in}
 use Rattle.bio.specs.PlaceLaws.{last_or_below, length-snoc, slice_get-append_front}
 use Rattle.bio.specs.PlaceLaws.{slice_get-append_here}
 use Rattle.sector_disk.specs.declared.call.Call.{Call}
@@ -133,6 +133,39 @@ pub discarded : (first count sector : ℕ)
     → unwrap_or (discards first count sector) (replicate 512 0) ≡ replicate 512 0
 discarded first count sector = grind (arith, over_cases, over-in)
 
+-- sectors that only the image in the first call put have the image's bytes
+pub gather-image : (calls : List Call) (places : List ℕ) (call : Call) (image : List ℕ)
+    (first n from : ℕ) → slice_get calls 0 ≡ Some call → call.first ≡ 0
+    → call.change ≡ Image image → ((k : ℕ) → k < n → place_of places (first + k) ≡ 0)
+    → from ≡ 512 * first → from + 512 * n ≤ length image
+    → take (512 * n) (drop from image) ≡ gather (content_at calls places) first n
+gather-image calls places call image first n from at zero_is change zeroes place within =
+    rw place (sym (gather-sector_of image first n))
+    ∙ gather-ext (sector_of image) (content_at calls places) first first n (λ k less.
+    sym (ap (λ p. value_at calls p (first + k)) (zeroes k less)
+    ∙ ap (λ o. value_in o (first + k)) at
+    ∙ grind (arith, zero_is, change, written_whole)))
+
+gather-add : (content : Content) (first m n : ℕ)
+    → gather content first (m + n) ≡ gather content first m ++ gather content (first + m) n
+gather-add content first m zero = grind (arith, append-nil)
+gather-add content first m (suc n) =
+    let more : m + suc n ≡ suc (m + n) = omega arith in
+    let place : first + m + n ≡ first + (m + n) = omega arith in
+    ap (gather content first) more
+    ∙ ap (λ xs. xs ++ content (first + (m + n))) (gather-add content first m n)
+    ∙ append_assoc (gather content first m) (gather content (first + m) n) (content (first + (m + n)))
+    ∙ ap (λ p. gather content first m ++ (gather content (first + m) n ++ content p)) (sym place)
+
+pub gather-more : (content : Content) (first index n : ℕ) (old new value : List ℕ)
+    → 512 * index ≤ length old → length value ≡ 512 * n
+    → new ≡ put_mid (index * 512) (index * 512 + n * 512 - index * 512) old value
+    → value ≡ gather content (first + index) n
+    → take (512 * index) old ≡ gather content first index
+    → take (512 * (index + n)) new ≡ gather content first (index + n)
+gather-more content first index n old new value within size is read earlier =
+    grind (arith, take-put_mid, gather-add)
+
 pub gather-next : (content : Content) (first index : ℕ) (old new value : List ℕ)
     → 512 * (index + 1) ≤ length old → length value ≡ 512
     → new ≡ put_mid (index * 512) (index * 512 + 512 - index * 512) old value
@@ -162,6 +195,12 @@ length-value_at calls place sector = at (slice_get calls place)
     at : (o : Option Call) → length (value_in o sector) ≡ 512
     at None = refl
     at (Some call) = there (values_of call sector) (values call sector)
+
+pub length-gather_at : (calls : List Call) (places : List ℕ) (first n : ℕ)
+    → length (gather (content_at calls places) first n) ≡ 512 * n
+length-gather_at calls places first n =
+    length-gather (first + n) (content_at calls places) first n
+    (λ sector within. length-value_at calls (place_of places sector) sector) (omega arith)
 
 chain_parts : (calls : List Call) (synced s n place : ℕ)
     → is_chain calls synced s (suc (suc n)) place ≡ true

@@ -133,11 +133,11 @@ pub record LiesIn (pieces : List (List ℕ)) (from k r : ℕ) : Type 0 where
   pub within : r + 512 ≤ length piece
   pub part : take 512 (drop from (joined pieces)) ≡ take 512 (drop r piece)
 
-first : (piece rest : List ℕ) (r : ℕ) → r + 512 ≤ length piece
-    → take 512 (drop r (piece ++ rest)) ≡ take 512 (drop r piece)
-first piece rest r within =
-    ap (take 512) (drop-append-le r piece rest (omega arith))
-    ∙ take-append-le 512 (drop r piece) rest (omega (arith, length-drop r piece))
+first : (piece rest : List ℕ) (r n : ℕ) → r + n ≤ length piece
+    → take n (drop r (piece ++ rest)) ≡ take n (drop r piece)
+first piece rest r n within =
+    ap (take n) (drop-append-le r piece rest (omega arith))
+    ∙ take-append-le n (drop r piece) rest (omega (arith, length-drop r piece))
 
 later : (piece rest : List ℕ) (from : ℕ) → length piece ≡ 65536 → 65536 ≤ from
     → drop from (piece ++ rest) ≡ drop (from - 65536) rest
@@ -153,7 +153,7 @@ lies_in (p ∷ []) from zero r place small whole within =
       piece = p;
       is = refl;
       within = size;
-      part = rw same (first p [] r size);
+      part = rw same (first p [] r 512 size);
     }
 lies_in (p ∷ []) from (suc k) r place small whole within = grind (arith, length-append)
 lies_in (p ∷ (q ∷ ps)) from zero r place small whole within =
@@ -164,7 +164,7 @@ lies_in (p ∷ (q ∷ ps)) from zero r place small whole within =
       piece = p;
       is = refl;
       within = size;
-      part = rw same (first p (joined (q ∷ ps)) r size);
+      part = rw same (first p (joined (q ∷ ps)) r 512 size);
     }
 lies_in (p ∷ (q ∷ ps)) from (suc k) r place small whole within =
     let full = whole.0 in
@@ -175,6 +175,34 @@ lies_in (p ∷ (q ∷ ps)) from (suc k) r place small whole within =
       is = there.is;
       within = there.within;
       part = ap (take 512) (later p (joined (q ∷ ps)) from full (omega arith)) ∙ there.part;
+    }
+
+-- the image has `n` bytes from byte `from` on, and they are those of a piece from byte `r` on
+pub record IsRun (pieces : List (List ℕ)) (from r n : ℕ) (piece : List ℕ) : Type 0 where
+  pub within : from + n ≤ length (joined pieces)
+  pub part : take n (drop from (joined pieces)) ≡ take n (drop r piece)
+
+pub run_in : (pieces : List (List ℕ)) (from k r n : ℕ) (d : List ℕ) → from ≡ 65536 * k + r
+    → k < length pieces → AreWhole pieces → r + n ≤ length (get_or pieces k d)
+    → IsRun pieces from r n (get_or pieces k d)
+run_in [] from k r n d place there whole within = absurd (omega arith)
+run_in (p ∷ []) from zero r n d place there whole within =
+    let same : from ≡ r = omega arith in
+    record { within = omega (arith, length-append p []); part = rw same (first p [] r n within) }
+run_in (p ∷ []) from (suc k) r n d place there whole within = absurd (omega arith)
+run_in (p ∷ (q ∷ ps)) from zero r n d place there whole within =
+    let same : from ≡ r = omega arith in
+    record {
+      within = omega (arith, length-append p (joined (q ∷ ps)));
+      part = rw same (first p (joined (q ∷ ps)) r n within);
+    }
+run_in (p ∷ (q ∷ ps)) from (suc k) r n d place there whole within =
+    let full = whole.0 in
+    let rest = run_in (q ∷ ps) (from - 65536) k r n d (omega arith) (omega arith) whole.1 within in
+    let low = rest.within in
+    record {
+      within = omega (arith, length-append p (joined (q ∷ ps)));
+      part = ap (take n) (later p (joined (q ∷ ps)) from full (omega arith)) ∙ rest.part;
     }
 
 pub joined-more : (pieces : List (List ℕ)) (piece : List ℕ)

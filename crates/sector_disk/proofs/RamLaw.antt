@@ -20,7 +20,7 @@ use Rattle.sector_disk.specs.DiskView.{Begins}
 use Rattle.sector_disk.specs.inside.Storage.{IsKept, IsRam, is_table, past_of}
 use Rattle.sector_disk.proofs.FieldsKept.{first_place, value-kept, values-in, values-out}
 use Rattle.sector_disk.proofs.ImageBack.{written_whole}
-use Rattle.sector_disk.specs.RamView.{DoesInRam, ram_view, view_in}
+use Rattle.sector_disk.specs.RamView.{DoesInRam, IsPut, ram_view, view_in}
 use Rattle.sector_disk.specs.declared.disk.ram.RamDisk.{RamDisk}
 use Rattle.blockdev.specs.View.{Writes}
 use Rattle.bio.specs.declared.outcome.DevError.{DevError}
@@ -161,6 +161,7 @@ pub record IsWritten (first : ℕ) (bytes : List ℕ) (done : ℕ) (v w : View) 
   pub within : done ≤ length bytes
   pub goes : DeviceFrame (below (first + done / 512) (writes first bytes)) v w
   pub lands : WriteDone (below (first + done / 512) (writes first bytes)) false v w
+  pub faults : w.faults ≡ v.faults
 
 pub written_first : (first : ℕ) (bytes : List ℕ) (v : View) → IsWritten first bytes 0 v v
 written_first first bytes v =
@@ -170,6 +171,7 @@ written_first first bytes v =
       within = omega arith;
       goes = goes_none _ v;
       lands = lands_first (first + 0 / 512) (writes first bytes) false v none;
+      faults = refl;
     }
 
 part_of : (first done count : ℕ) (bytes : List ℕ) → done % 512 ≡ 0 → count % 512 ≡ 0
@@ -203,8 +205,8 @@ module _ (first done count taken : ℕ) (bytes : List ℕ) (u v w : View) (same 
 
   pub written_next
       : WriteDone (writes (first + done / 512) (take taken (drop done bytes))) false v w
-      → IsWritten first bytes (done + count) u w
-  written_next lands = record {
+      → w.faults ≡ v.faults → IsWritten first bytes (done + count) u w
+  written_next lands same = record {
     whole = let h = written.whole in omega arith;
     within = most;
     goes = next;
@@ -212,6 +214,7 @@ module _ (first done count taken : ℕ) (bytes : List ℕ) (u v w : View) (same 
         lands_next (first + done / 512) (first + (done + count) / 512) (writes first bytes)
         (writes (first + done / 512) (take taken (drop done bytes))) false u v w (omega arith)
         values written.lands lands;
+    faults = same ∙ written.faults;
   }
 
 pub written_all : (first done : ℕ) (bytes : List ℕ) (u v : View) → IsWritten first bytes done u v
@@ -222,12 +225,17 @@ written_all first done bytes u v written past =
     written.lands
 
 pub does_all : (old new : RamDisk) (first now : ℕ) (bytes : List ℕ) (fua : Bool) → fua ≡ false
-    → WriteDone (writes first bytes) false (ram_view old) (ram_view new)
+    → WriteDone (writes first bytes) false (ram_view old) (ram_view new) → new.faults ≡ old.faults
     → DoesInRam old (Writes first bytes fua) now (Ok now) new
-does_all old new first now bytes fua plain lands = rw plain (refl, lands.content)
+does_all old new first now bytes fua plain lands same = rw plain (refl, lands.content, same)
+
+pub puts_some : (patch : Patch) (now : ℕ) (r : Result ℕ DevError) (v w : View) → r ≡ Err Memory
+    → DeviceFrame patch v w → w.faults ≡ v.faults → IsPut patch now r v w
+puts_some patch now r v w is goes same = rw is (goes.content, same)
 
 pub does_some : (old new : RamDisk) (first now : ℕ) (bytes : List ℕ) (fua : Bool)
     (r : Result ℕ DevError) → fua ≡ false → r ≡ Err Memory
-    → DeviceFrame (writes first bytes) (ram_view old) (ram_view new)
+    → DeviceFrame (writes first bytes) (ram_view old) (ram_view new) → new.faults ≡ old.faults
     → DoesInRam old (Writes first bytes fua) now r new
-does_some old new first now bytes fua r plain is goes = rw (plain, is) goes.content
+does_some old new first now bytes fua r plain is goes same =
+    rw plain (puts_some (writes first bytes) now r (ram_view old) (ram_view new) is goes same)

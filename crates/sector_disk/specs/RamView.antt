@@ -4,6 +4,7 @@ use Rattle.bio.specs.Content.{Content, HasWholeSectors, Patch, Patched, discards
 use Rattle.bio.specs.Content.{sector_of, writes}
 use Rattle.bio.specs.declared.outcome.DevError.{DevError}
 use Rattle.bio.specs.declared.outcome.DevError.TheVariants.{Io, Memory}
+use Rattle.blockdev.specs.OwnCounts.{sum_of}
 use Rattle.blockdev.specs.View.{Call, IsLawful, View}
 use Rattle.blockdev.specs.View as calls
 use Rattle.sector_disk.specs.declared.disk.ram.RamDisk.{RamDisk}
@@ -31,17 +32,27 @@ abbrev pub ram_view : RamDisk → View
 ram_view disk =
     view_in disk.sectors (content_at disk.calls.items disk.newest.items) disk.faults
 
--- the view has the size and the content of an image
+-- the view has the size and the content of an image, and no call failed
 pub record HoldsImage (image : List ℕ) (v : View) : Type 0 where
   pub size : v.size ≡ length image / 512
   pub content : (sector : ℕ) → sector < length image / 512 → v.content sector ≡ sector_of image sector
+  pub faults : v.faults ≡ 0
 
 -- The result of a call that puts values. With an Ok all of them are put, and otherwise some may be.
-abbrev pub IsPut : Patch → ℕ → Result ℕ DevError → Content → Content → Type 0
+-- Lack of memory isn't counted as a fault.
+abbrev pub IsPut : Patch → ℕ → Result ℕ DevError → View → View → Type 0
 IsPut patch now (Ok end) old new =
-    (end ≡ now) × ((sector : ℕ) → new sector ≡ put patch old sector)
-IsPut patch now (Err Memory) old new = Patched patch old new
+    (end ≡ now) × ((sector : ℕ) → new.content sector ≡ put patch old.content sector)
+    × (new.faults ≡ old.faults)
+IsPut patch now (Err Memory) old new =
+    Patched patch old.content new.content × (new.faults ≡ old.faults)
 IsPut patch now (Err Io) old new = ⊥
+
+-- the call failed and is counted, and nothing else changed
+pub record IsFailed (result : Result ℕ DevError) (old new : View) : Type 0 where
+  pub error : result ≡ Err Io
+  pub content : new.content ≡ old.content
+  pub faults : new.faults ≡ sum_of old.faults 1
 
 -- The effect and result of a call. What would have to be durable fails.
 abbrev pub DoesInRam : RamDisk → Call → ℕ → Result ℕ DevError → RamDisk → Type 0
@@ -49,13 +60,12 @@ DoesInRam old (calls.Reads first before after) now result new =
     (result ≡ Ok now) × (new ≡ old)
     × (after ≡ gather (ram_view old).content first (length before / 512))
 DoesInRam old (calls.Writes first bytes false) now result new =
-    IsPut (writes first bytes) now result (ram_view old).content (ram_view new).content
+    IsPut (writes first bytes) now result (ram_view old) (ram_view new)
 DoesInRam old (calls.Writes first bytes true) now result new =
-    (result ≡ Err Io) × ((ram_view new).content ≡ (ram_view old).content)
+    IsFailed result (ram_view old) (ram_view new)
 DoesInRam old (calls.Discards first count) now result new =
-    IsPut (discards first count) now result (ram_view old).content (ram_view new).content
-DoesInRam old calls.Flushes now result new =
-    (result ≡ Err Io) × ((ram_view new).content ≡ (ram_view old).content)
+    IsPut (discards first count) now result (ram_view old) (ram_view new)
+DoesInRam old calls.Flushes now result new = IsFailed result (ram_view old) (ram_view new)
 
 pub ram_lawful : (disk : RamDisk) → IsLawful (ram_view disk)
 ram_lawful disk = record {

@@ -1,6 +1,6 @@
 //! The writes and discards that a disk stores as its past, and reads of the values that they put in
 //! sectors.
-ghost use Rattle.std.specs.Prelude.{ℕ, false, true, ◌∷◌, ◌++◌, ◌≡◌, ◌%◌, ◌*◌, ◌+◌, ◌/◌, ◌≤◌, IfOk};
+ghost use Rattle.std.specs.Prelude.{ℕ, false, true, ◌∷◌, ◌++◌, ◌≡◌, ◌%◌, ◌*◌, ◌+◌, ◌/◌, ◌<◌, ◌≤◌, IfOk};
 ghost use Rattle.std.specs.Prelude.{None, OnErr, OnOk, Some, [], drop, length};
 ghost use Rattle.std.specs.Prelude.{replicate, slice_get, take, unwrap_or};
 ghost use Rattle.sector_disk.specs.inside.Storage.{AreWithin, IsFilled, before_at, content_at, count_of};
@@ -118,14 +118,52 @@ fn place_of(places: &[usize], sector: usize) -> usize
     places.get(sector).copied().unwrap_or(0)
 }
 
-/// Reads whole sectors from `first` on. Each sector gets the value of the call whose index `places`
-/// has for it.
-pub fn read_places(calls: &[Call], places: &[usize], first: usize, buffer: &mut [u8])
+// Returns whether the table's entries of `count` sectors from `first` on are all 0.
+fn are_first(places: &[usize], first: usize, count: usize) -> bool
+    requires { first + count ≤ 1048576 }
+    ensures { result ≡ true → (index : ℕ) → index < count → place_of places.now (first + index) ≡ 0 }
+{
+    if places.is_empty() {
+        return true;
+    }
+    for index in 0..count {
+        if place_of(places, first + index) != 0 {
+            return false;
+        }
+    }
+    true
+}
+
+// Reads whole sectors from `first` on, if the first call is an image from sector 0 on that stores
+// them in one piece as they are, and no later call put a value in them. Returns whether this is so.
+fn read_run(calls: &[Call], places: &[usize], first: usize, buffer: &mut [u8]) -> bool
+    requires whole { length buffer.old % 512 ≡ 0 }
+    requires within { first + length buffer.old / 512 ≤ 1048576 }
+    ensures { result ≡ true → buffer.new ≡ gather (content_at calls.now places.now) first
+        (length buffer.old / 512) }
+{
+    let Some(call) = calls.first() else {
+        return false;
+    };
+    let Change::Image(image) = &call.change else {
+        return false;
+    };
+    if call.first != 0 || !are_first(places, first, buffer.len() / SECTOR) {
+        return false;
+    }
+    image.read_run(first * SECTOR, buffer)
+}
+
+// Does what `read_places` does. It is quick if the sectors are in one piece of an image.
+fn read_part(calls: &[Call], places: &[usize], first: usize, buffer: &mut [u8])
     requires whole { length buffer.old % 512 ≡ 0 }
     requires within { first + length buffer.old / 512 ≤ 1048576 }
     ensures { buffer.new ≡ gather (content_at calls.now places.now) first
         (length buffer.old / 512) }
 {
+    if read_run(calls, places, first, buffer) {
+        return;
+    }
     for index in 0..buffer.len() / SECTOR {
         let sector = first + index;
         let from = index * SECTOR;
@@ -135,6 +173,30 @@ pub fn read_places(calls: &[Call], places: &[usize], first: usize, buffer: &mut 
             sector as u64,
             &mut buffer[from..from + SECTOR],
         );
+    }
+}
+
+/// Reads whole sectors from `first` on. Each sector gets the value of the call whose index `places`
+/// has for it.
+pub fn read_places(calls: &[Call], places: &[usize], first: usize, buffer: &mut [u8])
+    requires whole { length buffer.old % 512 ≡ 0 }
+    requires within { first + length buffer.old / 512 ≤ 1048576 }
+    ensures { buffer.new ≡ gather (content_at calls.now places.now) first
+        (length buffer.old / 512) }
+{
+    let sectors = buffer.len() / SECTOR;
+    let mut index = 0;
+    while index < sectors {
+        let sector = first + index;
+        let count = (sectors - index).min(PIECE_SECTORS - sector % PIECE_SECTORS);
+        let from = index * SECTOR;
+        read_part(
+            calls,
+            places,
+            sector,
+            &mut buffer[from..from + count * SECTOR],
+        );
+        index += count;
     }
 }
 

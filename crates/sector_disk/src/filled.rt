@@ -122,8 +122,10 @@ impl FilledBytes {
         ensures { IfOk result (λ copy. copy ≡ bytes.now) }
     {
         let (held, more) = split_counts(bytes, end, fill);
+        let mut stored = Vec::with_capacity(alloc, held)?;
+        stored.extend_from_slice(&bytes[..held])?;
         Ok(FilledBytes {
-            bytes: bytes[..held].to_vec(alloc)?,
+            bytes: stored,
             more,
             fill,
         })

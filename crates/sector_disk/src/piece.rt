@@ -1,5 +1,5 @@
 //! A piece of an image, stored in the way that takes less memory.
-ghost use Rattle.std.specs.Prelude.{◌≡◌, ◌+◌, ◌++◌, ◌<◌, ◌≤◌, ◌%◌, IfOk, OnOk, drop, length, take};
+ghost use Rattle.std.specs.Prelude.{◌≡◌, ◌+◌, ◌++◌, ◌<◌, ◌≤◌, ◌%◌, IfOk, OnOk, drop, length, take, true};
 
 use crate::filled::{FilledBytes, count_before};
 use crate::packed::{PackedSectors, packed_size};
@@ -47,6 +47,21 @@ impl Piece {
             None => Held::Filled(FilledBytes::from_filled(alloc, bytes, end, fill)?),
         };
         Ok(Piece { held })
+    }
+
+    /// Reads bytes from byte `from` on, if the piece has them and stores them as they are. Returns
+    /// whether this is so.
+    pub fn read_run(&self, from: usize, buffer: &mut [u8]) -> bool
+        ensures within { result ≡ true → from + length buffer.old ≤ length self.now }
+        ensures read { result ≡ true → buffer.new ≡ take (length buffer.old) (drop from self.now) }
+    {
+        match &self.held {
+            Held::Filled(bytes) if from <= bytes.len() && buffer.len() <= bytes.len() - from => {
+                bytes.read(from, buffer);
+                true
+            }
+            _ => false,
+        }
     }
 
     /// Reads the sector that begins at byte `from`.

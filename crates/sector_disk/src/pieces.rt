@@ -1,6 +1,6 @@
 //! A long list of bytes, in pieces. A repeated byte at the end of a piece takes no memory.
 ghost use Rattle.std.specs.Prelude.{◌≡◌, ◌<◌, ◌≤◌, ◌+◌, ◌++◌, ◌%◌, IfOk, OnErr, OnOk, [], drop, length};
-ghost use Rattle.std.specs.Prelude.{take};
+ghost use Rattle.std.specs.Prelude.{take, true};
 ghost use Rattle.sector_disk.specs.inside.Pieces.{AreWhole, joined, with_piece};
 
 use crate::piece::Piece;
@@ -149,6 +149,18 @@ impl Image {
     {
         self.pieces[from / PIECE] = Piece::from_slice(alloc, piece)?;
         Ok(())
+    }
+
+    /// Reads bytes from byte `from` on, if they are all in one piece that stores its bytes as they
+    /// are. Returns whether this is so.
+    pub(crate) fn read_run(&self, from: usize, buffer: &mut [u8]) -> bool
+        ensures within { result ≡ true → from + length buffer.old ≤ length self.now }
+        ensures read { result ≡ true → buffer.new ≡ take (length buffer.old) (drop from self.now) }
+    {
+        match self.pieces.get(from / PIECE) {
+            Some(piece) => piece.read_run(from % PIECE, buffer),
+            None => false,
+        }
     }
 
     /// Reads the sector that begins at byte `from`.

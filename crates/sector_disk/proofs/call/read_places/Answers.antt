@@ -1,6 +1,7 @@
-use Rattle.std.proofs.Common.{arith}
-use Rattle.sector_disk.proofs.ImageBack.{gather-next, length-value_at}
+use Rattle.std.proofs.Common.{◌+◌, ◌≡◌, ◌*◌, ◌/◌, ◌-◌, ◌∙◌, ap, arith, length}
+use Rattle.sector_disk.proofs.ImageBack.{gather-more, length-gather_at}
+use Rattle.sector_disk.specs.inside.Storage.{content_at}
 use Rattle.sector_disk.proofs.call.read_places.Goals as goal
 
 pub loop-index-preserved : goal.loop-index-preserved
-loop-index-preserved c = grind (arith, length-value_at, gather-next)
+loop-index-preserved c = grind (arith, gather-more, length-gather_at)

@@ -1,10 +1,9 @@
 //! Makes a `RamDisk` of an image, and reads and writes it as a block device.
-ghost use Rattle.std.specs.Prelude.{◌≡◌, ◌+◌, ◌/◌, ◌<◌, ◌≤◌, ◌⊎◌, Err, IfOk, OnOk, false, length};
+ghost use Rattle.std.specs.Prelude.{◌≡◌, ◌+◌, ◌/◌, ◌≤◌, IfOk, OnOk, false, length};
 ghost use Rattle.bio.specs.Content.{nothing, writes};
 ghost use Rattle.blockdev.specs.Law.{DeviceFrame, WriteDone};
-ghost use Rattle.blockdev.specs.View.{last_count};
 ghost use Rattle.sector_disk.specs.DiskView.{Begins, IsImageSize, shown_of};
-ghost use Rattle.sector_disk.specs.RamView.{DoesInRam, HoldsImage, ram_lawful, ram_view};
+ghost use Rattle.sector_disk.specs.RamView.{DoesInRam, HoldsImage, IsFailed, ram_lawful, ram_view};
 ghost use Rattle.sector_disk.specs.inside.Storage.{change_values, count_of};
 
 use crate::call::{Call, Change, SECTOR, add_call, put_piece, read_places};
@@ -77,6 +76,7 @@ impl RamDisk {
             (ram_view self.new) }
         ensures lands { OnOk result (WriteDone (change_values first change) false
             (ram_view self.old) (ram_view self.new)) }
+        ensures faults { self.new.faults ≡ self.old.faults }
     {
         let count = change.sectors() as usize;
         let call = Call {
@@ -97,6 +97,7 @@ impl RamDisk {
             (ram_view self.new) }
         ensures lands { OnOk result (WriteDone (writes first part.now) false
             (ram_view self.old) (ram_view self.new)) }
+        ensures faults { self.new.faults ≡ self.old.faults }
     {
         if put_piece(
             self.alloc,
@@ -113,10 +114,8 @@ impl RamDisk {
 
     // Counts a failure, and returns it.
     fn fail(&mut self) -> Result<Ms, DevError>
-        ensures error { result ≡ Err DevError.Io }
         ensures goes { DeviceFrame nothing (ram_view self.old) (ram_view self.new) }
-        ensures counted { (self.old.faults < self.new.faults) ⊎ (self.new.faults ≡ last_count) }
-        ensures content { (ram_view self.new).content ≡ (ram_view self.old).content }
+        ensures failed { IsFailed result (ram_view self.old) (ram_view self.new) }
     {
         self.faults = self.faults.saturating_add(1);
         Err(DevError::Io)

@@ -9,4 +9,5 @@ returns c = record {
       image_held c.args.image c.new-calls.result.items c.push.new.self.items
       c.in_ok-vec.field-0.items _ _ c.new-calls.ensures.items c.in_ok-push.ensures.items refl refl
       (c.in_ok-vec.ensures.items_if_clones_equal (λ y same. same));
+  faults = refl;
 }

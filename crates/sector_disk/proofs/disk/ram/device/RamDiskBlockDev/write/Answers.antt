@@ -1,4 +1,4 @@
-use Rattle.std.proofs.Common.{◌+◌, ◌-◌, ◌/◌, arith, drop, rules}
+use Rattle.std.proofs.Common.{◌+◌, ◌-◌, ◌/◌, ◌∙◌, arith, drop, rules}
 use Rattle.std.proofs.lemmas.List.{length-drop, length-take}
 use Rattle.bio.specs.Content.{nothing, writes}
 use Rattle.blockdev.specs.JoinLaws.{goes_cut, goes_part, nothing-part}
@@ -38,7 +38,7 @@ loop-done-preserved c =
     written_next c.args.first c.loop-done.done c.min-count.result _ c.args.bytes.now
     (ram_view c.args.self.now) (ram_view c.loop-done.self) (ram_view c.write_part.new.self)
     (omega arith) (omega arith) (omega arith) c.loop-done.invariant c.write_part.ensures.goes
-    c.in_ok-write_part.ensures.lands
+    c.in_ok-write_part.ensures.lands c.write_part.ensures.faults
 
 pub returns-clause-goes : goal.returns-clause-goes
 returns-clause-goes c =
@@ -56,10 +56,11 @@ returns-in_err-write_part-clause-does c =
     does_some c.args.self.now c.write_part.new.self c.args.first c.args.now c.args.bytes.now
     c.args.fua c.from_residual.result c.if-fua.false (search rules)
     (returns-in_err-write_part-clause-goes c)
+    (c.write_part.ensures.faults ∙ c.loop-done.invariant.faults)
 
 pub returns-clause-does : goal.returns-clause-does
 returns-clause-does c =
     does_all c.args.self.now c.loop-done.self c.args.first c.args.now c.args.bytes.now
     c.args.fua c.if-fua.false (written_all c.args.first c.loop-done.done c.args.bytes.now
     (ram_view c.args.self.now) (ram_view c.loop-done.self) c.loop-done.invariant
-    c.loop-done-test.false)
+    c.loop-done-test.false) c.loop-done.invariant.faults

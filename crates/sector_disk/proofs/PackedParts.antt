@@ -1,9 +1,9 @@
 -- Laws of packed sectors and of the pieces of an image.
 use Rattle.std.proofs.Common.{append_assoc, replicate, sym, take, Some, ap, arith, drop, get_or}
 use Rattle.std.proofs.Common.{inl, inr, length, length-append, length-drop, refl, ◌≡◌, ℕ, suc, zero}
-use Rattle.std.proofs.Common.{◌+◌, ◌-◌, ◌*◌, ◌/◌, ◌%◌, ◌<◌, ◌≤◌, List, [], ◌∷◌, ◌++◌, ◌∙◌}
-use Rattle.std.specs.Prelude.{min, slice_get, slice_index, slice_range}
-use Rattle.std.proofs.lemmas.Bool.{cases_lt}
+use Rattle.std.proofs.Common.{◌+◌, ◌-◌, ◌*◌, ◌/◌, ◌%◌, ◌<◌, ◌≤◌, List, [], ◌∷◌, ◌++◌, ◌∙◌, true}
+use Rattle.std.specs.Prelude.{min, nat_lt, slice_get, slice_index, slice_range}
+use Rattle.std.proofs.lemmas.Bool.{cases_lt, ltb-true}
 use Rattle.std.proofs.lemmas.Grind.{common_steps}
 use Rattle.std.proofs.lemmas.List.{append-nil, drop-append-le, drop-drop, drop-replicate}
 use Rattle.std.proofs.lemmas.List.{get_or-drop, get_or-replicate, get_or-take, length-replicate}
@@ -204,6 +204,19 @@ run_in (p ∷ (q ∷ ps)) from (suc k) r n d place there whole within =
       within = omega (arith, length-append p (joined (q ∷ ps)));
       part = ap (take n) (later p (joined (q ∷ ps)) from full (omega arith)) ∙ rest.part;
     }
+
+-- the bytes that a piece reads at its byte `from % 65536` are those of the image at byte `from`
+pub read_in : (pieces lent : List (List ℕ)) (image piece : List ℕ) (from n : ℕ) → AreWhole pieces
+    → joined pieces ≡ image → lent ≡ pieces → true ≡ nat_lt (from / 65536) (length lent)
+    → piece ≡ get_or lent (from / 65536) piece → from % 65536 + n ≤ length piece
+    → (from + n ≤ length image) × (take n (drop from image) ≡ take n (drop (from % 65536) piece))
+read_in pieces lent image piece from n whole view same there is within =
+    let size = ap length same in
+    let here : from / 65536 < length pieces = omega (arith, ltb-true (from / 65536) (length lent) (sym there)) in
+    let found : piece ≡ get_or pieces (from / 65536) piece = grind (arith, is, same) in
+    let run = run_in pieces from (from / 65536) (from % 65536) n piece (omega arith) here whole
+    (omega (arith, ap length found)) in
+    rw (← view) (run.within, rw found run.part)
 
 pub joined-more : (pieces : List (List ℕ)) (piece : List ℕ)
     → joined (pieces ++ piece ∷ []) ≡ joined pieces ++ piece

@@ -1,7 +1,7 @@
 //! The writes and discards that a disk stores as its past, and reads of the values that they put in
 //! sectors.
 ghost use Rattle.std.specs.Prelude.{ℕ, false, true, ◌∷◌, ◌++◌, ◌≡◌, ◌%◌, ◌*◌, ◌+◌, ◌/◌, ◌<◌, ◌≤◌, IfOk};
-ghost use Rattle.std.specs.Prelude.{None, OnErr, OnOk, Some, [], drop, length};
+ghost use Rattle.std.specs.Prelude.{IfSome, None, OnErr, OnOk, Some, [], drop, length};
 ghost use Rattle.std.specs.Prelude.{replicate, slice_get, take, unwrap_or};
 ghost use Rattle.sector_disk.specs.inside.Storage.{AreWithin, IsFilled, before_at, content_at, count_of};
 ghost use Rattle.sector_disk.specs.inside.Storage.{is_image_in, is_open, is_write_of, place_of};
@@ -134,24 +134,56 @@ fn are_first(places: &[usize], first: usize, count: usize) -> bool
     true
 }
 
-// Reads whole sectors from `first` on, if the first call is an image from sector 0 on that stores
-// them in one piece as they are, and no later call put a value in them. Returns whether this is so.
+// Returns the image that the first call is, if it begins at sector 0 and no later call put a value
+// in the `count` sectors from `first` on.
+fn image_below<'a>(
+    calls: &'a [Call],
+    places: &[usize],
+    first: usize,
+    count: usize,
+) -> Option<&'a Image>
+    requires { first + count ≤ 1048576 }
+    ensures { IfSome result (λ image. 512 * (first + count) ≤ length image.now →
+        take (512 * count) (drop (512 * first) image.now)
+        ≡ gather (content_at calls.now places.now) first count) }
+{
+    let call = calls.first()?;
+    if call.first != 0 || !are_first(places, first, count) {
+        return None;
+    }
+    match &call.change {
+        Change::Image(image) => Some(image),
+        Change::Write(_) | Change::Discard(_) => None,
+    }
+}
+
+// Reads whole sectors from `first` on, if `image_below` has them in one piece that stores its bytes
+// as they are. Returns whether this is so.
 fn read_run(calls: &[Call], places: &[usize], first: usize, buffer: &mut [u8]) -> bool
     requires whole { length buffer.old % 512 ≡ 0 }
     requires within { first + length buffer.old / 512 ≤ 1048576 }
     ensures { result ≡ true → buffer.new ≡ gather (content_at calls.now places.now) first
         (length buffer.old / 512) }
 {
-    let Some(call) = calls.first() else {
-        return false;
-    };
-    let Change::Image(image) = &call.change else {
-        return false;
-    };
-    if call.first != 0 || !are_first(places, first, buffer.len() / SECTOR) {
-        return false;
+    match image_below(calls, places, first, buffer.len() / SECTOR) {
+        Some(image) => image.read_run(first * SECTOR, buffer),
+        None => false,
     }
-    image.read_run(first * SECTOR, buffer)
+}
+
+/// Returns the bytes of `count` sectors from `first` on, if memory has them one after another. Each
+/// sector has the value of the call whose index `places` has for it.
+pub fn stored<'a>(
+    calls: &'a [Call],
+    places: &[usize],
+    first: usize,
+    count: usize,
+) -> Option<&'a [u8]>
+    requires { first + count ≤ 1048576 }
+    ensures { IfSome result
+        (λ bytes. bytes.now ≡ gather (content_at calls.now places.now) first count) }
+{
+    image_below(calls, places, first, count)?.stored(first * SECTOR, count * SECTOR)
 }
 
 // Does what `read_places` does. It is quick if the sectors are in one piece of an image.

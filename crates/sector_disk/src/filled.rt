@@ -1,6 +1,6 @@
 //! Bytes that often end with a repeated byte, as the data of a sector does. The repeated byte is
 //! stored once, and the bytes before it as they are.
-ghost use Rattle.std.specs.Prelude.{◌≡◌, ◌+◌, ◌++◌, ◌-◌, ◌<◌, ◌≤◌, IfOk, OnOk, drop, length, replicate, take};
+ghost use Rattle.std.specs.Prelude.{◌≡◌, ◌+◌, ◌++◌, ◌-◌, ◌<◌, ◌≤◌, IfOk, IfSome, OnOk, drop, length, replicate, take};
 
 use std::alloc::{AllocError, Global};
 use std::marker::Model;
@@ -148,6 +148,17 @@ impl FilledBytes {
         let (first, rest) = buffer.split_at_mut(held);
         first.copy_from_slice(&self.bytes[from..from + held]);
         rest.fill(self.fill);
+    }
+
+    /// Returns the `count` bytes from index `from` on, if they are stored as they are.
+    pub(crate) fn stored(&self, from: usize, count: usize) -> Option<&[u8]>
+        ensures within { IfSome result (λ part. from + count ≤ length self.now) }
+        ensures part { IfSome result (λ part. part.now ≡ take count (drop from self.now)) }
+    {
+        if from <= self.bytes.len() && count <= self.bytes.len() - from {
+            return Some(&self.bytes[from..from + count]);
+        }
+        None
     }
 
     /// Appends the bytes to a vector. If an allocation fails, a prefix of the bytes may be

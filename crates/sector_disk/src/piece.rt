@@ -1,5 +1,5 @@
 //! A piece of an image, stored in the way that takes less memory.
-ghost use Rattle.std.specs.Prelude.{◌≡◌, ◌+◌, ◌++◌, ◌<◌, ◌≤◌, ◌%◌, IfOk, OnOk, drop, length, take, true};
+ghost use Rattle.std.specs.Prelude.{◌≡◌, ◌+◌, ◌++◌, ◌<◌, ◌≤◌, ◌%◌, IfOk, IfSome, OnOk, drop, length, take, true};
 
 use crate::filled::{FilledBytes, count_before};
 use crate::packed::{PackedSectors, packed_size};
@@ -61,6 +61,17 @@ impl Piece {
                 true
             }
             _ => false,
+        }
+    }
+
+    /// Returns the `count` bytes from byte `from` on, if they are stored as they are.
+    pub fn stored(&self, from: usize, count: usize) -> Option<&[u8]>
+        ensures within { IfSome result (λ part. from + count ≤ length self.now) }
+        ensures part { IfSome result (λ part. part.now ≡ take count (drop from self.now)) }
+    {
+        match &self.held {
+            Held::Filled(bytes) => bytes.stored(from, count),
+            Held::Packed(_) => None,
         }
     }
 

@@ -1,5 +1,5 @@
 //! A long list of bytes, in pieces. A repeated byte at the end of a piece takes no memory.
-ghost use Rattle.std.specs.Prelude.{◌≡◌, ◌<◌, ◌≤◌, ◌+◌, ◌++◌, ◌%◌, IfOk, OnErr, OnOk, [], drop, length};
+ghost use Rattle.std.specs.Prelude.{◌≡◌, ◌<◌, ◌≤◌, ◌+◌, ◌++◌, ◌%◌, IfOk, IfSome, OnErr, OnOk, [], drop, length};
 ghost use Rattle.std.specs.Prelude.{take, true};
 ghost use Rattle.sector_disk.specs.inside.Pieces.{AreWhole, joined, with_piece};
 
@@ -161,6 +161,15 @@ impl Image {
             Some(piece) => piece.read_run(from % PIECE, buffer),
             None => false,
         }
+    }
+
+    /// Returns the `count` bytes from byte `from` on, if they are all in one piece that stores its
+    /// bytes as they are.
+    pub(crate) fn stored(&self, from: usize, count: usize) -> Option<&[u8]>
+        ensures within { IfSome result (λ part. from + count ≤ length self.now) }
+        ensures part { IfSome result (λ part. part.now ≡ take count (drop from self.now)) }
+    {
+        self.pieces.get(from / PIECE)?.stored(from % PIECE, count)
     }
 
     /// Reads the sector that begins at byte `from`.

@@ -1,10 +1,10 @@
 //! Makes a disk of zeroes or of an image, and returns a disk's image.
-ghost use Rattle.std.specs.Prelude.{◌≡◌, ◌*◌, ◌/◌, ◌%◌, ◌≤◌, IfOk, length, replicate};
+ghost use Rattle.std.specs.Prelude.{◌≡◌, ◌*◌, ◌+◌, ◌/◌, ◌%◌, ◌≤◌, IfOk, IfSome, length, replicate};
 ghost use Rattle.sector_disk.specs.DiskView.{Begins, IsDiskSize, IsImageSize, shown_of};
 ghost use Rattle.sector_disk.specs.inside.Storage.{change_values, content_at, count_of};
 ghost use Rattle.bio.specs.Content.{AgreeBelow, gather, put, sector_of};
 
-use crate::call::{Call, Change, SECTOR, begins_with_image, read_places, take_image};
+use crate::call::{Call, Change, SECTOR, begins_with_image, read_places, stored, take_image};
 use crate::disk::SectorDisk;
 use crate::filled::FilledBytes;
 use crate::pieces::Image;
@@ -97,6 +97,15 @@ impl SectorDisk {
             Begins (length image / 512) (sector_of image) (shown_of disk)) }
     {
         make(alloc, Change::Image(image))
+    }
+
+    /// Returns the bytes of `count` sectors from `first` on, if memory has them one after another.
+    pub fn stored(&self, first: u64, count: u64) -> Option<&[u8]>
+        requires { first + count ≤ (shown_of self.now).size }
+        ensures { IfSome result
+            (λ bytes. bytes.now ≡ gather (shown_of self.now).content first count) }
+    {
+        stored(&self.calls, &self.newest, first as usize, count as usize)
     }
 
     /// Returns the image of the disk: the bytes of all its sectors. Lack of memory is an error.

@@ -1,4 +1,4 @@
-use Rattle.std.proofs.Common.{◌∙◌, ◌+◌, ◌*◌, ◌/◌, arith, length, take, ◌≡◌}
+use Rattle.std.proofs.Common.{◌∙◌, ◌+◌, ◌*◌, ◌/◌, arith, length, refl, take, ◌≡◌}
 use Rattle.std.proofs.lemmas.List.{length-take}
 use Rattle.std.specs.Prelude.{min}
 use Rattle.sector_disk.specs.DiskView.{shown_of}
@@ -12,14 +12,14 @@ loop-number-preserved g c =
     let held = c.loop-number.auto.buffer in
     let all : length (take (c.min-count.result * 512) c.loop-number.buffer) / 512
     ≡ c.min-count.result = omega (arith, long, held) in (
-      c.read_piece.ensures.size ∙ before.0,
-      c.read_piece.ensures.content ∙ before.1,
+      c.write_piece.ensures.size ∙ before.0,
+      c.write_piece.ensures.content ∙ before.1,
       written_more (shown_of c.args.disk.now).content
-          (shown_of c.loop-number.disk).content _ _ _ c.read_piece.new.piece
+          (shown_of c.loop-number.disk).content _ _ _ _
           (min (c.loop-number.number * 128) c.args.sectors)
           (c.loop-number.number * 128)
           (length (take (c.min-count.result * 512) c.loop-number.buffer) / 512)
           c.min-count.result (min ((c.loop-number.number + 1) * 128) c.args.sectors)
-          before.2 (omega arith) (omega arith) c.in_ok-write_all.ensures.bytes
-          c.read_piece.ensures.read before.1 all,
+          before.2 (omega arith) (omega arith) c.in_ok-write_piece.ensures.written
+          refl before.1 all,
     )

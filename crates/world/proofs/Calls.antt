@@ -15,7 +15,7 @@ use Rattle.bio.specs.Possible.{covers_at}
 use Rattle.bio.specs.RequestLaws.{covers-parts}
 use Rattle.bio.specs.Requests.{first_sector, sector_count}
 use Rattle.world.specs.declared.step.Step.{Step}
-use Rattle.world.specs.declared.step.Step.TheVariants.{Submit, End}
+use Rattle.world.specs.declared.step.Step.TheVariants.{End}
 use Rattle.world.specs.Machine.{before_submit, call_of, calls_below, each_sector, is_among, is_end}
 use Rattle.world.specs.Machine.{is_submit, with_sector}
 

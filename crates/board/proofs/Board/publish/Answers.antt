@@ -1,7 +1,4 @@
-use Rattle.std.proofs.Common.{List, [], sym, ap, ◌∙◌, arith}
-use Rattle.bio.specs.declared.outcome.Status.{Status}
-use Rattle.atomic_table.specs.Table.{Me}
-use Rattle.board.specs.declared.rule.Knows.{Knows}
+use Rattle.std.proofs.Common.{sym, ◌∙◌, arith}
 use Rattle.board.specs.Posts.{last_of, writer_of}
 use Rattle.board.specs.PostLaws.{last_of-push}
 use Rattle.board.proofs.Moves.{publishes, published_is}

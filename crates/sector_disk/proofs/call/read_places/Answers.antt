@@ -1,6 +1,5 @@
-use Rattle.std.proofs.Common.{◌+◌, ◌≡◌, ◌*◌, ◌/◌, ◌-◌, ◌∙◌, ap, arith, length}
+use Rattle.std.proofs.Common.{arith}
 use Rattle.sector_disk.proofs.ImageBack.{gather-more, length-gather_at}
-use Rattle.sector_disk.specs.inside.Storage.{content_at}
 use Rattle.sector_disk.proofs.call.read_places.Goals as goal
 
 pub loop-index-preserved : goal.loop-index-preserved

@@ -1,7 +1,4 @@
-use Rattle.std.proofs.Common.{List, ℕ, ◌%◌, ◌/◌, ◌+◌, ◌≡◌, ◌≤◌, ◌<◌, ◌∙◌, ap, arith, drop, get_or, length, sym, take, true}
-use Rattle.std.specs.Prelude.{nat_lt}
-use Rattle.std.proofs.lemmas.Bool.{ltb-true}
-use Rattle.sector_disk.specs.inside.Pieces.{AreWhole, joined}
+use Rattle.std.proofs.Common.{◌∙◌, length, sym}
 use Rattle.sector_disk.proofs.PackedParts.{read_in}
 use Rattle.sector_disk.proofs.pieces.Image.read_run.Goals as goal
 

@@ -1,4 +1,4 @@
-use Rattle.std.proofs.Common.{IfSome, None, Option, Some, ◌≤◌, ◌+◌, ◌%◌, ◌∙◌, length, sym}
+use Rattle.std.proofs.Common.{IfSome, None, Option, Some, ◌∙◌, sym}
 use Rattle.sector_disk.proofs.PackedParts.{read_in}
 use Rattle.sector_disk.proofs.pieces.Image.stored.Goals as goal
 

@@ -35,8 +35,8 @@ is. A layer's table line is an exception too: its words are separated by one or 
 Sizes and places are in sectors of 512 bytes. An id is 1 to 16 of `a` to `z` and `0` to `9`, and is submitted once. A script without `close`
 ends after its last line, and that is no fault: what wasn't written to the log by then isn't in it.
 
-With `flush` the data disk is flushed and then, if that succeeded, written. A flush makes durable what ended before the flush was submitted. With `fua` the write is
-durable at its own end. `meta` is a note in the log. A mark waits for nothing, and has no `c`. A log keeps the first 479 bytes of its text, or
+With `flush` the data disk is flushed and then, if that succeeded, written. A flush that succeeds makes durable what ended before it was submitted. A write with `fua`
+that succeeds is durable at its own end. `meta` is a note in the log. A mark waits for nothing, and has no `c`. A log keeps the first 479 bytes of its text, or
 the first 4,063 with sectors of 4,096 bytes. With such sectors each request begins and ends at a multiple of 8 sectors, else it is refused as 28 Unaligned at its line.
 A layer over the log has at least 8.
 
@@ -135,7 +135,7 @@ A fault is one line on standard error: `dmlw: <number> <name>`, or `dmlw: line <
 
 | No | Name | When it is reported |
 |---|---|---|
-| 2 | Memory | there is no memory; of a `close`, with its line |
+| 2 | Memory | there is no memory; of a `close` or a message, with its line |
 | 3, 4, 5 | PastEnd, TooLong, NotWhole | a request past the disk's end; of over 2,048 sectors; of none |
 | 6, 7, 8 | BadMessage, AlreadyBad, NotBad | a message that no layer takes; a block that is listed already, and is added; a block that isn't listed, and is removed |
 | 9, 10, 11 | UnknownTarget, WrongCount, BadNumber | a table line's target, number of words, or word in a number's place |
@@ -143,7 +143,7 @@ A fault is one line on standard error: `dmlw: <number> <name>`, or `dmlw: line <
 | 13, 14, 15 | BadMagic, BadVersion, BadSectorSize | the image isn't a log, or is of another version, or has log sectors that aren't 512, 1024, 2048 or 4096 bytes |
 | 16, 17 | BadMark, TooLarge | an entry that no log can have |
 | 18 | Full | a copy to a disk on which the next entry doesn't fit |
-| 19, 20 | Device, Memory | no log could be made, since its device failed, or memory ran out (status 3) |
+| 19, 20 | Device, Memory | no log could be made, since its device failed, or memory ran out (status 3); 20 also of a copy whose log finds no memory (status 1) |
 | 21 | CutShort | the log is shorter than it says |
 | 24 | Busy | a `close` while a request is open |
 | 25, 26 | NoSuchMark, NoFlush | a replay up to a mark, or a flush, that the log doesn't have |

@@ -1,4 +1,4 @@
-//! Decides whether a recorder may have recorded a list of events. `could_hold` requires this.
+//! Decides whether a list of events is lawful for a device. `could_hold` requires this.
 ghost use Rattle.std.specs.Prelude.{◌≡◌, ◌<◌, Some, is_none, length, slice_get};
 ghost use Rattle.bio.specs.Events.{can_follow, end_of, has_no_close, has_no_stop, is_close};
 ghost use Rattle.bio.specs.Events.{is_end_of, is_lawful, is_open_at, is_recording, is_request};
@@ -7,9 +7,9 @@ ghost use Rattle.bio.specs.Places.{all_below};
 
 use bio::{CoreEvent, check};
 
-/// Returns whether the events are a list that a recorder of a device of `sectors` sectors of 512
-/// bytes may have recorded. Takes no memory. Takes time proportional to the square of the list's
-/// length.
+/// Returns whether each event may follow those before it, and each request is one for a device of
+/// `sectors` sectors of 512 bytes. A recorder's events are so. Takes no memory. Takes time
+/// proportional to the square of the list's length.
 pub fn is_lawful(events: &[CoreEvent], sectors: u64) -> bool
     ensures { result ≡ is_lawful sectors events.now }
 {

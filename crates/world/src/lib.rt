@@ -1,8 +1,8 @@
 //! A device with a cache, as a machine: requests land in sectors, sectors are destaged, requests
 //! end, power fails.
 //!
-//! `specs/Machine` defines the machine's steps. `specs/Machine` defines which runs fit an event list,
-//! and the content that a run leaves. By the law `possible_is_exact`, the judge's rule (`Possible`
+//! `specs/Machine` defines the machine's steps, which runs fit an event list, and the content that a
+//! run leaves. By the law `possible_is_exact`, the judge's rule (`Possible`
 //! in `bio`) allows exactly the contents that such runs leave. `reach` makes a run that leaves a
 //! given image. A `World` is such a device as code: it takes steps one by one.
 #![tactic(auto)]

@@ -11,7 +11,8 @@ What dmlw reads and prints. Every line ends with a line feed. The log's own byte
 A script is ASCII text without zero bytes, at most 4,194,304 bytes long. Lines end with a line feed; the last may lack it. Empty lines and
 lines that begin with `#` are skipped. Words are separated by one space. So these are refused as 30 BadLine at their line: a carriage return at
 a line's end, a byte order mark, a tab, two spaces, an upper case letter in a word. Only the text of a mark or a message is taken as it
-is. A layer's table line is an exception too: its words are separated by one or more spaces.
+is. A layer's table line is an exception too: its words are separated by one or more spaces, and a bad word has its own
+number (9 to 12, 29).
 
 | Line | Meaning | Range |
 |---|---|---|
@@ -149,7 +150,7 @@ A fault is one line on standard error: `dmlw: <number> <name>`, or `dmlw: line <
 | 25, 26 | NoSuchMark, NoFlush | a replay up to a mark, or a flush, that the log doesn't have |
 | 27 | PastTarget | a replay of an entry past the end of the image |
 | 28 | Unaligned | with log sectors of 4,096 bytes: a request whose first sector or count is no multiple of 8; a copy of an entry whose place or length is no multiple of 4,096 bytes |
-| 30 | BadLine | a line that isn't one of a script's, or isn't in its place; a fifth layer of a disk; a time that goes back; a seat that isn't there |
+| 30 | BadLine | a line that isn't one of a script's, or isn't in its place; a fifth layer of a disk; a log's layer of less than a log sector; a time that goes back; a seat that isn't there |
 | 31 | BadId | an id that is submitted twice, or ended while it isn't open |
 | 32 | File | a file or the output can't be read or written; a script that is too long; an image that isn't 512 to 536,870,912 bytes in whole sectors; a log that is its own script; an image that is its own log |
 | 33 | PastEntries | a replay of more entries than the log counts |

@@ -1,6 +1,6 @@
 -- Laws about what a writer holds after two calls, and about the error of a failed call.
 use Rattle.std.proofs.Common.{◌∙◌, ℕ, List, ◌++◌, Option, None, Some, Result, Ok, Err, IfErr}
-use Rattle.std.proofs.Common.{append_assoc, ap, refl}
+use Rattle.std.proofs.Common.{append_assoc, refl}
 use Rattle.std.specs.Result.{IsErrAnd}
 use Rattle.std.specs.Io.KnownBytes.{Appends, Keeps}
 

@@ -6,8 +6,8 @@
         file, which edits have no entry in their crate's planted.txt, if docs/lab/PLANTED.md has other counts than there are, and if the page of the formats that
         the program prints (crates/dmlw/src/formats.rt) isn't docs/FORMATS.md. --count writes the counts and that page.
         Says also where docs/HEADLINE.md isn't what bench/headline.py writes, which places the documents cite that aren't there, which definitions docs/ARCHITECTURE.md
-        explains that aren't in the file that it names, which files have no head, which cite what another crate has in proofs/ or specs/inside/, and if release/ is there
-        and isn't of the tree at hand (bench/release.py).
+        explains that aren't in the file that it names, which files have no head, which cite what another crate has in proofs/ or specs/inside/, which names a .antt file
+        imports and doesn't use (`rt tidy` would drop them), and if release/ is there and isn't of the tree at hand (bench/release.py).
         Warns of house words in the comments and pages that changed since origin/main (else since the last commit), of sentences of over 25 words in the documents,
         and of documents of over 40,000 words. Warnings leave the exit status.
 
@@ -85,6 +85,18 @@ def sources_off():
             for name, place in re.findall(r"Rattle\.([a-z_]+)\.(proofs|specs\.inside)\b", text):
                 if name in crates - {crate} and not crate.endswith("_tests"):
                     yield f"{os.path.relpath(file, root)}: cites {place} of {name}"
+
+
+def unused_names():
+    """Names that a .antt file imports and doesn't use. A name after a dot is another's field or case."""
+    for file in sorted(it for it in glob.glob(f"{root}/crates/*/**/*.antt", recursive=True) if "/out/" not in it):
+        text = text_of(file)
+        rest = re.sub(r"--.*", "", re.sub(r"^(?:pub )?use .*$", "", text, flags=re.M))
+        used = {word.split(".")[0] for word in re.findall(r"[^\s(){}\[\];,λ]+", rest)}
+        for names, whole in re.findall(r"^use [\w.-]+(?:\.\{([^}]*)\}| as ([\w-]+))$", text, re.M):
+            for name in [it.split(" as ")[-1].strip() for it in names.split(",")] + [whole]:
+                if name not in ("", "[]") and not all(part in used or part in rest and "◌" in name for part in name.split("◌") if part):
+                    yield f"{os.path.relpath(file, root)}: nothing uses {name}"
 
 
 def words_off():
@@ -183,7 +195,7 @@ def main():
     kept = [(edit.split("/")[-3], os.path.basename(edit)[:-5], text_of(edit).split("\n")) for edit in sorted(glob.glob(f"{root}/crates/*/must-fail/*.edit"))]
     more = [(crate, planted.slug_of(name), edit) for crate in crates for name, _, edit in bugs[crate] if edit]
     page = text_of(f"{root}/docs/lab/PLANTED.md")
-    found = [*not_laid_out(), *edits_off(kept + more), *cited(), *words_off(), *headline_off(), *sources_off(), *formats_off(), *release.off()]
+    found = [*not_laid_out(), *edits_off(kept + more), *cited(), *words_off(), *headline_off(), *sources_off(), *unused_names(), *formats_off(), *release.off()]
     for crate, name, _ in kept:
         if not any(planted.slug_of(bug) == name for bug, _, _ in bugs[crate]):
             found.append(f"crates/{crate}/must-fail/{name}.edit: no entry in planted.txt")

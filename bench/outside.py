@@ -151,6 +151,11 @@ def pipes(room):
             trial(f"{command[0]} on a full output is refused", (ran.returncode, ran.stderr) == (1, b"dmlw: 32 File\n"), ran)
     ran = run("record", script, "/dev/stdout")
     trial("a log on standard output", ran.returncode == 0 and ran.stdout == TOLD + log.read_bytes(), ran.stderr)
+    for stream in ("/dev/stdout", "/dev/fd/1", "/proc/self/fd/1"):
+        held = room / "stream"
+        with open(held, "wb") as it:
+            ran = subprocess.run([PROGRAM, "record", script, stream], stdout=it, stderr=subprocess.PIPE)
+        trial(f"a log behind the output in one file, as {stream}", ran.returncode == 0 and held.read_bytes() == TOLD + log.read_bytes(), ran)
     fifo = room / "fifo"
     os.mkfifo(fifo)
     got = []

@@ -3,8 +3,8 @@
 
   bench/ready.py [--count]
         Says which files `rt fmt` would change (the gate refuses their crate whole), which edits, of must-fail/ and of planted.txt, name a text that isn't once in its
-        file, which edits have no entry in their crate's planted.txt, if docs/lab/PLANTED.md has other counts than there are, and if the page of the formats that
-        the program prints (crates/dmlw/src/formats.rt) isn't docs/FORMATS.md. --count writes the counts and that page.
+        file, which edits have no entry in their crate's planted.txt, and if the page of the formats that the program prints (crates/dmlw/src/formats.rt) isn't
+        docs/FORMATS.md. --count writes that page.
         Says also where docs/HEADLINE.md isn't what bench/headline.py writes, which places the documents cite that aren't there, which definitions docs/ARCHITECTURE.md
         explains that aren't in the file that it names, which files have no head, which cite what another crate has in proofs/ or specs/inside/, which names a .antt file
         imports and doesn't use (`rt tidy` would drop them), and if release/ is there and isn't of the tree at hand (bench/release.py).
@@ -194,18 +194,10 @@ def main():
     bugs = {crate: list(planted.entries_of(crate)) for crate in crates}
     kept = [(edit.split("/")[-3], os.path.basename(edit)[:-5], text_of(edit).split("\n")) for edit in sorted(glob.glob(f"{root}/crates/*/must-fail/*.edit"))]
     more = [(crate, planted.slug_of(name), edit) for crate in crates for name, _, edit in bugs[crate] if edit]
-    page = text_of(f"{root}/docs/lab/PLANTED.md")
     found = [*not_laid_out(), *edits_off(kept + more), *cited(), *words_off(), *headline_off(), *sources_off(), *unused_names(), *formats_off(), *release.off()]
     for crate, name, _ in kept:
         if not any(planted.slug_of(bug) == name for bug, _, _ in bugs[crate]):
             found.append(f"crates/{crate}/must-fail/{name}.edit: no entry in planted.txt")
-    wanted = re.sub(r"^\d+ bugs are in", f"{len(kept)} bugs are in", page, flags=re.M)
-    wanted = re.sub(r"^\d+ more have their text", f"{len(more)} more have their text", wanted, flags=re.M)
-    if wanted != page and "--count" in sys.argv:
-        with open(f"{root}/docs/lab/PLANTED.md", "w", encoding="utf-8") as it:
-            it.write(wanted)
-    elif wanted != page:
-        found.append(f"docs/lab/PLANTED.md: {len(kept)} edits, {len(more)} more with a text")
     for warning in (*house_words(), *long_sentences(), *too_many_words()):
         print(f"warning: {warning}")
     print("\n".join(found) or "ready")

@@ -36,7 +36,7 @@ pub fn stacks_do_what_their_layers_do()
 {}
 
 /// If the top layer has a gate, it does what the gate's verdict says. Then it has the gate after
-/// the call; only a fuse's gate changes.
+/// the call.
 #[tactic(auto, using(crate::specs::StackLaws::gate_top))]
 pub fn gates_decide()
     ensures { (layer : Layer) (layers : List Layer) (old : SectorDisk) (call : Call) (now : ℕ)

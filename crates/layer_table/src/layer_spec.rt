@@ -107,7 +107,7 @@ fn offset_in(line: &[u8], name: Name) -> u64
 {
     match name {
         Name::Error => 0,
-        Name::Linear | Name::Flakey | Name::Fuse | Name::Dust | Name::Delay => value_in(line, 4),
+        _ => value_in(line, 4),
     }
 }
 

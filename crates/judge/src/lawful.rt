@@ -8,8 +8,8 @@ ghost use Rattle.bio.specs.Places.{all_below};
 use bio::{CoreEvent, check};
 
 /// Returns whether each event may follow those before it, and each request is one for a device of
-/// `sectors` sectors of 512 bytes. A recorder's events are so. Takes no memory. Takes time
-/// proportional to the square of the list's length.
+/// `sectors` sectors of 512 bytes. A recorder's events are lawful for a device of 1,048,576 sectors.
+/// Takes no memory. Takes time proportional to the square of the list's length.
 pub fn is_lawful(events: &[CoreEvent], sectors: u64) -> bool
     ensures { result ≡ is_lawful sectors events.now }
 {

@@ -71,7 +71,7 @@ fn a_flush_changes_few_links(rt: HostRuntime) -> Result<(), Fail> {
         ended.saturating_sub(submitted),
     );
     assert!(rt; 1 <= one && one <= 8, "submission: {one}");
-    assert!(rt; 1001 <= two && two <= 8 * 1001 + 8, "end: {two}");
+    assert!(rt; 1001 <= two && two <= 3 * 1001 + 8, "end: {two}");
     assert_eq!(rt; take_all(&mut core, 0, 1000, flush), 1001);
     assert!(rt; core.take().is_none());
     Ok(())

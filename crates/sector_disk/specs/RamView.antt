@@ -48,7 +48,7 @@ IsPut patch now (Err Memory) old new =
     Patched patch old.content new.content × (new.faults ≡ old.faults)
 IsPut patch now (Err Io) old new = ⊥
 
--- the call failed and is counted, and nothing else changed
+-- the call failed and is counted, and the content is unchanged
 pub record IsFailed (result : Result ℕ DevError) (old new : View) : Type 0 where
   pub error : result ≡ Err Io
   pub content : new.content ≡ old.content

@@ -1,7 +1,8 @@
 -- Worked answers: some match what the call adds, and some don't.
 use Rattle.std.proofs.Common.{Global, Option, arith, None, Vec, Ok, Some, inl, inr, length, refl}
 use Rattle.std.proofs.Common.{sym, take, true≢false, ◌≡◌, ◌<◌, ℕ, zero, suc, Bool, true, false}
-use Rattle.std.proofs.Common.{List, [], ◌∷◌}
+use Rattle.std.proofs.Common.{List, [], ap, ◌∷◌}
+use Rattle.std.proofs.Math.Nat.{suc-ne-zero}
 use Rattle.std.specs.Prelude.{slice_get}
 use Rattle.refusals.specs.declared.run_error.End.{End}
 use Rattle.refusals.specs.declared.run_error.End.TheVariants.{Device, Full}
@@ -13,16 +14,16 @@ use Rattle.bio.specs.declared.request.Bio.TheVariants as bios
 use Rattle.log_format.specs.Entries.{end_mark, entry_of}
 use Rattle.log_format.specs.LogOf.{IsLogOf}
 use Rattle.pending.specs.CompletionList.{entries_of}
-use Rattle.pending.specs.CoreState.{CoreState, items_of, sized_state}
+use Rattle.pending.specs.CoreState.{CoreState, items_of, next_item, sized_state}
 use Rattle.board.specs.Posts.{MayPost, opening}
 use Rattle.lock_state.specs.Comparison.{LeftUnplaced, IsTakenPrefix, Fails, IsServed, Names}
 use Rattle.lock_state.specs.Comparison.{SeatMatches, Each, Receipt}
 use Rattle.lock_state.specs.declared.note.Done.{Done as DoneCall}
 use Rattle.lock_state.specs.declared.note.Item.{Item}
 use Rattle.lock_state.specs.History.{Part, Queue, begun, ended, ended_by, new_part, noted}
-use Rattle.lock_state.specs.History.{recorded_by}
+use Rattle.lock_state.specs.History.{after_taking, in_hand, recorded_by}
 use Rattle.lock_state.specs.PlacedItems.{Log}
-use Rattle.shared.specs.Answers.{Answered, Enters, Finds, FindsNext, MarkEnters, Marked}
+use Rattle.shared.specs.Answers.{Answered, Enters, Finds, FindsNext, MarkEnters, Marked, Takes}
 use Rattle.shared.specs.Close.{Agrees, AreNewReaders, AreNewSeats, Differs, IfBusy, IsReceipt}
 use Rattle.shared.specs.Close.{LeavesLog}
 use Rattle.shared.specs.declared.answer.Answer.TheVariants.{Done, Done as done, Read}
@@ -31,7 +32,7 @@ use Rattle.shared.specs.declared.answer.MarkRefusal.TheVariants.{BadText}
 use Rattle.shared.specs.declared.calls.Entered.TheVariants.{Recorded, Unrecorded}
 use Rattle.shared.specs.declared.closing.Unclosed.TheVariants.{Busy}
 use Rattle.shared.specs.declared.marks.EnteredMark.TheVariants as entered
-use Rattle.shared.specs.declared.writing.Next.TheVariants.{Stopped}
+use Rattle.shared.specs.declared.writing.Next.TheVariants.{Finished, Stopped}
 use Rattle.shared.specs.Posts.{ArePosted, IsCurrent, IsLatest, IsOfPrefix, KeepsCauses, PostsNext}
 use Rattle.shared.specs.Posts.{StatusHasCause}
 
@@ -85,11 +86,25 @@ stopped_mark = (refl, (refl, refl))
 other_mark : MarkEnters stopped 0 (1 ∷ []) (entered.Stopped Device) stopped → ⊥
 other_mark enters = let cause = enters.1.0 in absurd (cc cause)
 
-stop_next : FindsNext stopped (Some Stopped) stopped None
-stop_next = (refl, (refl, (refl, refl)))
+-- a queue of one mark, which the writer takes
+abbrev marked : Queue
+marked = recorded_by fresh (Some 0) (events.Mark (1 ∷ []))
 
-no_stop : FindsNext fresh (Some Stopped) fresh None → ⊥
+mark_taken : Takes marked (in_hand (next_item marked.core) ∷ []) (after_taking marked)
+mark_taken = (refl, (refl, refl))
+
+-- and which the queue then no longer has
+mark_left : Takes marked (in_hand (next_item marked.core) ∷ []) marked → ⊥
+mark_left takes = suc-ne-zero 0 (sym (ap (λ (queue : Queue). queue.core.taken) takes.1.1))
+
+stop_next : FindsNext stopped (Some Stopped) stopped None []
+stop_next = (refl, (refl, (refl, (refl, refl))))
+
+no_stop : FindsNext fresh (Some Stopped) fresh None [] → ⊥
 no_stop finds = true≢false (sym finds.0)
+
+no_finish : FindsNext fresh (Some Finished) fresh None [] → ⊥
+no_finish finds = true≢false finds.0
 
 -- the item of a flush, whose entry takes one sector of the log
 abbrev flushed : ℕ → Item

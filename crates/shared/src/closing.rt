@@ -144,7 +144,7 @@ impl<D: BlockDev + Drop, L: BlockDev + Drop, R: Run + Names> Shared<D, L, R> {
             LeavesLog R.sector_bytes
             (L.shown c.closed.log).size c.closed.settled c.closed.core.state c.closed.end
             (L.shown c.closed.log).content) }
-        ensures stands { IfOk result (λ c. KeepsGround R.log (L.shown c.closed.log)) }
+        ensures ground { IfOk result (λ c. KeepsGround R.log (L.shown c.closed.log)) }
         ensures status { IfOk result
             (λ c. c.closed.status ≡ status_of R.sector_bytes
             (entries_in c.closed.placed.items) c.closed.end) }
@@ -184,7 +184,7 @@ impl<D: BlockDev + Drop, L: BlockDev + Drop, R: Run + Names> Shared<D, L, R> {
             (λ e. IfForeign e (λ f. (has_no_close f.closed.core.state.events ≡ false)
             × LegalHistory R.sector_bytes R.sectors f.closed.core.state.events f.closed.by.items
             [])) }
-        ensures foreign_stands { IfErr result
+        ensures foreign_ground { IfErr result
             (λ e. IfForeign e (λ f. KeepsGround R.log (L.shown f.closed.log))) }
         ensures foreign_crash { IfErr result (λ e. IfForeign e (λ f.
             (L.shown f.closed.log).lies ≡ 0 → (left : Content)
@@ -413,7 +413,7 @@ fn finish<D: BlockDev + Drop, L: BlockDev + Drop, R: Run>(
         → (L.shown result.log).crash left →
         LeavesLog R.sector_bytes
         (L.shown result.log).size result.settled result.core.state result.end left }
-    ensures stands { KeepsGround R.log (L.shown result.log) }
+    ensures ground { KeepsGround R.log (L.shown result.log) }
     ensures status { result.status
         ≡ status_of R.sector_bytes (entries_in result.placed.items) result.end }
     ensures holds { (D.shown result.device).lies ≡ 0
@@ -456,7 +456,7 @@ fn take_apart<D: BlockDev + Drop, L: BlockDev + Drop, R: Run>(
         → (L.shown result.log).crash left →
         LeavesPrefix R.sector_bytes (L.shown result.log).size result.settled
         (entries_in result.placed.items) left }
-    ensures stands { KeepsGround R.log (L.shown result.log) }
+    ensures ground { KeepsGround R.log (L.shown result.log) }
     ensures status { result.status
         ≡ status_of R.sector_bytes (entries_in result.placed.items) result.end }
     ensures holds { (D.shown result.device).lies ≡ 0

@@ -1,7 +1,7 @@
-use Rattle.std.proofs.Common.{◌≡◌, ℕ, List, Option, length, ◌∙◌, ap, subst, sym}
+use Rattle.std.proofs.Common.{◌≡◌, ℕ, List, Option, length, ◌∙◌, ap, refl, subst, sym}
 use Rattle.refusals.specs.declared.run_error.End.{End}
 use Rattle.lock_state.specs.Comparison.{Each}
-use Rattle.lock_state.specs.History.{Queue}
+use Rattle.lock_state.specs.History.{Queue, named}
 use Rattle.lock_state.specs.PlacedItems.{Log, with_room}
 use Rattle.lock_state.specs.declared.note.Item.{Item}
 use Rattle.shared.proofs.ClosedLog.{agrees_of, differs_apart, differs_of, receipts_there, stop_same}
@@ -17,6 +17,17 @@ returns-then-agrees-clause-agrees g c =
     (agrees_of _ _ _ _ _ _ _ _ _
     (c.as_slice.ensures.value
     ∙ c.audit.ensures.same.1) c.as_slice-2.ensures.value c.if-agrees.ensures.agrees)
+
+pub returns-then-agrees-clause-legal : goal.returns-then-agrees-clause-legal
+returns-then-agrees-clause-legal g c =
+    rw c.finish-closed.ensures.same.0 (rw c.finish-closed.ensures.same.1
+    (rw (← (c.as_slice.ensures.value ∙ c.audit.ensures.same.1)) (c.if-agrees.ensures.legal refl)))
+
+pub returns-then-agrees-clause-counts : goal.returns-then-agrees-clause-counts
+returns-then-agrees-clause-counts g c all some =
+    ap named (c.finish-closed.ensures.same.1
+    ∙ ap (λ (queue : Queue). queue.by) (c.confirm_causes.ensures.same.1 ∙ c.audit.ensures.same.0))
+    ∙ c.audit.ensures.counted all some
 
 pub returns-then-agrees-clause-receipts : goal.returns-then-agrees-clause-receipts
 returns-then-agrees-clause-receipts g c =

@@ -10,7 +10,7 @@ use std::hint::spin_loop;
 use std::sync::atomic::{AtomicU64, Ordering};
 use std::sync::{Condvar, MutexGuard, Wait};
 
-// A thread looks this often. On one processor this took 65 microseconds, longer than to wake a thread.
+// A thread looks this often. On one processor this took 100 microseconds; a thread was woken in 17.
 const LOOKS: u64 = 16_000;
 
 // A thread looks for its entry only if at most this many threads wait for one.

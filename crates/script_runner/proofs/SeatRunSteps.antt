@@ -258,7 +258,7 @@ is_run ground bytes sectors plan log players seats tallies receipts closed statu
     (subst (λ (n : ℕ). IsClosed ground bytes n seats receipts closed)
     (sym fits.data_size) close))) in
     let is : IsLogStack plan log closed.log image =
-    record { room = room; blank = blank; stands = here.stands; bytes = left } in
+    record { room = room; blank = blank; stands = here.keeps_ground; bytes = left } in
     let none : lies.log_disk ≡ (stack_shown closed.log).lies = grind (arith, lied) in
     record {
       seats = seats;

@@ -21,6 +21,7 @@ use Rattle.log_format.specs.LogOf.{status_of}
 use Rattle.log_store.specs.Calls.{HasFaulted}
 use Rattle.lock_state.specs.Calls.{Holds}
 use Rattle.lock_state.specs.Comparison.{Each, LegalHistory, Receipt}
+use Rattle.lock_state.specs.FirstStop.{HasStopCause}
 use Rattle.lock_state.specs.History.{KeepsCause, Part, first_cause, named, new_part, one_if}
 use Rattle.lock_state.specs.History.{recorded_count}
 use Rattle.lock_state.specs.PlacedItems.{Ground, HasCause, KeepsGround, entries_in, ground_of}
@@ -220,11 +221,13 @@ pub record IsClosed (ground : Ground) (bytes sectors : ℕ) (seats : List Part)
       → (stack_shown closed.log).crash left →
       LeavesLog bytes (stack_shown closed.log).size closed.settled closed.core.state closed.end left
   -- the log's device has the size and the place that it had at first
-  pub stands : KeepsGround ground (stack_shown closed.log)
+  pub keeps_ground : KeepsGround ground (stack_shown closed.log)
   -- logging ended by the cause of the first Stop, if there is one; otherwise by the store's end.
-  -- The Stop is one of the events, or came after the Close
+  -- The Stop is one of the events, or came after the Close. Its cause is Memory, or why the store
+  -- ended
   pub end : closed.end ≡ first_cause closed.stop closed.store_end
   pub stop : KeepsCause closed.core.state closed.stop
+  pub stop_cause : HasStopCause closed.stop closed.store_end
   pub causes : HasCause stack_does ground (stack_shown closed.log).faults closed.store_end
   -- the log's sectors have `bytes` bytes, and the recorded device has `sectors` sectors
   pub sector_size : closed.core.state.sector_bytes ≡ bytes

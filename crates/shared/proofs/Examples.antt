@@ -21,7 +21,7 @@ use Rattle.lock_state.specs.Comparison.{SeatMatches, Each, Receipt}
 use Rattle.lock_state.specs.declared.note.Done.{Done as DoneCall}
 use Rattle.lock_state.specs.declared.note.Item.{Item}
 use Rattle.lock_state.specs.History.{Part, Queue, begun, ended, ended_by, new_part, noted}
-use Rattle.lock_state.specs.History.{after_taking, in_hand, recorded_by}
+use Rattle.lock_state.specs.History.{after_taking, finished, in_hand, recorded_by}
 use Rattle.lock_state.specs.PlacedItems.{Log}
 use Rattle.shared.specs.Answers.{Answered, Enters, Finds, FindsNext, MarkEnters, Marked, Takes}
 use Rattle.shared.specs.Close.{Agrees, AreNewReaders, AreNewSeats, Differs, IfBusy, IsReceipt}
@@ -32,7 +32,7 @@ use Rattle.shared.specs.declared.answer.MarkRefusal.TheVariants.{BadText}
 use Rattle.shared.specs.declared.calls.Entered.TheVariants.{Recorded, Unrecorded}
 use Rattle.shared.specs.declared.closing.Unclosed.TheVariants.{Busy}
 use Rattle.shared.specs.declared.marks.EnteredMark.TheVariants as entered
-use Rattle.shared.specs.declared.writing.Next.TheVariants.{Finished, Stopped}
+use Rattle.shared.specs.declared.writing.Next.TheVariants.{Finished, NoRoom, Stopped}
 use Rattle.shared.specs.Posts.{ArePosted, IsCurrent, IsLatest, IsOfPrefix, KeepsCauses, PostsNext}
 use Rattle.shared.specs.Posts.{StatusHasCause}
 
@@ -105,6 +105,25 @@ no_stop finds = true≢false (sym finds.0)
 
 no_finish : FindsNext fresh (Some Finished) fresh None [] → ⊥
 no_finish finds = true≢false finds.0
+
+-- another item than the next one isn't taken, and none where there is no next one
+other_taken : Takes marked (None ∷ []) (after_taking marked) → ⊥
+other_taken takes = let hand = takes.1.0 in absurd (cc hand)
+
+none_taken : Takes fresh (None ∷ []) (after_taking fresh) → ⊥
+none_taken takes = true≢false (sym takes.0)
+
+stop_leaves : FindsNext stopped (Some Stopped) stopped None (None ∷ []) → ⊥
+stop_leaves finds = let later = finds.1.1.1.1 in absurd (cc later)
+
+closed_waits : FindsNext (finished fresh) None (finished fresh) None [] → ⊥
+closed_waits finds = true≢false (sym finds.0)
+
+stop_waits : FindsNext stopped None stopped None [] → ⊥
+stop_waits finds = let on = finds.1.0 in absurd (cc on)
+
+room_taken : FindsNext marked (Some NoRoom) (after_taking marked) None [] → ⊥
+room_taken finds = suc-ne-zero 0 (ap (λ (queue : Queue). queue.core.taken) finds.0)
 
 -- the item of a flush, whose entry takes one sector of the log
 abbrev flushed : ℕ → Item

@@ -84,13 +84,15 @@ enum Held {
     Log,
 }
 
-// The calls of two seats. A device passes `passes` writes to `sector`, and holds the next one until
-// the second seat's call is answered. `tallies` are the expected answers.
+// The calls of two seats. The first seat makes `before` plain writes before its call. A device
+// passes `passes` writes to `sector`, and holds the next one until the second seat's call is
+// answered. `tallies` are the expected answers.
 #[derive(Clone, Copy, Debug)]
 struct Scene {
     held: Held,
     sector: u64,
     passes: u64,
+    before: u64,
     calls: (Call, Call),
     tallies: (Tally, Tally),
     // The expected status of the log in the end.
@@ -98,11 +100,29 @@ struct Scene {
 }
 
 // Returns the tables of both seats. The second seat waits until a call is held.
-fn two_calls(alloc: Global, calls: (Call, Call), sign: Sign) -> Result<Vec<Table>, AllocError> {
+fn two_tables(alloc: Global, scene: &Scene, sign: Sign) -> Result<Vec<Table>, AllocError> {
     let mut tables = Vec::new(alloc);
-    tables.push(alone(alloc, calls.0, None)?)?;
-    tables.push(alone(alloc, calls.1, Some(sign))?)?;
+    tables.push(Table {
+        calls: after_writes(alloc, scene.before, scene.calls.0)?,
+        late: Vec::new(alloc),
+        after: None,
+    })?;
+    tables.push(alone(alloc, scene.calls.1, Some(sign))?)?;
     Ok(tables)
+}
+
+// Returns this many plain writes, and then the call.
+fn after_writes(alloc: Global, before: u64, call: Call) -> Result<Vec<Call>, AllocError> {
+    let mut calls = Vec::new(alloc);
+    for _ in 0..before {
+        calls.push(Call::Write {
+            first: 1,
+            byte: 1,
+            fua: false,
+        })?;
+    }
+    calls.push(call)?;
+    Ok(calls)
 }
 
 // Returns whether each of two seats had the answers `wanted`.
@@ -123,7 +143,7 @@ fn gated<H: Threads + Wait + Clock + Print + Sync + Send + Copy + Drop>(
 ) -> Result<bool, AllocError> {
     let sign = Sign::new(alloc)?;
     let other = sign.again()?;
-    let tables = two_calls(alloc, scene.calls, sign)?;
+    let tables = two_tables(alloc, &scene, sign)?;
     let disk = SectorDisk::new(alloc, FEW)?;
     let holding = Gate::holding(disk, *rt, other, scene.sector, scene.passes);
     let open = open_disk(rt, alloc, FEW)?;
@@ -167,6 +187,7 @@ fn a_write_is_answered_while_the_log_is_written(rt: HostRuntime) -> Result<(), F
         held: Held::Log,
         sector: 1,
         passes: 0,
+        before: 0,
         calls: (
             Call::Flush,
             Call::Write {
@@ -190,11 +211,32 @@ fn a_taken_entry_is_written_after_a_stop(rt: HostRuntime) -> Result<(), Fail> {
         held: Held::Log,
         sector: 1,
         passes: 0,
+        before: 0,
         calls: (Call::Flush, Call::GiveUp),
         tallies: (tally(1, 0, 0), tally(1, 0, 0)),
         status: Status {
             end: Some(End::Memory),
             ..goes_on(1, 1)
+        },
+    };
+    assert!(rt; gated(&rt, rt.alloc(), scene)?);
+    Ok(())
+}
+
+// Logging is stopped while the first of three entries is written to the log. The writer had taken
+// all three at once, so it writes them all.
+#[test]
+fn taken_entries_are_written_after_a_stop(rt: HostRuntime) -> Result<(), Fail> {
+    let scene = Scene {
+        held: Held::Log,
+        sector: 1,
+        passes: 0,
+        before: 2,
+        calls: (Call::Flush, Call::GiveUp),
+        tallies: (tally(3, 0, 0), tally(1, 0, 0)),
+        status: Status {
+            end: Some(End::Memory),
+            ..goes_on(3, 5)
         },
     };
     assert!(rt; gated(&rt, rt.alloc(), scene)?);
@@ -208,6 +250,7 @@ fn a_write_is_let_go_after_a_stop(rt: HostRuntime) -> Result<(), Fail> {
         held: Held::Device,
         sector: 1,
         passes: 0,
+        before: 0,
         calls: (
             Call::Write {
                 first: 1,
@@ -240,6 +283,7 @@ fn a_close_is_busy_while_a_request_is_open(rt: HostRuntime) -> Result<(), Fail> 
         held: Held::Device,
         sector: 1,
         passes: 0,
+        before: 0,
         calls: (
             Call::Write {
                 first: 1,
@@ -269,6 +313,7 @@ fn a_write_is_answered_while_a_mark_is_made_sure(rt: HostRuntime) -> Result<(), 
         held: Held::Log,
         sector: 0,
         passes: 1,
+        before: 0,
         calls: (
             Call::Mark { byte: 1 },
             Call::Write {
@@ -292,6 +337,7 @@ fn a_write_is_answered_while_a_fua_write_is_made_sure(rt: HostRuntime) -> Result
         held: Held::Log,
         sector: 0,
         passes: 1,
+        before: 0,
         calls: (
             Call::Write {
                 first: 2,
@@ -318,6 +364,7 @@ fn a_mark_is_answered_while_the_device_writes(rt: HostRuntime) -> Result<(), Fai
         held: Held::Device,
         sector: 1,
         passes: 0,
+        before: 0,
         calls: (
             Call::Write {
                 first: 1,

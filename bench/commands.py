@@ -17,7 +17,7 @@ import tempfile
 from copies import KINDS, room_of
 from judge import script_of
 from logs import SECTOR, writes
-from measure import MIB, ROOT, build, build_peer, measure
+from measure import MIB, ROOT, build, build_peer, measure_beside
 from record import large, small
 from replay import log_of
 
@@ -85,8 +85,7 @@ def main():
     with tempfile.TemporaryDirectory() as folder:
         peer = build_peer(folder)
         for command, work, words, theirs, times, mib, files in works():
-            ours = measure(program, words, files)
-            plain = peer and theirs and measure(peer, [theirs, *words[1:]], files)
+            ours, plain = measure_beside([program, *words], peer and theirs and [peer, theirs, *words[1:]], files)
             held = f"{ours.peak / MIB:,.1f}"
             print(f"| `{command}` | {work} | {ours.seconds:.2f} | {ours.beside(plain).strip()} | {bound(times, '{:.2f}')} | {held} | {bound(mib, '{}')} |", flush=True)
 

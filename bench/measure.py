@@ -1,12 +1,14 @@
 """Runs the built program, and tells the CPU time and the memory that it takes; beside it, where there is a rustc, the
 plain Rust program of bench/peer.rs, which does the same unproved. Needs Linux, for ptrace."""
 
+import contextlib
 import ctypes
 import os
 import shutil
 import subprocess
 import sys
 import tempfile
+import time
 
 ROOT = os.path.dirname(os.path.dirname(os.path.abspath(__file__)))
 MIB = 1 << 20
@@ -18,11 +20,13 @@ TRACE_EXIT, EXIT_EVENT = 0x40, 6
 
 
 class Measured:
-    """The least CPU seconds, user and system, of some runs, and the most memory that one of them held, in bytes."""
+    """What some runs of a program took: the least CPU seconds, user and system, the least seconds of a clock, and
+    the memory that one run more held at most, in bytes."""
 
-    def __init__(self, runs):
-        self.seconds = min(seconds for seconds, _ in runs)
-        self.peak = max(peak for _, peak in runs)
+    def __init__(self, runs, peak):
+        self.seconds = min(cpu for cpu, _ in runs)
+        self.clock = min(clock for _, clock in runs)
+        self.peak = peak
 
     def beside(self, peer):
         """How many times the peer's seconds these are."""
@@ -50,16 +54,39 @@ def base(program):
 
 def measure(program, words, files, runs=RUNS):
     """Measures so many runs of a program in a folder with these files."""
-    with tempfile.TemporaryDirectory() as folder:
-        for name, data in files.items():
-            with open(f"{folder}/{name}", "wb") as it:
-                it.write(data)
-        return Measured([run([program, *words], folder) for _ in range(runs)])
+    return measure_beside([program, *words], None, files, runs)[0]
 
 
-def run(words, folder):
-    """CPU seconds and peak memory of one run. The peak is read at its end from the kernel: what wait4(2) tells also
-    counts the memory of this process, from which the program was started."""
+def measure_beside(ours, theirs, files, runs=RUNS):
+    """Measures so many runs of a command and, unless it is None, of the peer's. They run in turns, so that what else
+    the machine does slows them alike; each has a folder of its own with these files."""
+    with contextlib.ExitStack() as stack:
+        folders = [stack.enter_context(tempfile.TemporaryDirectory()) for _ in range(2)]
+        for folder in folders:
+            for name, data in files.items():
+                with open(f"{folder}/{name}", "wb") as it:
+                    it.write(data)
+        each = [it for it in zip((ours, theirs), folders) if it[0]]
+        rounds = [[time_of(*it) for it in each] for _ in range(runs)]
+        both = [Measured(ran, peak_of(*it)) for ran, it in zip(zip(*rounds), each)]
+        return (*both, None)[:2]
+
+
+def time_of(words, folder):
+    """CPU seconds and seconds of a clock of one run. subprocess starts it by vfork(2), so that no copy of this
+    process's memory counts as the program's."""
+    begun = time.monotonic()
+    child = subprocess.Popen(words, cwd=folder, stdout=subprocess.DEVNULL)
+    _, status, used = os.wait4(child.pid, 0)
+    clock = time.monotonic() - begun
+    child.returncode = os.waitstatus_to_exitcode(status)
+    check(child.returncode)
+    return used.ru_utime + used.ru_stime, clock
+
+
+def peak_of(words, folder):
+    """The most memory that one run held, in bytes, read at its end from the kernel: what wait4(2) tells also counts
+    the memory of this process, from which the program was started."""
     child = os.fork()
     if child == 0:
         os.chdir(folder)
@@ -75,10 +102,14 @@ def run(words, folder):
     with open(f"/proc/{child}/status") as it:
         lines = dict(line.split(":", 1) for line in it)
     ptrace(DETACH, child, 0)
-    _, status, used = os.wait4(child, 0)
+    _, status = os.waitpid(child, 0)
+    check(os.waitstatus_to_exitcode(status))
+    return int(lines["VmHWM"].split()[0]) * 1024
+
+
+def check(status):
     if status != 0:
         sys.exit(f"the program ended with {status}")
-    return used.ru_utime + used.ru_stime, int(lines["VmHWM"].split()[0]) * 1024
 
 
 def ptrace(request, child, value):

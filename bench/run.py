@@ -1,7 +1,7 @@
 #!/usr/bin/env python3
 """Measures `dmlw run`: scripts of 1, 2, 4 and 8 seats, of plain writes with a flush each 100 calls, and of FUA writes alone. Prints for each the CPU time, the ratio to the plain Rust
 program of bench/seats.rs, which has the same three locks over the same lists and disks, the calls a second of a clock, and the memory of a call; then the CPU time of
-20,000 turns of two threads that do nothing else, and of `dmlw record` for the FUA writes. CPU times are the least of five runs. Needs Python 3, and for the peer a rustc.
+20,000 turns of two threads that do nothing else, and of `dmlw record` for the FUA writes. CPU times and the clock's are the least of five runs, in turns with the peer's. Needs Python 3, and for the peer a rustc.
 
 usage: bench/run.py [PROGRAM]     (PROGRAM: the built dmlw, else it is built by ./dmlw)
        bench/run.py [PROGRAM] --many    (64 seats of 1,000 FUA writes, within 60 seconds)
@@ -13,7 +13,7 @@ import sys
 import tempfile
 import time
 
-from measure import ROOT, base, build, measure
+from measure import ROOT, base, build, measure, measure_beside
 
 CALLS = {"plain": 100_000, "fua": 20_000}
 
@@ -42,19 +42,6 @@ def peer_of(folder):
     return f"{folder}/seats"
 
 
-def clock(words, text):
-    """The least seconds of a clock of five runs, and what the last printed."""
-    least = None
-    with tempfile.TemporaryDirectory() as folder:
-        with open(f"{folder}/script", "wb") as it:
-            it.write(text)
-        for _ in range(5):
-            begun = time.monotonic()
-            told = subprocess.run(words, cwd=folder, check=True, stdout=subprocess.PIPE, text=True).stdout
-            least = min(least or 1e9, time.monotonic() - begun)
-    return least, told
-
-
 def many(program):
     text = script("fua", 64, 64_000)
     with tempfile.TemporaryDirectory() as folder:
@@ -78,13 +65,10 @@ def main():
         for kind, calls in CALLS.items():
             for seats in (1, 2, 4, 8):
                 text = script(kind, seats, calls)
-                ours = measure(program, ["run", "script", "log"], {"script": text})
-                theirs = measure(peer, ["script", "log"], {"script": text}) if peer else None
-                wall, _ = clock([program, "run", "script", "log"], text)
-                other, _ = clock([peer, "script", "log"], text) if peer else (None, None)
-                rate = f"{other / wall:.2f}" if other else ""
+                ours, theirs = measure_beside([program, "run", "script", "log"], peer and [peer, "script", "log"], {"script": text})
+                rate = f"{theirs.clock / ours.clock:.2f}" if theirs else ""
                 memory = (ours.peak - always) / calls
-                print(f"| {kind} | {seats} | {ours.seconds:.2f} | {ours.beside(theirs).strip()} | {calls / wall:,.0f} | {rate} | {memory:.0f} |", flush=True)
+                print(f"| {kind} | {seats} | {ours.seconds:.2f} | {ours.beside(theirs).strip()} | {calls / ours.clock:,.0f} | {rate} | {memory:.0f} |", flush=True)
         count = CALLS["fua"]
         lines = [f"data {count}", f"log {2 * count + 4}", *(line for place in range(count) for line in (f"w r{place} {place} 1 5a fua", f"c r{place}")), "close"]
         alone = measure(program, ["record", "script", "log"], {"script": ("\n".join(lines) + "\n").encode()})

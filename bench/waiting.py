@@ -10,7 +10,7 @@
 import sys
 import tempfile
 
-from measure import MIB, build, build_peer, measure
+from measure import MIB, build, build_peer, measure_beside
 
 DATA_SECTORS = 1048576
 LIMIT = 2.3
@@ -90,8 +90,8 @@ def main():
             before = None
             for size in (least, 2 * least):
                 files = {"script": script(lines(size))}
-                ours = measure(program, ["record", "script", "log"], files, runs)
-                theirs = peer and measure(peer, ["record-disks", "script", "log"], files, runs)
+                plain = peer and [peer, "record-disks", "script", "log"]
+                ours, theirs = measure_beside([program, "record", "script", "log"], plain, files, runs)
                 growth = ours.seconds / before if before else 0
                 if LIMIT < growth:
                     over.append(kind)

@@ -14,6 +14,10 @@ ROOT = os.path.dirname(os.path.dirname(os.path.abspath(__file__)))
 MIB = 1 << 20
 RUNS = 5
 
+# A round of runs counts if the machine's host took at most this share of the processors' time meanwhile (`steal` of
+# proc_stat(5)), or if four times as many rounds as are wanted had no more that do.
+MOST_STOLEN = 0.02
+
 # The requests of ptrace(2) that are used here, and what it tells at a process's end.
 TRACEME, CONT, DETACH, SETOPTIONS = 0, 7, 17, 0x4200
 TRACE_EXIT, EXIT_EVENT = 0x40, 6
@@ -67,9 +71,24 @@ def measure_beside(ours, theirs, files, runs=RUNS):
                 with open(f"{folder}/{name}", "wb") as it:
                     it.write(data)
         each = [it for it in zip((ours, theirs), folders) if it[0]]
-        rounds = [[time_of(*it) for it in each] for _ in range(runs)]
-        both = [Measured(ran, peak_of(*it)) for ran, it in zip(zip(*rounds), each)]
+        rounds = []
+        while len(rounds) < 4 * runs and sum(stolen <= MOST_STOLEN for stolen, _ in rounds) < runs:
+            stolen, whole = processor_time()
+            ran = [time_of(*it) for it in each]
+            now_stolen, now = processor_time()
+            rounds.append(((now_stolen - stolen) / max(1, now - whole), ran))
+        rounds.sort(key=lambda it: it[0])
+        if MOST_STOLEN < rounds[runs - 1][0]:
+            print(f"(the host took {rounds[runs - 1][0]:.0%} of the time meanwhile)", file=sys.stderr)
+        both = [Measured(ran, peak_of(*it)) for ran, it in zip(zip(*(ran for _, ran in rounds[:runs])), each)]
         return (*both, None)[:2]
+
+
+def processor_time():
+    """What the machine's host took of the processors' time since the start, and all of their time, in clock ticks."""
+    with open("/proc/stat") as it:
+        ticks = [int(word) for word in it.readline().split()[1:9]]
+    return ticks[7], sum(ticks)
 
 
 def time_of(words, folder):

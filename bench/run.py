@@ -1,9 +1,9 @@
 #!/usr/bin/env python3
 """Measures `dmlw run`: scripts of 1, 2, 4 and 8 seats, of plain writes with a flush each 100 calls, and of FUA writes alone. Prints for each the CPU time, the ratio to the plain Rust
 program of bench/seats.rs, which has the same three locks over the same lists and disks, the calls a second of a clock, and the memory of a call; then the CPU time of
-20,000 turns of two threads that do nothing else, and of `dmlw record` for the FUA writes. CPU times and the clock's are the least of five runs, in turns with the peer's. Needs Python 3, and for the peer a rustc.
+20,000 turns of two threads that do nothing else, and of `dmlw record` for the FUA writes. CPU times and the clock's are the least of N runs, in turns with the peer's. Needs Python 3, and for the peer a rustc.
 
-usage: bench/run.py [PROGRAM]     (PROGRAM: the built dmlw, else it is built by ./dmlw)
+usage: bench/run.py [PROGRAM] [--runs N]    (PROGRAM: the built dmlw, else it is built by ./dmlw; N: 5 if not given)
        bench/run.py [PROGRAM] --many    (64 seats of 1,000 FUA writes, within 60 seconds)
 """
 import os
@@ -13,7 +13,7 @@ import sys
 import tempfile
 import time
 
-from measure import ROOT, base, build, measure, measure_beside
+from measure import ROOT, RUNS, base, build, measure, measure_beside
 
 CALLS = {"plain": 100_000, "fua": 20_000}
 
@@ -53,9 +53,11 @@ def many(program):
 
 
 def main():
-    words = [it for it in sys.argv[1:] if not it.startswith("--")]
-    program = os.path.abspath(words[0]) if words else build()
-    if "--many" in sys.argv:
+    words = sys.argv[1:]
+    runs = int(words.pop(words.index("--runs") + 1)) if "--runs" in words else RUNS
+    named = [it for it in words if not it.startswith("--")]
+    program = os.path.abspath(named[0]) if named else build()
+    if "--many" in words:
         return many(program)
     always = base(program)
     with tempfile.TemporaryDirectory() as folder:
@@ -65,7 +67,7 @@ def main():
         for kind, calls in CALLS.items():
             for seats in (1, 2, 4, 8):
                 text = script(kind, seats, calls)
-                ours, theirs = measure_beside([program, "run", "script", "log"], peer and [peer, "script", "log"], {"script": text})
+                ours, theirs = measure_beside([program, "run", "script", "log"], peer and [peer, "script", "log"], {"script": text}, runs)
                 rate = f"{theirs.clock / ours.clock:.2f}" if theirs else ""
                 memory = (ours.peak - always) / calls
                 print(f"| {kind} | {seats} | {ours.seconds:.2f} | {ours.beside(theirs).strip()} | {calls / ours.clock:,.0f} | {rate} | {memory:.0f} |", flush=True)

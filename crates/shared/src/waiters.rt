@@ -1,81 +1,88 @@
 // How threads wait for each other: a thread first looks at a number for a while, and then waits at a
 // condition variable. No contract says that a thread is woken.
 
-ghost use Rattle.std.specs.Prelude.{◌<◌};
+ghost use Rattle.std.specs.Prelude.{◌<◌, ◌≡◌, IfOk, IfSome, length};
 
 use bio::Id;
 use crossbeam_utils::CachePadded;
-use std::array::from_fn;
+use lock_state::{Receipt, Run};
+use std::alloc::{AllocError, Global};
 use std::hint::spin_loop;
+use std::marker::Model;
 use std::sync::atomic::{AtomicU64, Ordering};
-use std::sync::{Condvar, MutexGuard, Wait};
+use std::sync::{Condvar, Mutex, MutexGuard, Wait};
 
 // A thread looks this often. On one processor this took 100 microseconds; a thread was woken in 17.
 const LOOKS: u64 = 16_000;
 
-// A thread looks for its entry only if at most this many threads wait for one.
-const MOST_WAITING: u64 = 2;
-
 // After a look in vain, at most this many waits don't look.
 const MOST_SKIPS: u64 = 1023;
 
-// There are this many condition variables. No recorder has more seats.
+// With at most this many seats each waiting thread looks. With more, a thread looks only if it is the
+// only one that waits.
+const FEW_SEATS: u64 = 2;
+
+// There are this many rows of receipts. No recorder has more seats.
 const ROWS: usize = 64;
 
-// A number that rises when a thread may go on. To look at it for a short time costs less CPU time than
-// to sleep and be woken; to look in vain costs more. So after a look in vain the next wait doesn't
-// look, and after each further one twice as many don't.
+// Whether a wait first looks at a number that rises when the thread may go on. To look at it for a
+// short time costs less CPU time than to sleep and be woken; to look in vain costs more. So after a
+// look in vain the next wait doesn't look, and after each further one twice as many don't.
 //
 // Nothing rests on the number. Whether a thread may go on is found under a lock, and a thread that
 // looked in vain waits at a condition variable.
 #[derive(Drop)]
-struct Hint {
-    number: AtomicU64,
+struct Looks {
     // How many of the next waits don't look.
     skips: AtomicU64,
     // How many waits didn't look after the last look, if it was in vain.
     skipped: AtomicU64,
 }
 
-impl Hint {
-    fn new() -> CachePadded<Hint> {
-        CachePadded::new(Hint {
-            number: AtomicU64::new(0),
+impl Looks {
+    fn new() -> CachePadded<Looks> {
+        CachePadded::new(Looks {
             skips: AtomicU64::new(0),
             skipped: AtomicU64::new(0),
         })
     }
 
-    fn number(&self) -> u64 {
-        self.number.load(Ordering::SeqCst)
-    }
-
     // Returns whether the number is greater than `seen`, or becomes so while the thread looks.
-    fn passes(&self, seen: u64) -> bool {
+    fn passes(&self, number: &AtomicU64, seen: u64) -> bool {
         if self.skips_look() {
-            return self.number() > seen;
+            return number.load(Ordering::SeqCst) > seen;
         }
-        self.look(seen)
+        self.look(number, seen)
     }
 
     // Returns whether a wait doesn't look, since an earlier look was in vain.
     fn skips_look(&self) -> bool {
         let skips = self.skips.load(Ordering::Relaxed);
-        self.skips.store(skips.saturating_sub(1), Ordering::Relaxed);
-        skips > 0
+        if skips == 0 {
+            return false;
+        }
+        self.skips.store(skips - 1, Ordering::Relaxed);
+        true
     }
 
     // Looks for a while whether the number is greater than `seen`. Returns whether it is.
-    fn look(&self, seen: u64) -> bool {
+    fn look(&self, number: &AtomicU64, seen: u64) -> bool {
         for _ in 0..LOOKS {
-            if self.number() > seen {
-                self.skipped.store(0, Ordering::Relaxed);
+            if number.load(Ordering::SeqCst) > seen {
+                self.skip_none();
                 return true;
             }
             spin_loop();
         }
         self.skip_more();
         false
+    }
+
+    // Notes that a look wasn't in vain. Seldom writes, so that other processors can keep the value.
+    fn skip_none(&self) {
+        if self.skipped.load(Ordering::Relaxed) > 0 {
+            self.skipped.store(0, Ordering::Relaxed);
+        }
     }
 
     // Lets twice as many waits not look as after the last look in vain, and one more.
@@ -92,31 +99,39 @@ impl Hint {
 #[derive(Drop)]
 pub(crate) struct Work {
     // How often the writer was woken.
-    wakes: CachePadded<Hint>,
+    wakes: CachePadded<AtomicU64>,
+    // How often it had been woken when it last held the queue's lock. Only the writer uses this.
+    seen: CachePadded<AtomicU64>,
+    looks: CachePadded<Looks>,
     condition: Condvar,
 }
 
 impl Work {
     pub(crate) fn new() -> Work {
         Work {
-            wakes: Hint::new(),
+            wakes: CachePadded::new(AtomicU64::new(0)),
+            seen: CachePadded::new(AtomicU64::new(0)),
+            looks: Looks::new(),
             condition: Condvar::new(),
         }
     }
 
     pub(crate) fn wake(&self) {
-        self.wakes.number.fetch_add(1, Ordering::SeqCst);
+        self.wakes.fetch_add(1, Ordering::SeqCst);
         self.condition.notify_one();
     }
 
-    // Returns how often the writer was woken.
-    pub(crate) fn wakes(&self) -> u64 {
-        self.wakes.number()
+    // Notes how often the writer was woken. The writer calls this while it holds the queue's lock.
+    pub(crate) fn see_wakes(&self) {
+        let wakes = self.wakes.load(Ordering::SeqCst);
+        self.seen.store(wakes, Ordering::Relaxed);
     }
 
-    // Looks for a while whether the writer was woken more than `wakes` times.
-    pub(crate) fn is_woken(&self, wakes: u64) -> bool {
-        self.wakes.passes(wakes)
+    // If the writer looks, returns whether it was woken since it last held the queue's lock, or is
+    // woken while it looks.
+    pub(crate) fn is_woken(&self, looks: bool) -> bool {
+        let seen = self.seen.load(Ordering::Relaxed);
+        looks && self.looks.passes(&self.wakes, seen)
     }
 
     // Releases the queue's lock, waits until the writer is woken, and takes the lock again.
@@ -129,75 +144,166 @@ impl Work {
     }
 }
 
-// A row of condition variables for the log's lock. A thread that waits for the entry of an id waits
-// at the variable with the index id modulo 64. So a settle wakes another seat only if their ids
-// have the same variable.
-//
-// No wake-up is lost. What a thread waits for changes only under the log's lock. The waiting thread
-// holds this lock from its look until it waits. A thread that makes the change wakes the waiting
-// thread afterwards. Threads wait only for marks and for writes with FUA, each of which is settled
-// when it is placed. So a settle concerns only the id in hand, and an end concerns all threads.
+// What the writer last posted in a row.
 #[derive(Drop)]
-pub(crate) struct Waiters {
-    // How many items are settled, as far as waiting threads were woken.
-    settled: CachePadded<Hint>,
-    // How many threads wait.
-    waiting: AtomicU64,
-    row: [Condvar; ROWS],
+struct Post<R: Run> {
+    // The receipt, until its thread takes it.
+    receipt: Option<Receipt<R>>,
+    // How many items were settled then.
+    settled: u64,
+    // Logging ended.
+    ended: bool,
 }
 
-impl Waiters {
-    pub(crate) fn new() -> Waiters {
-        Waiters {
-            settled: Hint::new(),
-            waiting: AtomicU64::new(0),
-            row: from_fn(|_: usize| Condvar::new()),
+// Where threads wait whose ids have the same remainder by 64. A receipt replaces the last one, so a
+// thread that doesn't find its own there looks into the log.
+#[derive(Drop)]
+struct Row<R: Run> {
+    // How many items were settled at the last post, for threads that look.
+    settled: CachePadded<AtomicU64>,
+    post: Mutex<Post<R>>,
+    condition: Condvar,
+}
+
+impl<R: Run> Row<R> {
+    fn new() -> Row<R> {
+        Row {
+            settled: CachePadded::new(AtomicU64::new(0)),
+            post: Mutex::new(Post {
+                receipt: None,
+                settled: 0,
+                ended: false,
+            }),
+            condition: Condvar::new(),
         }
+    }
+}
+
+// How a thread waits for its receipt. Threads wait only for marks and for writes with FUA, each of
+// which is settled when it is placed. So a settle concerns only the id in hand, and an end concerns
+// all threads.
+//
+// No wake-up is lost. What a thread waits for changes only under its row's lock. The waiting thread
+// holds this lock from its look until it waits. A thread that makes the change wakes the waiting
+// threads of the row afterwards.
+#[derive(Drop)]
+pub(crate) struct Waiters<R: Run> {
+    rows: Vec<Row<R>>,
+    looks: CachePadded<Looks>,
+    // How many threads wait; 0 with few seats, since a count that all change costs time.
+    waiting: CachePadded<AtomicU64>,
+    few_seats: bool,
+}
+
+impl<R: Run> Model for Waiters<R> {
+    ghost use Rattle.std.specs.Prelude.{◌≡◌, length};
+
+    ghost Value = { Unit {0} };
+
+    ghost view = { λ _. tt };
+
+    ghost invariant = { λ waiters. length waiters.rows.items ≡ 64 };
+}
+
+impl<R: Run> Waiters<R> {
+    // Returns rows without receipts, for this many seats.
+    pub(crate) fn new(alloc: Global, seats: u64) -> Result<Waiters<R>, AllocError> {
+        Ok(Waiters {
+            rows: empty_rows(alloc)?,
+            looks: Looks::new(),
+            waiting: CachePadded::new(AtomicU64::new(0)),
+            few_seats: seats <= FEW_SEATS,
+        })
+    }
+
+    // Returns whether there are at most two seats.
+    pub(crate) fn has_few_seats(&self) -> bool {
+        self.few_seats
     }
 
     // Counts this thread as one that waits, until it leaves.
     pub(crate) fn enter(&self) {
-        self.waiting.fetch_add(1, Ordering::SeqCst);
+        if !self.few_seats {
+            self.waiting.fetch_add(1, Ordering::SeqCst);
+        }
     }
 
     pub(crate) fn leave(&self) {
-        self.waiting.fetch_sub(1, Ordering::SeqCst);
-    }
-
-    // Returns whether more than `from` items are settled. If few threads wait, looks for a while.
-    pub(crate) fn is_settled_past(&self, from: u64) -> bool {
-        if self.waiting.load(Ordering::SeqCst) > MOST_WAITING {
-            return self.settled.number() > from;
+        if !self.few_seats {
+            self.waiting.fetch_sub(1, Ordering::SeqCst);
         }
-        self.settled.passes(from)
     }
 
-    // Releases the log's lock, waits for the entry of this id or for the end of logging, and takes
-    // the lock again.
-    pub(crate) fn wait<'a, H: Wait, T>(
-        &self,
-        rt: &H,
-        id: Id,
-        desk: MutexGuard<'a, T>,
-    ) -> MutexGuard<'a, T> {
-        self.row[row_of(id)].wait(rt, desk)
+    // Waits until a receipt is posted in the row of this id after more than `from` items are settled,
+    // or until logging has ended. Returns the receipt of this id. Returns None if the row has another
+    // one or none; then the entry may be in the log.
+    pub(crate) fn wait<H: Wait>(&self, rt: &H, id: Id, from: u64) -> Option<Receipt<R>>
+        ensures { IfSome result (λ receipt. receipt.id ≡ id) }
+    {
+        let row = &self.rows[row_of(id)];
+        if self.waiting.load(Ordering::SeqCst) <= 1 {
+            self.looks.passes(&row.settled, from);
+        }
+        let mut post = row.post.lock(rt);
+        for _ in rt.forever() {
+            if let Some(receipt) = post.take(id) {
+                return Some(receipt);
+            }
+            if post.ended || post.settled > from {
+                return None;
+            }
+            post = row.condition.wait(rt, post);
+        }
+        unreachable!()
     }
 
-    // Wakes the threads that wait for the entry of this id, since `settled` items are settled.
-    pub(crate) fn wake(&self, id: Id, settled: u64) {
-        self.settled.number.store(settled, Ordering::SeqCst);
-        self.row[row_of(id)].notify_all();
+    // Posts a receipt, since `settled` items are settled, and wakes the threads of its row.
+    pub(crate) fn post<H: Wait>(&self, rt: &H, receipt: Receipt<R>, settled: u64) {
+        let row = &self.rows[row_of(receipt.id())];
+        let mut post = row.post.lock(rt);
+        post.receipt = Some(receipt);
+        post.settled = settled;
+        drop(post);
+        row.condition.notify_all();
+        row.settled.store(settled, Ordering::Release);
     }
 
-    // Wakes all waiting threads.
-    pub(crate) fn wake_all(&self) {
-        for place in 0..ROWS {
-            self.row[place].notify_all();
+    // Wakes all waiting threads, since logging ended.
+    pub(crate) fn end<H: Wait>(&self, rt: &H) {
+        for row in &self.rows {
+            let mut post = row.post.lock(rt);
+            post.ended = true;
+            drop(post);
+            row.condition.notify_all();
+            row.settled.store(u64::MAX, Ordering::Release);
         }
     }
 }
 
-// Returns the index of an id's condition variable.
+impl<R: Run> Post<R> {
+    // Takes the receipt if it is that of this id.
+    fn take(&mut self, id: Id) -> Option<Receipt<R>>
+        ensures { IfSome result (λ receipt. receipt.id ≡ id) }
+    {
+        if self.receipt.as_ref()?.id() != id {
+            return None;
+        }
+        self.receipt.take()
+    }
+}
+
+// Returns rows without receipts.
+fn empty_rows<R: Run>(alloc: Global) -> Result<Vec<Row<R>>, AllocError>
+    ensures { IfOk result (λ rows. length rows.items ≡ 64) }
+{
+    let mut rows = Vec::new(alloc);
+    for _ in 0..ROWS {
+        rows.push(Row::new())?;
+    }
+    Ok(rows)
+}
+
+// Returns the index of an id's row.
 fn row_of(id: Id) -> usize
     ensures { result < 64 }
 {

@@ -3,9 +3,9 @@
 //! Three locks guard three values of `lock_state`. One has the queue with the history, one the log
 //! with the writer's seat at the board, and one the recorded device. Further locks guard the
 //! receipts that the writer hands over. No thread takes a lock while it holds another lock. So no
-//! thread holds the queue's lock while it calls a device. The contract
-//! of a call says what the call adds to its seat's list, for each answer. No contract says when a
-//! lock is taken, or that a thread runs or is woken.
+//! thread holds the queue's lock while it calls a device. The contract of a call says what the call
+//! adds to its seat's list, for each answer. No contract says when a lock is taken, or that a thread
+//! runs or is woken.
 #![tactic(auto)]
 
 pub use answer::{Answer, MarkAnswer, MarkRefusal};

@@ -195,6 +195,8 @@ pub(crate) struct Waiters<R: Run> {
     few_seats: bool,
 }
 
+// Only the number of rows is promised. With the rows in the model each proof about `Shared` took
+// too long.
 impl<R: Run> Model for Waiters<R> {
     ghost use Rattle.std.specs.Prelude.{◌≡◌, length};
 

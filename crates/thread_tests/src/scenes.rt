@@ -1,5 +1,5 @@
 //! Tests of four situations. A device holds a seat's call, and another seat's call is answered
-//! meanwhile. A log has hardly any room. A log's device fails. The recorded device fails.
+//! meanwhile. A log has hardly any room, or none. A log's device fails. The recorded device fails.
 ghost use Rattle.std.specs.Prelude.{◌<◌, ◌≤◌};
 
 use crate::gate::{Gate, Sign};
@@ -437,6 +437,61 @@ fn one_seat_finds_room_for_a_write_alone(rt: HostRuntime) -> Result<(), Fail> {
         end: Some(End::Full),
     };
     assert!(rt; small_log(&rt, rt.alloc(), 4, write, tally(0, 1, 0), status)?);
+    Ok(())
+}
+
+// Returns calls of a seat whose last one is a mark with this id. The calls before it are plain
+// writes and, if the id is odd, a mark that is logged. A write takes two ids.
+fn calls_up_to(alloc: Global, id: u64) -> Result<Vec<Call>, AllocError> {
+    let mut calls = Vec::new(alloc);
+    if id % 2 == 1 {
+        calls.push(Call::Mark { byte: 1 })?;
+    }
+    for _ in 0..id / 2 {
+        calls.push(Call::Write {
+            first: 1,
+            byte: 1,
+            fua: false,
+        })?;
+    }
+    calls.push(Call::Mark { byte: 2 })?;
+    Ok(calls)
+}
+
+// A seat waits for a mark with this id. The log has no room for the mark, so it ends, and the seat
+// is released.
+fn is_released<H: Threads + Wait + Clock + Print + Sync + Send + Copy + Drop>(
+    rt: &H,
+    alloc: Global,
+    id: u64,
+) -> Result<bool, AllocError> {
+    let logged = id % 2;
+    let mut tables = Vec::new(alloc);
+    tables.push(Table {
+        calls: calls_up_to(alloc, id)?,
+        late: Vec::new(alloc),
+        after: None,
+    })?;
+    let device = open_disk(rt, alloc, FEW)?;
+    let log = open_disk(rt, alloc, 2 + logged)?;
+    let Some(played) = stage(rt, alloc, tables, device, log, 0)? else {
+        return Ok(holds(rt, false, "one seat plays"));
+    };
+    let [found] = played.tallies.as_slice() else {
+        return Ok(holds(rt, false, "one tally"));
+    };
+    let wanted = Tally {
+        not_logged: 1,
+        ..tally(id / 2, logged, 0)
+    };
+    Ok(is_same(rt, found, &wanted, "the answers of a released seat"))
+}
+
+#[test]
+fn a_mark_with_any_id_is_released(rt: HostRuntime) -> Result<(), Fail> {
+    for id in 0..64 {
+        assert!(rt; is_released(&rt, rt.alloc(), id)?);
+    }
     Ok(())
 }
 

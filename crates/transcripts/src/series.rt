@@ -8,7 +8,6 @@ mod asking;
 mod damage;
 mod devices;
 mod faults;
-mod images;
 mod layers;
 mod limits;
 mod most_seats;
@@ -31,7 +30,6 @@ pub(crate) fn run<H: Threads + Wait + Sync>(
     match name {
         "layers" => devices::run(rt, alloc, report),
         "logs" => damage::run(rt, alloc, report),
-        "images" => images::run(rt, alloc, report),
         "targets" => targets::run(rt, alloc, report),
         "seats" => seats::run(rt, alloc, report),
         "limits" => limits::run(rt, alloc, report),

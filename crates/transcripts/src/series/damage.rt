@@ -2,7 +2,7 @@
 use crate::series::asking::{Wanted, ask, folder_of};
 use crate::series::faults::{Faults, LOG_FAULTS, REPLAY_FAULTS};
 use crate::series::report::{Report, check};
-use crate::series::{images, targets};
+use crate::series::targets;
 use std::alloc::{AllocError, Global};
 use std::sync::Wait;
 use std::thread::Threads;
@@ -64,15 +64,13 @@ struct Seen {
     flushed: Faults,
 }
 
-/// Runs four series. The first has images with chosen fields, the second the log of `FLUSHED`, cut
-/// to each length. The third has the log of `SETTLED` with each of its first bytes changed, the
-/// fourth replays onto devices that fail or lie.
+/// Runs three series. The first has the log of `FLUSHED`, cut to each length, the second the log of
+/// `SETTLED` with each of its first bytes changed. The third replays onto devices that fail or lie.
 pub fn run<H: Threads + Wait + Sync>(
     rt: &H,
     alloc: Global,
     report: &mut Report,
 ) -> Result<(), AllocError> {
-    images::run(rt, alloc, report)?;
     run_cuts(rt, alloc, report)?;
     run_damages(rt, alloc, report)?;
     targets::run(rt, alloc, report)

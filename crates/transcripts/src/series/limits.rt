@@ -7,54 +7,11 @@ use std::sync::Wait;
 use std::thread::Threads;
 use test_devices::Folder;
 
-// A script has at most this many seats.
-const SEATS: u64 = 64;
-
-// What a seat prints for a write, a write with FUA and a mark.
-const TOLD: &str = "1 done 2 logged 0 failed 0 not logged 0 refused";
-
-// A script has at most this many bytes.
-const SCRIPT_BYTES: usize = 4_194_304;
-
-// A log with sectors of 512 bytes keeps this many bytes of a mark's text.
-const MARK_BYTES: usize = 479;
-
-// The image of the largest disk has this many bytes.
-const IMAGE_BYTES: usize = 536_870_912;
-
 // This many requests are open at once, more than 65,536.
 const REQUESTS: u64 = 70_000;
 
 // A log that is read has this many entries.
 const ENTRIES: u64 = 400_000;
-
-// This script's numbers have 20 digits.
-const LONG_NUMBERS: &str = "data 00000000000000000016
-log 00000000000000000032
-at 18446744073709551615
-w a 00000000000000000008 00000000000000000008 41
-c a
-close
-";
-
-// The data disk of this script has the largest size.
-const LARGE_DATA: &str = "data 1048576
-log 4096
-w a 1046528 2048 41
-c a
-r 1048575 1
-f b
-c b
-close
-";
-
-// The log's disk of this script has the largest size.
-const LARGE_LOG: &str = "data 2048
-log 1048576
-w a 0 2048 41
-c a
-close
-";
 
 /// Reaches each limit, and reports how many limits there are.
 pub fn run<H: Threads + Wait + Sync>(
@@ -63,17 +20,46 @@ pub fn run<H: Threads + Wait + Sync>(
     report: &mut Report,
 ) -> Result<(), AllocError> {
     let before = report.differ();
-    check_numbers(rt, alloc, report)?;
-    check_mark(rt, alloc, report)?;
-    check_data(rt, alloc, report)?;
-    check_log(rt, alloc, report)?;
     check_requests(rt, alloc, report)?;
     check_entries(rt, alloc, report)?;
-    check_seats(rt, alloc, report)?;
     check_recorder(alloc, report)?;
     let differ = report.differ().saturating_sub(before);
-    let line = format!(in alloc; "limits: 8 runs, {differ} differ")?;
+    let line = format!(in alloc; "limits: 3 runs, {differ} differ")?;
     report.line(line.as_str())
+}
+
+// The texts of a case: its script, what the script prints or the log lists, a replay and what it
+// prints, and another command line or output.
+#[derive(Drop)]
+struct Texts {
+    script: String,
+    told: String,
+    replay: String,
+    replayed: String,
+    other: String,
+}
+
+impl Texts {
+    // Returns empty texts.
+    fn new(alloc: Global) -> Texts {
+        Texts {
+            script: String::new(alloc),
+            told: String::new(alloc),
+            replay: String::new(alloc),
+            replayed: String::new(alloc),
+            other: String::new(alloc),
+        }
+    }
+}
+
+// Puts an image of `bytes` zeroes in a folder.
+fn put_zeroes(
+    alloc: Global,
+    name: &str,
+    bytes: usize,
+    folder: &mut Folder,
+) -> Result<(), AllocError> {
+    folder.put(alloc, name, vec![in alloc; 0; bytes]?)
 }
 
 // Runs each `(command line, output)` of `lines` on a folder. Each must print exactly its output,
@@ -93,135 +79,67 @@ fn check_lines<H: Threads + Wait + Sync>(
     check(rt, alloc, case, &wanted, folder, report)
 }
 
-// Checks that a script and a command line may have numbers of 20 digits.
-fn check_numbers<H: Threads + Wait + Sync>(
-    rt: &H,
-    alloc: Global,
-    report: &mut Report,
-) -> Result<(), AllocError> {
-    let mut folder = folder_of(alloc, LONG_NUMBERS)?;
-    folder.put(alloc, "zeroes", vec![in alloc; 0; 8192]?)?;
-    let lines = [
-        ("record script log", "a ok\n2 10\n"),
-        (
-            "replay log zeroes out entries:00000000000000000001",
-            "replayed 1\n",
-        ),
-        ("judge script 00000000000000000003 out", "yes\n"),
-        ("copy log other 00000000000000000040", "copied 2\n"),
-    ];
-    check_lines(
-        rt,
-        alloc,
-        "numbers of 20 digits",
-        &lines,
-        &mut folder,
-        report,
-    )
-}
-
-// Checks a script of 4 MiB. Nearly all of its bytes are the text of one mark.
-fn check_mark<H: Threads + Wait + Sync>(
-    rt: &H,
-    alloc: Global,
-    report: &mut Report,
-) -> Result<(), AllocError> {
-    let mut script = String::from_str(alloc, "data 16\nlog 32\nmark ")?;
-    for _byte in script.len()..SCRIPT_BYTES.saturating_sub(7) {
-        script.push('x')?;
-    }
-    script.push_str("\nclose\n")?;
-    let mut folder = folder_of(alloc, script.as_str())?;
-    let mut listed = String::from_str(
-        alloc,
-        "super version 1 entries 2 sectorsize 512\n0 @1 mark ",
-    )?;
-    for _byte in 0..MARK_BYTES {
-        listed.push('x')?;
-    }
-    listed.push_str("\n1 @2 mark dm-log-writes-end\n")?;
-    let lines = [
-        ("record script log", "2 2\n"),
-        ("list log", listed.as_str()),
-    ];
-    check_lines(rt, alloc, "a mark of 4 MiB", &lines, &mut folder, report)
-}
-
-// Checks a data disk of the largest size, with a request of the largest size at its end.
-fn check_data<H: Threads + Wait + Sync>(
-    rt: &H,
-    alloc: Global,
-    report: &mut Report,
-) -> Result<(), AllocError> {
-    let mut folder = folder_of(alloc, LARGE_DATA)?;
-    folder.put(alloc, "disk", vec![in alloc; 0; IMAGE_BYTES]?)?;
-    let recorded = "a ok\nread 1048575+1 ok 41\nb ok\n3 2051\n";
-    let lines = [
-        ("record script log", recorded),
-        ("replay log disk disk flush", "replayed 2\n"),
-        ("judge script 5 disk", "yes\n"),
-    ];
-    check_lines(
-        rt,
-        alloc,
-        "a data disk of 2^20 sectors",
-        &lines,
-        &mut folder,
-        report,
-    )
-}
-
-// Checks a log's disk of the largest size.
-fn check_log<H: Threads + Wait + Sync>(
-    rt: &H,
-    alloc: Global,
-    report: &mut Report,
-) -> Result<(), AllocError> {
-    let mut folder = folder_of(alloc, LARGE_LOG)?;
-    let lines = [
-        ("record script log", "a ok\n2 2050\n"),
-        ("status log", "2 2050\n"),
-    ];
-    check_lines(
-        rt,
-        alloc,
-        "a log of 2^20 sectors",
-        &lines,
-        &mut folder,
-        report,
-    )
-}
-
 // Checks 70,000 writes that are all submitted before the first of them completes.
 fn check_requests<H: Threads + Wait + Sync>(
     rt: &H,
     alloc: Global,
     report: &mut Report,
 ) -> Result<(), AllocError> {
-    let sectors = REQUESTS.saturating_mul(2).saturating_add(1);
-    let mut script = String::from_str(alloc, "data 16\n")?;
-    let mut recorded = String::new(alloc);
-    writeln!(script, "log {}", sectors.saturating_add(2))?;
+    let mut texts = Texts::new(alloc);
+    push_requests(&mut texts)?;
+    check_events(rt, alloc, &texts, report)
+}
+
+fn check_events<H: Threads + Wait + Sync>(
+    rt: &H,
+    alloc: Global,
+    texts: &Texts,
+    report: &mut Report,
+) -> Result<(), AllocError> {
+    let mut folder = folder_of(alloc, texts.script.as_str())?;
+    put_zeroes(alloc, "zeroes", 8192, &mut folder)?;
+    let lines = [
+        ("record script log", texts.told.as_str()),
+        (texts.replay.as_str(), texts.replayed.as_str()),
+        (texts.other.as_str(), "yes\n"),
+    ];
+    check_lines(rt, alloc, "140,000 events", &lines, &mut folder, report)
+}
+
+// Appends the texts of 70,000 writes.
+fn push_requests(texts: &mut Texts) -> Result<(), AllocError> {
+    push_script(&mut texts.script)?;
+    push_recorded(&mut texts.told)?;
+    write!(texts.replay, "replay log zeroes out entries:{REQUESTS}")?;
+    writeln!(texts.replayed, "replayed {REQUESTS}")?;
+    write!(
+        texts.other,
+        "judge script {} out",
+        REQUESTS.saturating_mul(2)
+    )
+}
+
+// Appends a script with 70,000 writes.
+fn push_script(script: &mut String) -> Result<(), AllocError> {
+    let sectors = REQUESTS.saturating_mul(2).saturating_add(3);
+    writeln!(script, "data 16\nlog {sectors}")?;
     for number in 0..REQUESTS {
         writeln!(script, "w a{number} 5 1 41")?;
     }
     for number in 0..REQUESTS {
         writeln!(script, "c a{number}")?;
-        writeln!(recorded, "a{number} ok")?;
     }
     script.push_str("close\n")?;
-    writeln!(recorded, "{} {sectors}", REQUESTS.saturating_add(1))?;
-    let mut folder = folder_of(alloc, script.as_str())?;
-    folder.put(alloc, "zeroes", vec![in alloc; 0; 8192]?)?;
-    let replay = format!(in alloc; "replay log zeroes out entries:{REQUESTS}")?;
-    let replayed = format!(in alloc; "replayed {REQUESTS}\n")?;
-    let judge = format!(in alloc; "judge script {} out", REQUESTS.saturating_mul(2))?;
-    let lines = [
-        ("record script log", recorded.as_str()),
-        (replay.as_str(), replayed.as_str()),
-        (judge.as_str(), "yes\n"),
-    ];
-    check_lines(rt, alloc, "140,000 events", &lines, &mut folder, report)
+    Ok(())
+}
+
+// Appends what `record` prints for this script.
+fn push_recorded(told: &mut String) -> Result<(), AllocError> {
+    for number in 0..REQUESTS {
+        writeln!(told, "a{number} ok")?;
+    }
+    let sectors = REQUESTS.saturating_mul(2).saturating_add(1);
+    writeln!(told, "{} {sectors}", REQUESTS.saturating_add(1))
 }
 
 // Lists a log of 400,000 flushes, asks for its status, and replays it.
@@ -230,21 +148,23 @@ fn check_entries<H: Threads + Wait + Sync>(
     alloc: Global,
     report: &mut Report,
 ) -> Result<(), AllocError> {
+    let mut texts = Texts::new(alloc);
+    push_entries(&mut texts)?;
+    check_flushes(rt, alloc, &texts, report)
+}
+
+fn check_flushes<H: Threads + Wait + Sync>(
+    rt: &H,
+    alloc: Global,
+    texts: &Texts,
+    report: &mut Report,
+) -> Result<(), AllocError> {
     let mut folder = Folder::new(alloc);
-    folder.put(alloc, "log", flushes(alloc)?)?;
-    folder.put(alloc, "zeroes", vec![in alloc; 0; 512]?)?;
-    let mut listed = String::new(alloc);
-    writeln!(listed, "super version 1 entries {ENTRIES} sectorsize 512")?;
-    for number in 0..ENTRIES {
-        writeln!(listed, "{number} @{} flush", number.saturating_add(1))?;
-    }
-    let status = format!(in alloc; "{ENTRIES} {ENTRIES}\n")?;
-    let replay = format!(in alloc; "replay log zeroes out entries:{ENTRIES}")?;
-    let replayed = format!(in alloc; "replayed {ENTRIES}\n")?;
+    put_flushes(alloc, &mut folder)?;
     let lines = [
-        ("list log", listed.as_str()),
-        ("status log", status.as_str()),
-        (replay.as_str(), replayed.as_str()),
+        ("list log", texts.told.as_str()),
+        ("status log", texts.other.as_str()),
+        (texts.replay.as_str(), texts.replayed.as_str()),
     ];
     check_lines(
         rt,
@@ -256,46 +176,58 @@ fn check_entries<H: Threads + Wait + Sync>(
     )
 }
 
+// Puts the log in a folder, and the image that it is replayed onto.
+fn put_flushes(alloc: Global, folder: &mut Folder) -> Result<(), AllocError> {
+    folder.put(alloc, "log", flushes(alloc)?)?;
+    put_zeroes(alloc, "zeroes", 512, folder)
+}
+
+// Appends the texts of a log of 400,000 flushes.
+fn push_entries(texts: &mut Texts) -> Result<(), AllocError> {
+    push_listed(&mut texts.told)?;
+    writeln!(texts.other, "{ENTRIES} {ENTRIES}")?;
+    write!(texts.replay, "replay log zeroes out entries:{ENTRIES}")?;
+    writeln!(texts.replayed, "replayed {ENTRIES}")
+}
+
+// Appends how `list` prints the log.
+fn push_listed(listed: &mut String) -> Result<(), AllocError> {
+    writeln!(listed, "super version 1 entries {ENTRIES} sectorsize 512")?;
+    for number in 0..ENTRIES {
+        writeln!(listed, "{number} @{} flush", number.saturating_add(1))?;
+    }
+    Ok(())
+}
+
 // Returns the image of a log of 400,000 flushes.
 fn flushes(alloc: Global) -> Result<Vec<u8>, AllocError> {
     let mut image = Vec::from_slice(alloc, b"rhswfsj\0")?;
+    push_flushes(&mut image)?;
+    Ok(image)
+}
+
+// Appends the rest of the super block, and the flushes.
+fn push_flushes(image: &mut Vec<u8>) -> Result<(), AllocError> {
     for field in [1, ENTRIES, 512] {
         image.extend_from_slice(&field.to_le_bytes())?;
     }
     for _entry in 0..ENTRIES {
-        push_sector(&mut image)?;
-        // The entry's sector and its number of sectors, then the flag of a flush. The length of its
-        // data is 0.
-        image.extend_from_slice([0; 16].as_slice())?;
-        image.extend_from_slice(&1_u64.to_le_bytes())?;
+        push_flush(image)?;
     }
-    push_sector(&mut image)?;
-    Ok(image)
+    push_sector(image)
+}
+
+// Appends a flush.
+fn push_flush(image: &mut Vec<u8>) -> Result<(), AllocError> {
+    push_sector(image)?;
+    // The entry's sector and its number of sectors, then the flag of a flush. The length of its
+    // data is 0.
+    image.extend_from_slice([0; 16].as_slice())?;
+    image.extend_from_slice(&1_u64.to_le_bytes())
 }
 
 // Appends zeroes up to the end of a log sector.
 fn push_sector(image: &mut Vec<u8>) -> Result<(), AllocError> {
     let sectors = image.len().div_ceil(512);
     image.resize(sectors.saturating_mul(512), 0)
-}
-
-// Checks a script with 64 seats. Each seat writes, writes with FUA and marks.
-fn check_seats<H: Threads + Wait + Sync>(
-    rt: &H,
-    alloc: Global,
-    report: &mut Report,
-) -> Result<(), AllocError> {
-    let mut script = String::from_str(alloc, "data 128\nlog 323\nseats 64\n")?;
-    let mut told = String::new(alloc);
-    for seat in 0..SEATS {
-        let own = seat.saturating_mul(2);
-        writeln!(script, "s{seat} w {own} 1 11")?;
-        writeln!(script, "s{seat} w {} 1 12 fua", own.saturating_add(1))?;
-        writeln!(script, "s{seat} mark seat {seat}")?;
-        writeln!(told, "seat {seat}: {TOLD}")?;
-    }
-    told.push_str("193 321\n")?;
-    let mut folder = folder_of(alloc, script.as_str())?;
-    let lines = [("run script log", told.as_str())];
-    check_lines(rt, alloc, "64 seats", &lines, &mut folder, report)
 }

@@ -54,34 +54,40 @@ fn run_fuse<H: Threads + Wait + Sync>(
     report: &mut Report,
 ) -> Result<(), AllocError> {
     let script = script_of(alloc, calls)?;
-    let case = format!(in alloc; "four seats, fuse of {calls} calls")?;
     let mut folder = folder_of(alloc, script.as_str())?;
     let told = ask(rt, alloc, "run script log", &mut folder)?;
+    let has_log = folder.bytes("log").is_some();
+    let listed = ask(rt, alloc, "list log", &mut folder)?;
+    check_fuse(alloc, calls, has_log, &told, &listed, report)
+}
+
+// Checks what `run` and `list` printed with a fuse of `calls` calls.
+fn check_fuse(
+    alloc: Global,
+    calls: u64,
+    has_log: bool,
+    told: &Told,
+    listed: &Told,
+    report: &mut Report,
+) -> Result<(), AllocError> {
+    let case = format!(in alloc; "four seats, fuse of {calls} calls")?;
     if calls == 0 {
-        if !told.is(3, "", "dmlw: 19 Device\n") || folder.bytes("log").is_some() {
-            report.differs(case.as_str(), &told, "[3] dmlw: 19 Device")?;
+        if !told.is(3, "", "dmlw: 19 Device\n") || has_log {
+            report.differs(case.as_str(), told, "[3] dmlw: 19 Device")?;
         }
         return Ok(());
     }
-    let listed = ask(rt, alloc, "list log", &mut folder)?;
-    if !is_told(alloc, &told, calls)? {
+    if !is_told(alloc, told, calls)? {
         report.differs(
             case.as_str(),
-            &told,
+            told,
             "400 done, and each mark told as it went",
         )?;
     }
-    if !lists_marks(alloc, &told, &listed)? {
-        report.differs(
-            case.as_str(),
-            &told,
-            "a mark that is listed for each that was logged",
-        )?;
-        report.differs(
-            case.as_str(),
-            &listed,
-            "a mark that is listed for each that was logged",
-        )?;
+    if !lists_marks(alloc, told, listed)? {
+        let wanted = "a mark that is listed for each that was logged";
+        report.differs(case.as_str(), told, wanted)?;
+        report.differs(case.as_str(), listed, wanted)?;
     }
     Ok(())
 }

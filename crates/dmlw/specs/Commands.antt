@@ -132,7 +132,7 @@ EndsReplayingUpTo what log first out explains old new ended =
 abbrev pub allowed_forms : BadWord → List ℕ
 allowed_forms bad_words.What =
     codes
-    "'<WHAT>'\n  [possible values: entries:<n>, mark:<text>, flush]\n\nFor more information, try 'dmlw help replay'."
+    "'<WHAT>'\n  [possible values: entries:<n> with n below 2^64, mark:<text>, flush]\n\nFor more information, try 'dmlw help replay'."
 allowed_forms bad_words.Sectors =
     codes
     "'<SECTORS>'\n  [possible values: a number from 8 to 1048576]\n\nFor more information, try 'dmlw help copy'."

@@ -87,7 +87,7 @@ impl BadWord {
     {
         match self {
             BadWord::What => {
-                "'<WHAT>'\n  [possible values: entries:<n>, mark:<text>, flush]\n\nFor more information, try 'dmlw help replay'."
+                "'<WHAT>'\n  [possible values: entries:<n> with n below 2^64, mark:<text>, flush]\n\nFor more information, try 'dmlw help replay'."
             }
             BadWord::Sectors => {
                 "'<SECTORS>'\n  [possible values: a number from 8 to 1048576]\n\nFor more information, try 'dmlw help copy'."

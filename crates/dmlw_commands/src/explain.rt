@@ -10,6 +10,7 @@ mod layers;
 mod line;
 mod logs;
 mod messages;
+mod packed;
 mod places;
 mod refused_line;
 mod script_text;

@@ -19,6 +19,9 @@ use std::{fs, io};
 // A new file in a file's folder tries at most this many names.
 const MAX_BESIDE: u32 = 1000;
 
+// A file system takes names of 255 bytes, and `.dmlw-tmp-999` is 13 of them.
+const MAX_FRONT_BYTES: usize = 255 - 13;
+
 // A file is read in pieces of this many bytes, which is the size of an `Image`'s piece.
 const READ_BYTES: usize = 65_536;
 
@@ -28,7 +31,8 @@ const MAX_FILE_BYTES: u64 = 9_223_372_036_854_775_807;
 /// The files of the operating system. Nothing is proved about their contents.
 ///
 /// A regular file is replaced as a whole or not at all. The bytes are written to a new file
-/// `NAME.dmlw-tmp-<n>` in the same folder, which is then renamed. A link isn't changed; the file
+/// `NAME.dmlw-tmp-<n>` in the same folder, or `.dmlw-tmp-<n>` if NAME is too long, which is then
+/// renamed. A link isn't changed; the file
 /// that it leads to is replaced. A pipe, a device, or a stream of the process such as
 /// `/dev/stdout`, is written directly: the bytes are appended.
 ///
@@ -279,8 +283,8 @@ fn push_piece(alloc: Global, piece: &[u8], image: &mut Image) -> Result<(), Allo
     image.push_slice(alloc, piece)
 }
 
-// Reads until `buffer` is full or the reader has no more bytes. Returns how many bytes were read.
-fn fill<R: Read>(reader: &mut R, buffer: &mut [u8]) -> io::Result<usize>
+/// Reads until `buffer` is full or the reader has no more bytes. Returns how many bytes were read.
+pub fn fill<R: Read>(reader: &mut R, buffer: &mut [u8]) -> io::Result<usize>
     ensures few { IfOk result (λ count. count ≤ length buffer.old) }
     ensures moved { IfOk result
         (λ count. Consumes (R.remaining reader.old) (R.remaining reader.new)
@@ -395,8 +399,9 @@ fn create_beside<R: std::rt::Files>(
     alloc: Global,
     target: &str,
 ) -> io::Result<(String, R::File)> {
+    let front = front_of(target);
     for number in 0..MAX_BESIDE {
-        let beside = format!(in alloc; "{target}.dmlw-tmp-{number}")?;
+        let beside = format!(in alloc; "{front}.dmlw-tmp-{number}")?;
         match File::create_new(runtime, beside.as_str()) {
             Ok(file) => return Ok((beside, file)),
             Err(error) => {
@@ -407,6 +412,20 @@ fn create_beside<R: std::rt::Files>(
         }
     }
     Err(io::Error::from(io::ErrorKind::AlreadyExists))
+}
+
+// Returns how the name of a new file in the folder of `target` begins: as `target`, or only with
+// its folder if a longer name would be longer than a file system takes.
+fn front_of(target: &str) -> &str {
+    let (folder, name) = match target.rfind('/') {
+        Some(place) => target.split_at(place + 1),
+        None => ("", target),
+    };
+    if name.len() > MAX_FRONT_BYTES {
+        folder
+    } else {
+        target
+    }
 }
 
 // Writes the image of a disk to a new file, and syncs the file. Pieces of zeroes take no room in

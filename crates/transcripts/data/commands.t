@@ -123,49 +123,49 @@ A word that is none of those that stand in its place.
 
   $ dmlw replay script zeroes other what
   ! error: invalid value 'what' for '<WHAT>'
-  !   [possible values: entries:<n>, mark:<text>, flush]
+  !   [possible values: entries:<n> with n below 2^64, mark:<text>, flush]
   ! 
   ! For more information, try 'dmlw help replay'.
   [2]
   $ dmlw replay script zeroes other entries:18446744073709551616
   ! error: invalid value 'entries:18446744073709551616' for '<WHAT>'
-  !   [possible values: entries:<n>, mark:<text>, flush]
+  !   [possible values: entries:<n> with n below 2^64, mark:<text>, flush]
   ! 
   ! For more information, try 'dmlw help replay'.
   [2]
   $ dmlw replay script zeroes other entries:000000000000000000001
   ! error: invalid value 'entries:000000000000000000001' for '<WHAT>'
-  !   [possible values: entries:<n>, mark:<text>, flush]
+  !   [possible values: entries:<n> with n below 2^64, mark:<text>, flush]
   ! 
   ! For more information, try 'dmlw help replay'.
   [2]
   $ dmlw replay script zeroes other entries:
   ! error: invalid value 'entries:' for '<WHAT>'
-  !   [possible values: entries:<n>, mark:<text>, flush]
+  !   [possible values: entries:<n> with n below 2^64, mark:<text>, flush]
   ! 
   ! For more information, try 'dmlw help replay'.
   [2]
   $ dmlw replay script zeroes other entries:1x
   ! error: invalid value 'entries:1x' for '<WHAT>'
-  !   [possible values: entries:<n>, mark:<text>, flush]
+  !   [possible values: entries:<n> with n below 2^64, mark:<text>, flush]
   ! 
   ! For more information, try 'dmlw help replay'.
   [2]
   $ dmlw replay script zeroes other flush2
   ! error: invalid value 'flush2' for '<WHAT>'
-  !   [possible values: entries:<n>, mark:<text>, flush]
+  !   [possible values: entries:<n> with n below 2^64, mark:<text>, flush]
   ! 
   ! For more information, try 'dmlw help replay'.
   [2]
   $ dmlw replay script zeroes other mark
   ! error: invalid value 'mark' for '<WHAT>'
-  !   [possible values: entries:<n>, mark:<text>, flush]
+  !   [possible values: entries:<n> with n below 2^64, mark:<text>, flush]
   ! 
   ! For more information, try 'dmlw help replay'.
   [2]
   $ dmlw replay script zeroes other --explain Flush
   ! error: invalid value 'Flush' for '<WHAT>'
-  !   [possible values: entries:<n>, mark:<text>, flush]
+  !   [possible values: entries:<n> with n below 2^64, mark:<text>, flush]
   ! 
   ! For more information, try 'dmlw help replay'.
   [2]

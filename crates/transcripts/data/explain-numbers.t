@@ -203,7 +203,21 @@ A close while a request is open.
   $ dmlw --explain record script log
   ! dmlw: line 4: 24 Busy
   !   line 4 of script: close
-  !   1 request is still open here: end each by a line `c <id>` before the `close`
+  !   1 request is still open here, `a`: end each by a line `c <id>` before the `close`
+  [1]
+  $ write script
+  > data 16
+  > log 32
+  > w a 1 1 11
+  > f b
+  > d c 2 1
+  > c a
+  > close
+  $ dmlw --explain record script log
+  a ok
+  ! dmlw: line 7: 24 Busy
+  !   line 7 of script: close
+  !   2 requests are still open here, the first of them `b`: end each by a line `c <id>` before the `close`
   [1]
 A count of none, a number past the largest, a pick that is none, and a script that ends in its head.
 
@@ -319,7 +333,7 @@ Numbers of a log and of images.
   [1]
   $ dmlw --explain replay log first out entries:x
   ! error: invalid value 'entries:x' for '<WHAT>'
-  !   [possible values: entries:<n>, mark:<text>, flush]
+  !   [possible values: entries:<n> with n below 2^64, mark:<text>, flush]
   ! 
   ! For more information, try 'dmlw help replay'.
   [2]
@@ -355,11 +369,29 @@ Numbers of a log and of images.
   $ image odd 700
   $ dmlw --explain list odd
   ! dmlw: 32 File
-  !   odd has 700 bytes, 188 more than a multiple of 512: truncate -s /512 odd leaves whole sectors
+  !   odd has 700 bytes, 188 more than a multiple of 512: head -c 512 odd >cut.img copies its whole sectors
   [1]
   $ dmlw --explain replay log odd out flush
   ! dmlw: 32 File
-  !   odd has 700 bytes, 188 more than a multiple of 512: truncate -s /512 odd leaves whole sectors
+  !   odd has 700 bytes, 188 more than a multiple of 512: head -c 512 odd >cut.img copies its whole sectors
+  [1]
+
+Packed logs: of a length that no image has, and of one that an image may have.
+
+  $ image packed 700 0:=fd377a585a00
+  $ dmlw --explain list packed
+  ! dmlw: 32 File
+  !   packed is packed by xz: xz -dc packed >unpacked.img
+  [1]
+  $ image small 300 0:=28b52ffd
+  $ dmlw --explain status small
+  ! dmlw: 32 File
+  !   small is packed by zstd: zstd -dc small >unpacked.img
+  [1]
+  $ image whole 1024 0:=1f8b08
+  $ dmlw --explain list whole
+  ! dmlw: 13 BadMagic
+  !   whole is packed by gzip: gzip -dc whole >unpacked.img
   [1]
 
 A log that is cut, one that is no log, an image that is longer than the entry's sectors.
@@ -474,7 +506,7 @@ A log that is too small, and a moment past the last event of its run.
   a ok
   b ok
   0 0 logging_disabled
-  !   script: the entries don't fit in the log: ask for more sectors in the script's line `log <sectors>`
+  !   script: the entries don't fit in the log: one of 7 sectors has room for all requests and marks of the script (line `log <sectors>`)
   [3]
   $ dmlw --explain judge script 99 first
   ! dmlw: 34 BadMoment

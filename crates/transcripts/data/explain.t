@@ -95,7 +95,7 @@ What --explain adds behind a fault.
   $ dmlw --explain record script log
   ! dmlw: line 3: 30 BadLine
   !   line 3 of script: mark
-  !   the word <text> is missing
+  !   a space is missing: the text is what follows it, and may be empty
   !   the form of the line: mark <text>
   [1]
   $ write script
@@ -105,7 +105,7 @@ What --explain adds behind a fault.
   $ dmlw --explain record script log
   ! dmlw: line 3: 30 BadLine
   !   line 3 of script: message data 1
-  !   the word <text> is missing
+  !   a space is missing: the text is what follows it, and may be empty
   !   the form of the line: message <disk> <layer> <text>
   [1]
   $ write script

@@ -1126,22 +1126,6 @@ What --explain adds about a line that begins like no line.
   ! dmlw: line 3: 30 BadLine
   !   line 3 of script: seats 1
   !   this line belongs to a script of `dmlw run`, not of `dmlw record`
-  !   no line begins with the word `seats`; the lines are:
-  !     data <sectors>
-  !     log <sectors> [4096]
-  !     data-layer 0 <length> <target> ..
-  !     log-layer 0 <length> <target> ..
-  !     at <ms>
-  !     w <id> <first> <count> <byte> [flush] [fua] [meta]
-  !     f <id>
-  !     d <id> <first> <count>
-  !     c <id>
-  !     r <first> <count>
-  !     turn
-  !     mark <text>
-  !     message <disk> <layer> <text>
-  !     close
-  !     crash <pick> ..
   [1]
   $ write script
   > data 16

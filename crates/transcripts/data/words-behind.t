@@ -115,7 +115,7 @@ Words are judged before any file is read.
 
   $ dmlw replay none none other what
   ! error: invalid value 'what' for '<WHAT>'
-  !   [possible values: entries:<n>, mark:<text>, flush]
+  !   [possible values: entries:<n> with n below 2^64, mark:<text>, flush]
   ! 
   ! For more information, try 'dmlw help replay'.
   [2]
@@ -198,7 +198,7 @@ A script without a close leaves an empty log, and that is no fault. Where all is
   > close
   $ dmlw --explain record script log
   0 0 logging_disabled
-  !   script: the entries don't fit in the log: ask for more sectors in the script's line `log <sectors>`
+  !   script: the entries don't fit in the log: one of 3 sectors has room for all requests and marks of the script (line `log <sectors>`)
   [3]
   $ write script
   > data 2

@@ -633,13 +633,13 @@ Command lines and their texts.
   [2]
   $ dmlw replay a b c what
   ! error: invalid value 'what' for '<WHAT>'
-  !   [possible values: entries:<n>, mark:<text>, flush]
+  !   [possible values: entries:<n> with n below 2^64, mark:<text>, flush]
   ! 
   ! For more information, try 'dmlw help replay'.
   [2]
   $ dmlw replay a b c entries:18446744073709551616
   ! error: invalid value 'entries:18446744073709551616' for '<WHAT>'
-  !   [possible values: entries:<n>, mark:<text>, flush]
+  !   [possible values: entries:<n> with n below 2^64, mark:<text>, flush]
   ! 
   ! For more information, try 'dmlw help replay'.
   [2]

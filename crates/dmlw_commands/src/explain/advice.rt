@@ -1,4 +1,5 @@
 //! General advice about each refusal.
+use crate::explain::packed::{Packer, write_packed};
 use log_format::MAGIC;
 use refusals::Refusal;
 use std::fmt;
@@ -12,8 +13,12 @@ pub(crate) fn write_advice<W: Write>(name: &str, refusal: Refusal, to: &mut W) -
     }
 }
 
-/// Writes which bytes a log begins with, and which bytes the file `name` begins with.
+/// Writes which bytes a log begins with, and which bytes the file `name` begins with. If these are
+/// of a packed file, writes how it is unpacked.
 pub(crate) fn write_magic<W: Write>(name: &str, found: u64, to: &mut W) -> fmt::Result {
+    if let Some(packer) = Packer::of(found.to_le_bytes().as_slice()) {
+        return write_packed(name, packer, to);
+    }
     write!(to, "  {name}: it doesn't begin with the 8 bytes of a log,")?;
     write_bytes(MAGIC, to)?;
     write!(to, ", but with")?;

@@ -11,7 +11,7 @@ use crate::explain::files::{
 };
 use crate::explain::logs::{write_log, write_next, write_size};
 use crate::explain::refused_line::write_line;
-use crate::explain::script_text::{Grammar, has_line};
+use crate::explain::script_text::{Grammar, has_line, log_room};
 use bio::Status;
 use dmlw_files::{Files, read_text};
 use refusals::{Fault, Refusal, RunError};
@@ -271,8 +271,28 @@ fn write_recording<F: Files, W: Write>(
     match line {
         Some(number) => write_line_of(alloc, grammar, script, number, refusal, files, to),
         None if refusal == Refusal::File => write_file_of_recording(alloc, script, log, files, to),
+        None if refusal == Refusal::Full => write_full(alloc, grammar, script, files, to),
         None => write_advice(script, refusal, to),
     }
+}
+
+// Writes that the entries of a script don't fit in its log, and how large the log has to be.
+fn write_full<F: Files, W: Write>(
+    alloc: Global,
+    grammar: Grammar,
+    script: &str,
+    files: &mut F,
+    to: &mut W,
+) -> fmt::Result
+    ensures kept { KeepsFiles (F.contents files.old) (F.contents files.new) }
+    ensures unwritten { F.writes files.new ≡ F.writes files.old }
+{
+    let text = read_text(alloc, script, files).map_err(|_| fmt::Error)?;
+    let sectors = log_room(grammar, &text);
+    writeln!(
+        to,
+        "  {script}: the entries don't fit in the log: one of {sectors} sectors has room for all requests and marks of the script (line `log <sectors>`)"
+    )
 }
 
 // Writes the faulty line of a script, and advice.

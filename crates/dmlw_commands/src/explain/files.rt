@@ -3,8 +3,10 @@
 ghost use Rattle.std.specs.Prelude.{◌≡◌};
 ghost use Rattle.dmlw_files.specs.Files.{KeepsFiles};
 
+use crate::explain::packed::{Packer, write_packed};
 use bio::SECTOR_BYTES;
 use dmlw_files::{FileFailure, Files, MAX_IMAGE_BYTES, MAX_SCRIPT_BYTES};
+use sector_disk::Image;
 use std::alloc::Global;
 use std::fmt::Write;
 use std::{fmt, io};
@@ -99,14 +101,17 @@ pub(crate) fn write_file_of_writing<F: Files, W: Write>(
 fn write_unwritten<W: Write>(name: &str, error: &io::Error, to: &mut W) -> fmt::Result {
     writeln!(to, "  {name} can't be written: {error}")?;
     match error.kind() {
-        io::ErrorKind::NotFound => writeln!(to, "  its folder must exist"),
+        io::ErrorKind::NotFound => writeln!(
+            to,
+            "  its folder must exist; if {name} is a link, so must the file that it leads to"
+        ),
         io::ErrorKind::PermissionDenied | io::ErrorKind::ReadOnlyFilesystem => writeln!(
             to,
-            "  a regular file is first written next to {name}, and then renamed: the folder must be writable"
+            "  a regular file is first written next to {name}, and then renamed, so its folder must be writable; a device must be writable itself"
         ),
         io::ErrorKind::StorageFull | io::ErrorKind::QuotaExceeded => writeln!(
             to,
-            "  a regular file is first written next to {name}: the file system needs room for all of it"
+            "  a regular file is first written next to {name}, so its file system needs room for all of it; a device must be as large as what is written"
         ),
         _ => Ok(()),
     }
@@ -144,7 +149,10 @@ fn write_image_file<F: Files, W: Write>(
     ensures unwritten { F.writes files.new ≡ F.writes files.old }
 {
     match files.read(alloc, image, MAX_IMAGE_BYTES) {
-        Ok(read) => write_length(image, read.len() as u64, to),
+        Ok(read) => {
+            let packer = packer_of(alloc, &read);
+            write_length(image, read.len() as u64, packer, to)
+        }
         Err(_) => {
             write_unread(image, MAX_IMAGE_BYTES, "a log or an image", files, to)?;
             if let Some(FileFailure::TooLong(_)) = files.failure() {
@@ -163,10 +171,27 @@ fn write_cut<W: Write>(image: &str, to: &mut W) -> fmt::Result {
     )
 }
 
-// Writes that an image can't have `length` bytes. Returns true if it can't.
-fn write_length<W: Write>(image: &str, length: u64, to: &mut W) -> Result<bool, fmt::Error> {
+// Returns the program that packed an image, if its first bytes are of a packed file.
+fn packer_of(alloc: Global, image: &Image) -> Option<Packer> {
+    if image.len() > MAX_SCRIPT_BYTES as usize {
+        return None;
+    }
+    Packer::of(image.to_vec(alloc).ok()?.as_slice())
+}
+
+// Writes that an image can't have `length` bytes, and how it is unpacked if it was packed by
+// `packer`. Returns true if it can't.
+fn write_length<W: Write>(
+    image: &str,
+    length: u64,
+    packer: Option<Packer>,
+    to: &mut W,
+) -> Result<bool, fmt::Error> {
     let over = length % SECTOR_BYTES;
-    if length == 0 {
+    let whole = length - over;
+    if let Some(packer) = packer {
+        write_packed(image, packer, to)?;
+    } else if length == 0 {
         writeln!(
             to,
             "  {image} is empty: a log or an image has at least {SECTOR_BYTES} bytes"
@@ -179,7 +204,7 @@ fn write_length<W: Write>(image: &str, length: u64, to: &mut W) -> Result<bool, 
     } else if over != 0 {
         writeln!(
             to,
-            "  {image} has {length} bytes, {over} more than a multiple of {SECTOR_BYTES}: truncate -s /{SECTOR_BYTES} {image} leaves whole sectors"
+            "  {image} has {length} bytes, {over} more than a multiple of {SECTOR_BYTES}: head -c {whole} {image} >cut.img copies its whole sectors"
         )?;
     }
     Ok(length == 0 || over != 0)

@@ -63,15 +63,26 @@ const DELAY: LayerForm = LayerForm {
 
 // Returns the form of lines with the target that `line` names. None if there is no such target.
 fn form_of(line: &[u8]) -> Option<LayerForm> {
-    match word_at(line, 3)? {
-        b"linear" => Some(LINEAR),
-        b"error" => Some(ERROR),
-        b"flakey" => Some(FLAKEY),
-        b"fuse" => Some(FUSE),
-        b"dust" => Some(DUST),
-        b"delay" => Some(DELAY),
-        _ => None,
+    let target = word_at(line, 3)?;
+    if target == b"linear".as_slice() {
+        return Some(LINEAR);
     }
+    if target == b"error".as_slice() {
+        return Some(ERROR);
+    }
+    if target == b"flakey".as_slice() {
+        return Some(FLAKEY);
+    }
+    if target == b"fuse".as_slice() {
+        return Some(FUSE);
+    }
+    if target == b"dust".as_slice() {
+        return Some(DUST);
+    }
+    if target == b"delay".as_slice() {
+        return Some(DELAY);
+    }
+    None
 }
 
 /// Writes that a layer's line names an unknown target.
@@ -134,25 +145,33 @@ pub(crate) fn write_range<W: Write>(line: &[u8], to: &mut W) -> fmt::Result {
             "  the length {length} is out of range: it is 1 to {MAX_SECTORS} sectors"
         );
     }
-    match word_at(line, 3) {
-        Some(b"flakey") => writeln!(
+    write_target_range(line, to)
+}
+
+// Writes which number of a target is out of its range.
+fn write_target_range<W: Write>(line: &[u8], to: &mut W) -> fmt::Result {
+    let target = word_at(line, 3).unwrap_or_default();
+    if target == b"dust".as_slice() {
+        let bytes = number_at(line, 6).unwrap_or_default();
+        return writeln!(
+            to,
+            "  the block size {bytes} is out of range: it is a power of two from 512 to {MAX_BLOCK}"
+        );
+    }
+    if target == b"flakey".as_slice() {
+        return writeln!(
             to,
             "  the seconds up and down are out of range: together they are 1 to {MAX_CYCLE}"
-        ),
-        Some(b"dust") => {
-            let bytes = number_at(line, 6).unwrap_or_default();
-            writeln!(
-                to,
-                "  the block size {bytes} is out of range: it is a power of two from 512 to {MAX_BLOCK}"
-            )
-        }
-        Some(b"delay") => writeln!(
+        );
+    }
+    if target == b"delay".as_slice() {
+        return writeln!(
             to,
             "  a delay is at most {MAX_DELAY} milliseconds, and all delays of a layer name the same device and offset"
-        ),
-        _ => writeln!(
-            to,
-            "  a number in the layer's line is out of range: `dmlw help formats` has the ranges"
-        ),
+        );
     }
+    writeln!(
+        to,
+        "  a number in the layer's line is out of range: `dmlw help formats` has the ranges"
+    )
 }

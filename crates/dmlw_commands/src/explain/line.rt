@@ -54,6 +54,9 @@ fn write_unknown<W: Write>(grammar: Grammar, line: &[u8], to: &mut W) -> fmt::Re
             to,
             "  this line belongs to a script of `dmlw {other}`, not of `dmlw {own}`"
         )?;
+        if grammar == Grammar::Recorder {
+            return Ok(());
+        }
     }
     match grammar {
         Grammar::Recorder => writeln!(
@@ -183,6 +186,10 @@ fn write_bad_word<W: Write>(
 ) -> fmt::Result {
     match flaw_of(line.text, form.as_bytes()) {
         BadWord::None => write_place(grammar, text, line, to),
+        BadWord::Missing(wanted) if wanted == b"<text>".as_slice() => writeln!(
+            to,
+            "  a space is missing: the text is what follows it, and may be empty"
+        ),
         BadWord::Missing(wanted) => {
             let kind = Shown(wanted);
             writeln!(to, "  the word {kind} is missing")
@@ -250,12 +257,20 @@ fn pick_flaw(line: &[u8]) -> BadWord<'_> {
 
 // Returns whether a word is of the kind `wanted`, a word of a form.
 fn fits(wanted: &[u8], word: &[u8]) -> bool {
+    if wanted == b"<id>".as_slice() {
+        return is_id(word);
+    }
+    if wanted == b"<byte>".as_slice() {
+        return word.len() == 2 && word.iter().all(is_digit_of_byte);
+    }
+    if wanted == b"<disk>".as_slice() {
+        return word == b"data".as_slice() || word == b"log".as_slice();
+    }
+    if wanted == SEAT {
+        return is_seat(word);
+    }
     match wanted {
-        b"<id>" => is_id(word),
-        b"<byte>" => word.len() == 2 && word.iter().all(is_digit_of_byte),
-        b"<disk>" => matches!(word, b"data" | b"log"),
         [b'<', ..] => number_of(word).is_some(),
-        SEAT => is_seat(word),
         [b'[', option @ .., b']'] => word == option,
         _ => word == wanted,
     }

@@ -7,8 +7,8 @@ use crate::explain::layers::{
 use crate::explain::line::{Shown, explain_line, write_forms};
 use crate::explain::messages::write_message;
 use crate::explain::script_text::{
-    Grammar, Numbered, count_of, end_of, line_at, line_of, number_at, open_requests, submission_of,
-    submitted_by, word_at,
+    Grammar, Numbered, count_of, end_of, first_open, line_at, line_of, number_at, open_requests,
+    submission_of, submitted_by, word_at,
 };
 use refusals::{Refusal, number_of};
 use std::fmt;
@@ -161,17 +161,21 @@ fn write_too_long<W: Write>(grammar: Grammar, line: Numbered, to: &mut W) -> fmt
     }
 }
 
-// Writes how many requests are still open at a close.
+// Writes how many requests are still open at a close, and the id of the first of them.
 fn write_busy<W: Write>(text: &[u8], line: Numbered, to: &mut W) -> fmt::Result {
+    let count = open_requests(text, line.number);
     let open = Counted {
-        count: open_requests(text, line.number),
+        count,
         one: "request is",
         many: "requests are",
     };
-    writeln!(
-        to,
-        "  {open} still open here: end each by a line `c <id>` before the `close`"
-    )
+    write!(to, "  {open} still open here")?;
+    if let Some(id) = first_open(text, line.number) {
+        let id = Shown(id);
+        let which = if count == 1 { "" } else { " the first of them" };
+        write!(to, ",{which} `{id}`")?;
+    }
+    writeln!(to, ": end each by a line `c <id>` before the `close`")
 }
 
 // Writes that a layer reaches past the end of the device below it. If it doesn't, writes that one

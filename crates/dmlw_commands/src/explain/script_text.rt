@@ -138,10 +138,13 @@ pub(crate) fn first_of_body(text: &[u8], before: u64) -> Option<Numbered<'_>> {
 // Returns whether a line is skipped, or belongs to a script's head.
 fn is_of_head(line: &[u8]) -> bool {
     let first = line.split(is_space).next().unwrap_or_default();
-    match first {
-        [] | [b'#', ..] | b"data" | b"log" | b"seats" | b"data-layer" | b"log-layer" => true,
-        _ => false,
-    }
+    first.is_empty()
+        || first.starts_with(b"#".as_slice())
+        || first == b"data".as_slice()
+        || first == b"log".as_slice()
+        || first == b"seats".as_slice()
+        || first == b"data-layer".as_slice()
+        || first == b"log-layer".as_slice()
 }
 
 /// Returns the line before line `before` that submits the request `id`.
@@ -193,6 +196,23 @@ pub(crate) fn open_requests(text: &[u8], before: u64) -> u64 {
     open
 }
 
+/// Returns the id of the first request that is submitted but not ended before line `before`.
+pub(crate) fn first_open(text: &[u8], before: u64) -> Option<&[u8]> {
+    let mut number: u64 = 0;
+    for line in text.split(is_line_end) {
+        number = number.saturating_add(1);
+        if number >= before {
+            return None;
+        }
+        if let Some(id) = submitted_by(line) {
+            if end_of(text, before, id).is_none() {
+                return Some(id);
+            }
+        }
+    }
+    None
+}
+
 /// Returns the id of the request that a line of a recorder's script submits, if it submits one.
 pub(crate) fn submitted_by(line: &[u8]) -> Option<&[u8]> {
     if begins_with(line, b"c") || !has_id(line) {
@@ -213,6 +233,44 @@ fn has_id(line: &[u8]) -> bool {
         }
     }
     false
+}
+
+/// Returns how many sectors of 512 bytes a log needs to have room for all requests and marks of a
+/// script.
+pub(crate) fn log_room(grammar: Grammar, text: &[u8]) -> u64 {
+    let unit = match line_of(text, u64::MAX, b"log") {
+        Some(log) if word_at(log.text, 2).is_some() => LARGE_UNIT,
+        _ => 1,
+    };
+    // The super block, the end mark, and the last log sector, which is never used.
+    let mut sectors: u64 = unit.saturating_mul(3);
+    for line in text.split(is_line_end) {
+        sectors = sectors.saturating_add(entry_room(grammar, line, unit));
+    }
+    sectors
+}
+
+// A log sector of 4,096 bytes has this many sectors of 512 bytes.
+const LARGE_UNIT: u64 = 8;
+
+// Returns how many sectors the entry of a script's line takes in a log whose log sectors have `unit`
+// sectors.
+fn entry_room(grammar: Grammar, line: &[u8], unit: u64) -> u64 {
+    let place = match grammar {
+        Grammar::Recorder => 0,
+        Grammar::Seats => 1,
+    };
+    let word = word_at(line, place).unwrap_or_default();
+    if line.starts_with(b"#".as_slice()) {
+        return 0;
+    }
+    if word == b"w".as_slice() {
+        return unit.saturating_add(number_at(line, 3).unwrap_or_default());
+    }
+    if word == b"f".as_slice() || word == b"d".as_slice() || word == b"mark".as_slice() {
+        return unit;
+    }
+    0
 }
 
 /// Returns whether a line of a recorder's script is an event: it submits or ends a request, or is a

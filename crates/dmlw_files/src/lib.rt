@@ -7,7 +7,7 @@
 #![tactic(auto)]
 
 pub use files::{FileError, FileFailure, Files};
-pub use host_files::HostFiles;
+pub use host_files::{HostFiles, fill};
 pub use image::{MAX_IMAGE_BYTES, read_image};
 pub use output::Output;
 pub use session::Session;

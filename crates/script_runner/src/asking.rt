@@ -38,8 +38,8 @@ pub(crate) fn ask<L: BlockDev + Drop>(
     }
 }
 
-// Records the end of a request, if the recorder tracks the request by an id.
-pub(crate) fn complete_request<L: BlockDev + Drop>(
+/// Records the end of a request, if the recorder tracks the request by an id.
+pub fn complete_request<L: BlockDev + Drop>(
     recorder: &mut Recorder<L>,
     id: Option<Id>,
     ok: bool,

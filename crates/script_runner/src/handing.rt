@@ -11,10 +11,10 @@ use std::alloc::Global;
 // The size of a sector in bytes.
 const SECTOR: usize = SECTOR_BYTES as usize;
 
-// Passes a request to a device, and returns the answer to the last call. A write with flush is
-// passed as a flush, and then as a write if the flush succeeds. A read makes no call, and returns
-// `Ok(now)`.
-pub(crate) fn do_request<D: BlockDev>(device: &mut D, now: Ms, bio: &Bio) -> Result<Ms, DevError>
+/// Passes a request to a device, and returns the answer to the last call. A write with flush is
+/// passed as a flush, and then as a write if the flush succeeds. A read makes no call, and returns
+/// `Ok(now)`.
+pub fn do_request<D: BlockDev>(device: &mut D, now: Ms, bio: &Bio) -> Result<Ms, DevError>
     requires { IsTrue (is_ok (check_answer bio.now (D.shown device.old).size)) }
     ensures does { PassesRequest D.does now bio.now result device.old device.new }
     ensures size { (D.shown device.new).size ≡ (D.shown device.old).size }
@@ -65,9 +65,9 @@ fn write<D: BlockDev>(
     device.write(now, first, bytes, fua)
 }
 
-// Reads sectors of a device. Returns None if memory for them runs out, or if the device fails the
-// read.
-pub(crate) fn read_sectors<D: BlockDev>(
+/// Reads sectors of a device. Returns None if memory for them runs out, or if the device fails the
+/// read.
+pub fn read_sectors<D: BlockDev>(
     device: &mut D,
     alloc: Global,
     now: Ms,

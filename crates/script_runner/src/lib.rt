@@ -11,7 +11,9 @@
 //! what a run returns: each seat's tally, and the log's disk.
 #![tactic(auto)]
 
-pub use playing::new_stack;
+pub use asking::complete_request;
+pub use handing::{do_request, read_sectors};
+pub use playing::{new_recorder, new_stack};
 pub use recording::{Lies, RunResult, record};
 pub use rehearsing::{Rehearsed, events_of_run};
 pub use request::{Request, bio_of};

@@ -127,8 +127,8 @@ fn start_on<D: BlockDev + Drop, L: BlockDev + Drop>(
     Ok(Running::new(alloc, recorder, disk, requests)?)
 }
 
-// Returns a recorder with a new log on a device, with log sectors of size `size`.
-fn new_recorder<L: BlockDev + Drop>(
+/// Returns a recorder with a new log on a device, with log sectors of size `size`.
+pub fn new_recorder<L: BlockDev + Drop>(
     alloc: Global,
     device: L,
     size: SectorSize,

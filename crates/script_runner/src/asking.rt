@@ -39,11 +39,7 @@ pub(crate) fn ask<L: BlockDev + Drop>(
 }
 
 /// Records the end of a request, if the recorder tracks the request by an id.
-pub fn complete_request<L: BlockDev + Drop>(
-    recorder: &mut Recorder<L>,
-    id: Option<Id>,
-    ok: bool,
-)
+pub fn complete_request<L: BlockDev + Drop>(recorder: &mut Recorder<L>, id: Option<Id>, ok: bool)
     ensures hears { RecordsEnd id ok recorder.old recorder.new }
     ensures goes { RecorderFrame (recorder_view recorder.old) (recorder_view recorder.new) }
     ensures log_moment { recorder.new.store.moment ≡ recorder.old.store.moment }

@@ -1,7 +1,7 @@
 #!/usr/bin/env python3
 """hostile: the built program on images that no recorder writes, under limits of memory and of time.
 
-  bench/hostile.py [IMAGES [FIRST [PROGRAM]]]    so many images (default 100,000) from the seed FIRST (default 1) on; PROGRAM, else crates/dmlw_program/out/dmlw_program
+  bench/hostile.py [IMAGES [FIRST [PROGRAM]]]    so many images (default 100,000) from the seed FIRST (default 1) on; PROGRAM, else the one that ./dmlw runs
 
 An image has 512 to 65,536 bytes and log sectors of any size: a log that was cut and in which bytes and fields were set to others, or fields of the largest
 numbers, or any bytes behind a log's first ones. Each is listed, and asked for its status, replayed or copied. The program has 8 MiB of addresses beyond what
@@ -12,6 +12,7 @@ import collections, os, random, struct, subprocess, sys, tempfile, time
 from multiprocessing import Pool
 
 import force
+from measure import processors, program_of
 
 SIZES = (512, 1024, 2048, 4096)
 MOST = 65_536
@@ -161,16 +162,19 @@ def least_addresses(program):
 
 def main():
     words = sys.argv[1:]
+    if len(words) > 3 or not all(it.isdigit() for it in words[:2]):
+        print(__doc__.strip(), file=sys.stderr)
+        return 2
     count, first = (list(map(int, words[:2])) + [100_000, 1][len(words[:2]) :])[:2]
-    program = os.path.realpath((words[2:] or [force.PROGRAM])[0])
+    program = program_of(words[2:])
     limit = least_addresses(program) + BEYOND
     jobs = [(program, limit, range(at, min(at + BATCH, first + count))) for at in range(first, first + count, BATCH)]
     counts, found, begin = collections.Counter(), [], time.time()
-    with Pool() as pool:
+    with Pool(processors()) as pool:
         for some, differences in pool.imap_unordered(tried, jobs):
             counts += some
             found += differences
-    print("\n".join(it[:1000] for it in found[:20]))
+    print("".join(f"{it[:1000]}\n" for it in found[:20]), end="")
     print(f"{count:,} images from the seed {first} on, {limit:,} KiB of addresses, {time.time() - begin:,.0f} seconds, {len(found)} differences")
     print(", ".join(f"{name} {number:,}" for name, number in sorted(counts.items())))
     return int(bool(found))

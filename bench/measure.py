@@ -39,7 +39,19 @@ class Measured:
 
 def build():
     """The program that ./dmlw runs: the one that was built here, or that of release/, else it is built."""
-    return subprocess.run([f"{ROOT}/dmlw", "--which"], check=True, stdout=subprocess.PIPE, text=True).stdout.strip()
+    ran = subprocess.run([f"{ROOT}/dmlw", "--which"], stdout=subprocess.PIPE, text=True)
+    if ran.returncode:
+        sys.exit("there is no program to try: ./dmlw --which fails, see above")
+    return ran.stdout.strip()
+
+
+def program_of(words):
+    """The program that is named, if one is, else the one that ./dmlw runs."""
+    if not words:
+        return build()
+    if not os.access(words[0], os.X_OK) or os.path.isdir(words[0]):
+        sys.exit(f"{words[0]} is no program")
+    return os.path.realpath(words[0])
 
 
 def build_peer(folder):
@@ -49,6 +61,11 @@ def build_peer(folder):
         return None
     subprocess.run([rustc, "--edition", "2021", "-O", "-o", f"{folder}/peer", f"{ROOT}/bench/peer.rs"], check=True)
     return f"{folder}/peer"
+
+
+def processors():
+    """How many processors this process may use."""
+    return len(os.sched_getaffinity(0))
 
 
 def base(program):

@@ -1,20 +1,21 @@
 #!/usr/bin/env python3
 """outside: tries the built program on real files, pipes and a full disk, where no contract can see it.
 
-  outside.py [PROGRAM]      PROGRAM: the built program, else crates/dmlw_program/out/dmlw_program
+  outside.py [PROGRAM]      PROGRAM: the built program, else the one that ./dmlw runs
 
-Prints a line for each trial, and ends with status 1 where one fails. The trials that need the right to mount or to set up a loop device, or a file system's own
-tools, are left out where these are missing, with a line that begins with `--`.
+Prints a line for each trial, and the counts at the end. Ends with status 1 if one fails. The trials that need the right to mount or to set up a loop device, or a file
+system's own tools, are left out if these are missing, with a line that begins with `--`.
 """
-import hashlib, lzma, os, pathlib, pty, re, shutil, struct, subprocess, sys, tempfile, threading, time
+import hashlib, lzma, os, pathlib, pty, re, shutil, signal, struct, subprocess, sys, tempfile, threading, time
 
 import release
+from measure import program_of
 
 ROOT = pathlib.Path(__file__).resolve().parent.parent
-PROGRAM = os.path.realpath(sys.argv[1]) if len(sys.argv) > 1 else str(ROOT / "crates/dmlw_program/out/dmlw_program")
+PROGRAM = program_of(sys.argv[1:2])
 FIRST = b"data 16\nlog 32\nw a 5 1 41\nc a\nf b\nc b\nclose\n"
 TOLD = b"a ok\nb ok\n3 4\n"
-failed = []
+passed, failed = [], []
 os.environ.pop("DMLW_EXPLAIN", None)
 
 
@@ -24,8 +25,7 @@ def run(*words, **how):
 
 def trial(name, holds, seen=""):
     print(f"{'ok  ' if holds else 'FAIL'} {name}" + ("" if holds else f": {seen}"))
-    if not holds:
-        failed.append(name)
+    (passed if holds else failed).append(name)
 
 
 def beside(folder):
@@ -350,12 +350,12 @@ def each(room):
         wanted = "".join(f"entry {it} ({told[it]}): passed\n" for it in numbers) + f"{len(numbers)} checked, 0 failed\n"
         trial(f"examples/each.sh {which} goes over its entries", (ran.returncode, ran.stdout, ran.stderr) == (0, wanted, ""), ran)
     # Only before the first write the image is the first one.
-    check = ["sh", "-c", f'cmp -s "{first}" "$1" || ! echo differs', "sh"]
-    wanted = "entry 0 (mark before the flush): passed\nentry 1 (write 4+1): failed\n  differs\n"
+    check = ["sh", "-c", f'cmp -s "{first}" "$1" || {{ echo differs; exit 1; }}', "sh"]
+    wanted = "entry 0 (mark before the flush): passed\nentry 1 (write 4+1): failed (status 1)\n  differs\n"
     ran = subprocess.run([each, "--stop", "all", log, first, *check], capture_output=True, text=True)
-    trial("with --stop it ends at a failure", (ran.returncode, ran.stdout) == (1, wanted + "2 checked, 1 failed\n"), ran)
+    trial("with --stop it ends at a failure", (ran.returncode, ran.stdout) == (1, wanted + "2 checked, 1 failed, the first is entry 1\n"), ran)
     ran = subprocess.run([each, "all", log, first, *check], capture_output=True, text=True)
-    trial("and else it goes on", ran.returncode == 1 and ran.stdout.startswith(wanted) and ran.stdout.endswith("\n5 checked, 4 failed\n"), ran)
+    trial("and else it goes on", ran.returncode == 1 and ran.stdout.startswith(wanted) and ran.stdout.endswith("\n5 checked, 4 failed, the first is entry 1\n"), ran)
     wrong = {"no words": [], "no check": ["--stop", "marks", log, first], "another first word": ["every", log, first, "true"],
              "no log": ["all", room / "none", first, "true"], "no such check": ["all", log, first, "no-such"]}
     for name, words in wrong.items():
@@ -374,8 +374,8 @@ def each(room):
     ran = subprocess.run([each, "all", log, "/dev/null", "true"], capture_output=True, text=True)
     trial("and a first image that is none", ran.returncode == 3 and "not checked" in ran.stdout and "32 File" in ran.stdout, ran)
     ran = subprocess.run([each, "--from", "2", "all", log, first, "sh", "-c", 'echo "$DMLW_ENTRY/$DMLW_KIND/$DMLW_MARK"; false'], capture_output=True, text=True)
-    wanted = "".join(f"entry {it} ({told[it]}): failed\n  {it}/{told[it].split()[0]}/{told[it][5:] if it == 4 else ''}\n" for it in (2, 3, 4))
-    trial("--from leaves out what is before, and a check knows its entry", (ran.returncode, ran.stdout) == (1, wanted + "3 checked, 3 failed\n"), ran)
+    wanted = "".join(f"entry {it} ({told[it]}): failed (status 1)\n  {it}/{told[it].split()[0]}/{told[it][5:] if it == 4 else ''}\n" for it in (2, 3, 4))
+    trial("--from leaves out what is before, and a check knows its entry", (ran.returncode, ran.stdout) == (1, wanted + "3 checked, 3 failed, the first is entry 2\n"), ran)
     for start, count in (("mark:before the flush", 5), ("mark:dm-log-writes-end", 1), ("4", 1)):
         ran = subprocess.run([each, "--from", start, "all", log, first, "true"], capture_output=True, text=True)
         trial(f"--from {start} begins there", (ran.returncode, ran.stdout.split("\n")[-2]) == (0, f"{count} checked, 0 failed"), ran)
@@ -417,7 +417,7 @@ def each_of_sample(room):
     ran = subprocess.run([each, "--stop", "marks", log, first, ROOT / "examples/check-ext4.sh"], capture_output=True, text=True)
     trial("and so it is at the first mark", ran.returncode == 0, ran)
     ran = subprocess.run([each, "--stop", "all", log, first, ROOT / "examples/check-ext4.sh"], capture_output=True, text=True)
-    trial("but not before mkfs has ended", ran.returncode == 1 and "entry 0 (flush): failed" in ran.stdout, ran)
+    trial("but not before mkfs has ended", ran.returncode == 1 and "entry 0 (flush): failed (status " in ran.stdout, ran)
 
 
 def commands():
@@ -582,7 +582,7 @@ def each_of_ext4(room):
     image.write_bytes(bytes(len(images["whole"])))
     ran = subprocess.run([room / "home/examples/each.sh", "marks", log, image, ROOT / "examples/check-ext4.sh"], capture_output=True, text=True)
     told = [it for it in ran.stdout.split("\n") if it.startswith("entry ")]
-    wanted = [f"entry {17 * at + 16} (mark {name}): {'failed' if name == 'damaged' else 'passed'}" for at, name in enumerate(images)]
+    wanted = [f"entry {17 * at + 16} (mark {name}): {'failed (status 1)' if name == 'damaged' else 'passed'}" for at, name in enumerate(images)]
     trial("examples/each.sh finds the entry that broke an ext4", ran.returncode == 1 and told == wanted, ran)
 
 
@@ -660,4 +660,5 @@ with tempfile.TemporaryDirectory() as at:
     make_home(pathlib.Path(at))
     for part in (files, memory, replays, texts, terminal, shipped, each, each_of_sample, completions, installed, checks, each_of_ext4, devices, manual, pipes, full_disk, killed):
         part(pathlib.Path(at))
+print(f"{len(passed)} passed, {len(failed)} failed")
 sys.exit(1 if failed else 0)

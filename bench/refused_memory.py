@@ -1,7 +1,7 @@
 #!/usr/bin/env python3
 """refused_memory: the built program with its Nth growth of memory refused, for N from 1 until a run meets no refusal.
 
-  bench/refused_memory.py [PROGRAM]             PROGRAM: the built program, else crates/dmlw_program/out/dmlw_program
+  bench/refused_memory.py [PROGRAM]             PROGRAM: the built program, else the one that ./dmlw runs
   bench/refused_memory.py --from [PROGRAM]      all growths from the Nth on are refused, as where memory has run out
 
 A small C library that is built here (it needs `cc`) stands before the program's `malloc` and `realloc`: it counts them, in all threads, and refuses one, or all
@@ -16,6 +16,7 @@ from multiprocessing import Pool
 from types import SimpleNamespace
 
 import force
+from measure import program_of
 
 SOURCE = r"""
 #include <errno.h>
@@ -331,7 +332,7 @@ def series(pool, name, job, out):
 def main():
     words = sys.argv[1:]
     is_last = words[:1] != ["--from"]
-    program = os.path.realpath((words[not is_last :] or [force.PROGRAM])[0])
+    program = program_of(words[not is_last :])
     differ = []
     with tempfile.TemporaryDirectory() as folder, Pool() as pool:
         library = f"{folder}/refuse.so"

@@ -3,14 +3,16 @@
 is worked out apart, and so is what stands in its log, up to the order of two seats' entries: each seat's FUA writes and marks stand in their order, each entry
 once. A run has 60 seconds. Prints the seed and the counts; status 1 where a run differs, fails or hangs.
 
-usage: bench/stress.py PROGRAM [RUNS] [SEED] [--under TOOL..]
-       TOOL.. stands before the program, as `valgrind --tool=helgrind --error-exitcode=9`; a run has 600 seconds then
+usage: bench/stress.py [PROGRAM] [RUNS] [SEED] [--under TOOL..]
+       PROGRAM: the built program, else the one that ./dmlw runs. RUNS are 10,000 if not given. TOOL.. stands before the program, as `valgrind --tool=helgrind --error-exitcode=9`; a run has 600 seconds then
 """
 import os
 import random
 import subprocess
 import sys
 import tempfile
+
+from measure import program_of
 
 SECTORS = 256
 SEATS = (1, 2, 4, 64)
@@ -83,9 +85,12 @@ def main():
     if "--under" in words:
         at = words.index("--under")
         words, under = words[:at], words[at + 1:]
-    program = os.path.abspath(words[0])
-    runs = int(words[1]) if len(words) > 1 else 10_000
-    seed = int(words[2]) if len(words) > 2 else random.randrange(2**32)
+    program = program_of([words.pop(0)] if words and not words[0].isdigit() else [])
+    if len(words) > 2 or not all(it.isdigit() for it in words):
+        print(__doc__.strip(), file=sys.stderr)
+        return 2
+    runs = int(words[0]) if words else 10_000
+    seed = int(words[1]) if len(words) > 1 else random.randrange(2**32)
     limit = 600 if under else 60
     print(f"seed {seed}", flush=True)
     bad = 0

@@ -7,6 +7,7 @@
 # damaged superblock or journal head, as `-y` would. The image is changed. It ends with status 0 where the file system is whole, and 127 where there is no e2fsck.
 set -u
 [ $# = 1 ] || { echo "usage: $0 IMAGE" && exit 127; }
+PATH=$PATH:/usr/sbin:/sbin
 command -v e2fsck >/dev/null || { echo "e2fsck isn't here: it is one of e2fsprogs" && exit 127; }
 e2fsck -E journal_only -p "$1" || exit 1
 exec e2fsck -fn "$1"

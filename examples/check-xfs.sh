@@ -8,6 +8,8 @@
 # file system is whole, and 1 where it isn't. Without that right it can't judge an image whose log is to be replayed: it says so, with status 3.
 set -u
 [ $# = 1 ] || { echo "usage: $0 IMAGE" && exit 127; }
+PATH=$PATH:/usr/sbin:/sbin
+command -v xfs_repair >/dev/null || { echo "xfs_repair isn't here: it is one of xfsprogs" && exit 127; }
 
 # Whether a mount can succeed here at all: this kernel knows XFS, a loop device is free, and the right is there.
 can_mount() {

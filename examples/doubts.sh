@@ -20,7 +20,7 @@
 # no prefix is doubtful.
 #
 # Exit status: 0 if no pair is listed, 1 if one is, 2 if the words are wrong, 3 if the log can't be read or has a fault. The program is ./dmlw of the repository, or
-# `dmlw` on the PATH, or $DMLW.
+# the dmlw that was installed together with this file, or `dmlw` on the PATH; $DMLW is another.
 set -u
 
 refuse() {
@@ -36,10 +36,9 @@ if [ -n "${DMLW-}" ]; then
     dmlw=$DMLW
 elif [ -x "$here/../dmlw" ]; then
     dmlw=$here/../dmlw
-elif [ -x "$here/../../../bin/dmlw" ]; then
-    dmlw=$here/../../../bin/dmlw
 else
-    dmlw=$(command -v dmlw) || refuse "there is no dmlw: put it on the PATH, or name it in \$DMLW"
+    case $here in */share/dmlw/examples) dmlw=${here%/share/dmlw/examples}/bin/dmlw ;; *) dmlw= ;; esac
+    [ -x "$dmlw" ] || dmlw=$(command -v dmlw) || refuse "there is no dmlw: put it on the PATH, or name it in \$DMLW"
 fi
 room=$(mktemp -d) || exit 3
 trap 'rm -rf "$room"' EXIT

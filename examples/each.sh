@@ -171,9 +171,8 @@ elif [ -x "$here/../dmlw" ]; then
     shown=$(dirname "$here")/dmlw
     [ "$(readlink -f ./dmlw)" != "$shown" ] || shown=./dmlw
 else
-    case $here in */share/dmlw/examples) shown=$(dirname "$here/../../..")/../../bin/dmlw ;; *) shown= ;; esac
-    [ -n "$shown" ] && shown=$(readlink -f "$here/../../../bin/dmlw") && [ -x "$shown" ] || shown=$(command -v dmlw) ||
-        refuse "there is no dmlw: put it on the PATH, or name it in \$DMLW"
+    case $here in */share/dmlw/examples) shown=${here%/share/dmlw/examples}/bin/dmlw ;; *) shown= ;; esac
+    [ -x "$shown" ] || shown=$(command -v dmlw) || refuse "there is no dmlw: put it on the PATH, or name it in \$DMLW"
     # (what is installed in bin/ is a script that runs the program)
     dmlw=$(dirname "$(readlink -f "$shown")")/../lib/dmlw/dmlw
     [ -x "$dmlw" ] || dmlw=$shown

@@ -387,6 +387,124 @@ def each(room):
     trial("a link to it finds the program", (ran.returncode, ran.stderr) == (0, ""), ran)
 
 
+def loop(room, *words, check=("true",), **how):
+    """each.sh over the log of marks.script, which has five entries."""
+    ran = subprocess.run([room / "home/examples/each.sh", *words, room / "marks.log", room / "first", *check], capture_output=True, text=True, timeout=120, **how)
+    return ran.returncode, re.findall(r"^entry (\d+) .*: (.*)$", ran.stdout, re.M), ran.stdout.rstrip("\n").split("\n")[-1], ran
+
+
+def each_of_some(room):
+    for words, numbers in ((["--to", "1", "all"], "01"), (["--from", "1", "--to", "mark:dm-log-writes-end", "all"], "1234"), (["--to", "mark:before the flush", "all"], "0"),
+                           (["--every", "2", "all"], "024"), (["--from", "1", "--every", "3", "all"], "14"), (["--from", "3", "--to", "3", "all"], "3")):
+        status, states, last, ran = loop(room, *words)
+        trial(f"each.sh {' '.join(words)}", (status, "".join(it for it, _ in states), last) == (0, numbers, f"{len(numbers)} checked, 0 failed"), ran)
+    for words in (["--to", "5", "all"], ["--to", "mark:none", "all"], ["--from", "3", "--to", "1", "all"], ["--every", "0", "all"], ["-j", "x", "all"], ["-j", "2", "--bisect", "all"], ["--to"]):
+        status, _, last, ran = loop(room, *words)
+        trial(f"each.sh {' '.join(words)} doesn't begin", (status, last) == (2, "") and ran.stderr != "", ran)
+    for ends, wanted in (("kill -SEGV $$", 139), ("exit 7", 7), ("exec timeout 0.2 sleep 9", 124)):
+        status, states, last, ran = loop(room, "--from", "2", "--to", "2", "all", check=("sh", "-c", ends))
+        trial(f"a check that ends by {ends}", (status, states, last) == (1, [("2", f"failed (status {wanted})")], "1 checked, 1 failed, the first is entry 2"), ran)
+
+
+def each_at_once(room):
+    states = {}
+    for jobs in ("1", "2", "4", "7", "0"):
+        sums = room / f"sums{jobs}"
+        status, _, last, ran = loop(room, "-j", jobs, "all", check=("sh", "-c", f'echo "$DMLW_ENTRY $(cksum <"$1")" >>"{sums}"; sleep "0.0$((9 - DMLW_ENTRY * 2))"', "sh"))
+        states[jobs] = (status, last, ran.stdout, sorted(sums.read_text().splitlines()))
+    trial("each.sh -j gives the same output in the same order, and the same images", len(states["1"][3]) == 5 and all(it == states["1"] for it in states.values()), states)
+    status, states, last, ran = loop(room, "-j", "3", "--stop", "all", check=("sh", "-c", "test $DMLW_ENTRY != 2"))
+    trial("with --stop it ends at the first failure too", (status, len(states), last) == (1, 3, "3 checked, 1 failed, the first is entry 2"), ran)
+    status, states, last, ran = loop(room, "-j", "3", "all", check=("sh", "-c", "test $DMLW_ENTRY != 3 || exit 3"))
+    trial("and at a state that can't be checked", (status, states[3:], last) == (3, [("3", "not checked")], "3 checked, 0 failed"), ran)
+
+
+def each_ended(room):
+    """A loop that is interrupted, or whose reader goes away, ends its checks and leaves no folder."""
+    left = room / "left"
+    left.mkdir()
+    for jobs in ("1", "2"):
+        words = [room / "home/examples/each.sh", "-j", jobs, "all", room / "marks.log", room / "first"]
+        for name, number, wanted in (("INT", signal.SIGINT, 130), ("TERM", signal.SIGTERM, 143), ("HUP", signal.SIGHUP, 129)):
+            check = ["sh", "-c", '[ $DMLW_ENTRY != 0 ] || exit 5; [ $DMLW_ENTRY != 1 ] || exec sleep 33.25']
+            it = subprocess.Popen([*words, *check], stdout=subprocess.PIPE, stderr=subprocess.PIPE, text=True, env=dict(os.environ, TMPDIR=str(left)), preexec_fn=lambda: signal.signal(signal.SIGINT, signal.SIG_DFL))
+            first = it.stdout.readline()
+            time.sleep(0.3)
+            it.send_signal(number)
+            try:
+                out, _ = it.communicate(timeout=20)
+            except subprocess.TimeoutExpired:
+                it.kill()
+                out = "no end"
+            held = subprocess.run(["ps", "-eo", "args"], capture_output=True, text=True).stdout.count("sleep 33.25") if shutil.which("ps") else 0
+            trial(f"a check that hangs in each.sh -j {jobs} ends at {name}", (it.returncode, first, out, held, list(left.iterdir())) == (wanted, "entry 0 (mark before the flush): failed (status 5)\n", "1 checked, 1 failed, the first is entry 0\n", 0, []), (it.returncode, first, out, held))
+        ran = subprocess.run(["sh", "-c", '"$@" true | head -1', "sh", *words], capture_output=True, text=True, env=dict(os.environ, TMPDIR=str(left)))
+        until = time.time() + 10
+        while list(left.iterdir()) and time.time() < until:
+            time.sleep(0.05)
+        trial(f"each.sh -j {jobs} | head -1 leaves no folder", (ran.stdout, ran.stderr, list(left.iterdir())) == ("entry 0 (mark before the flush): passed\n", "", []), ran)
+
+
+def bisected(room):
+    for bad in range(6):
+        status, states, last, ran = loop(room, "--bisect", "all", check=("sh", "-c", f"test $DMLW_ENTRY -lt {bad}"))
+        ends = re.findall(r"^the (last good|first bad): entry (\d).*\n  \S+ replay \S+ \S+ (\S+) (\S+)$", ran.stdout, re.M)
+        wanted = [("last good", str(bad - 1), "good.img", f"entries:{bad}")] * (0 < bad < 5) + [("first bad", str(bad), "bad.img", f"entries:{bad + 1}")] * (bad < 5)
+        trial(f"--bisect finds the first bad entry, {bad} of 5", (status, ends) == (int(bad < 5), wanted) and len(states) <= 4 and "taken for granted" in ran.stdout, ran)
+
+
+def kernel_log(entries):
+    """A log of entries of one sector each: its flags and the sector."""
+    made = [struct.pack("<QQQQ", sector, 0 if flags & 1 else 1, flags, 0).ljust(512, b"\0") + (b"" if flags & 1 else bytes([65 + number]) * 512) for number, (flags, sector) in enumerate(entries)]
+    return struct.pack("<QQQI", 0x6A736677736872, 1, len(made), 512).ljust(512, b"\0") + b"".join(made)
+
+
+def doubts(room):
+    """The pairs of a FUA write and a plain write that may be older, by the flushes between them, and up to where they count."""
+    log, plain, flush, fua = room / "doubts.log", 0, 1, 2
+    cases = (
+        ("none", [(fua, 3), (plain, 4), (flush, 0)], []),
+        ("at once", [(fua, 3), (plain, 3), (flush, 0), (plain, 5)], [(0, 1, 0, 3, 3)]),
+        ("behind a flush", [(fua, 3), (flush, 0), (plain, 3)], [(0, 2, 1, 3, 2)]),
+        ("behind two", [(fua, 3), (flush, 0), (flush, 0), (plain, 3)], []),
+        ("mended by a FUA write", [(fua, 3), (plain, 3), (plain, 9), (fua, 3)], [(0, 1, 0, 3, 2)]),
+        ("mended by a later write", [(fua, 3), (plain, 3), (flush, 0), (flush, 0), (plain, 3)], [(0, 1, 0, 3, 3)]),
+        ("before the FUA write", [(plain, 3), (fua, 3)], []),
+    )
+    for name, entries, wanted in cases:
+        log.write_bytes(kernel_log(entries))
+        ran = subprocess.run([room / "home/examples/doubts.sh", log], capture_output=True, text=True)
+        found = [tuple(map(int, it)) for it in re.findall(r"^entries (\d+) \(.*?\) and (\d+) \(.*?\): (\d) flush(?:es)? between, sector (\d+), doubtful from \d+ to (\d+)$", ran.stdout, re.M)]
+        trial(f"doubts.sh: {name}", (ran.returncode, ran.stderr, found) == (int(bool(wanted)), "", wanted), ran)
+        for one, other, _, _, last in wanted:
+            each = {number: subprocess.run([room / "home/examples/doubts.sh", log, str(number)], capture_output=True).returncode for number in range(len(entries))}
+            trial("and in which prefixes", each == {number: int(other <= number <= last) for number in each}, each)
+    for words, wanted in (([], 2), ([log, "x"], 2), ([log, "9"], 2), ([room / "none"], 2), ([room / "first"], 3)):
+        ran = subprocess.run([room / "home/examples/doubts.sh", *words], capture_output=True)
+        trial(f"doubts.sh with wrong words, {len(words)}", ran.returncode == wanted and ran.stderr != b"", ran)
+
+
+def zsh(home):
+    """What zsh makes of a line with a tab in it."""
+    at, end = pty.openpty()
+    env = dict(os.environ, PATH=f"{home}:{os.environ['PATH']}", TERM="dumb")
+    it = subprocess.Popen(["zsh", "-f", "-i"], stdin=end, stdout=end, stderr=end, cwd=home, env=env, start_new_session=True)
+    os.write(at, f"fpath=({ROOT}/packaging $fpath); autoload -Uz compinit; compinit -u -D; echo be''gun\n".encode())
+    told, until = b"", time.time() + 30
+    while b"begun" not in told and time.time() < until:
+        told += os.read(at, 65536)
+    os.write(at, b"dmlw replay a b c ent\tX")
+    while b"X" not in told.split(b"begun")[-1] and time.time() < until:
+        told += os.read(at, 65536)
+    time.sleep(0.5)
+    told += os.read(at, 65536) if b"entries" not in told else b""
+    it.kill()
+    it.wait()
+    os.close(at)
+    os.close(end)
+    return told
+
+
 def unpacked(room, name):
     file = room / name
     file.write_bytes(lzma.decompress((ROOT / f"examples/{name}.xz").read_bytes()))
@@ -416,6 +534,12 @@ def each_of_sample(room):
         trial(f"the sample's ext4 is whole at its {which}", ran.returncode == 0 and ran.stdout.endswith(" 0 failed\n"), ran)
     ran = subprocess.run([each, "--stop", "marks", log, first, ROOT / "examples/check-ext4.sh"], capture_output=True, text=True)
     trial("and so it is at the first mark", ran.returncode == 0, ran)
+    check = ROOT / "examples/check-fsync-a.sh"
+    ran = subprocess.run([each, "-j", "0", "--from", "mark:mkfs", "marks", log, first, check], capture_output=True, text=True)
+    trial("at its mark fsync-a the file is there", ran.returncode == 0 and "(mark fsync-a): passed" in ran.stdout, ran)
+    run("replay", log, first, out, "mark:mkfs")
+    ran = subprocess.run([check, out], capture_output=True, text=True, env=dict(os.environ, DMLW_MARK="fsync-a"))
+    trial("and a state without it doesn't pass", ran.returncode == 1 and "isn't as it was synced" in ran.stdout, ran)
     ran = subprocess.run([each, "--stop", "all", log, first, ROOT / "examples/check-ext4.sh"], capture_output=True, text=True)
     trial("but not before mkfs has ended", ran.returncode == 1 and "entry 0 (flush): failed (status " in ran.stdout, ran)
 
@@ -457,11 +581,16 @@ def completions(room):
         trial("fish completes the commands", sorted(told) == sorted([*shown, *wanted["WHAT"]]), ran)
     else:
         print("--   packaging/dmlw.fish: no fish")
+    if shutil.which("zsh"):
+        told = zsh(home)
+        trial("zsh adds no space after entries:", b"entries:X" in told, told)
+    else:
+        print("--   packaging/_dmlw: no zsh")
 
 
 def installed(room):
     home, root = room / "home", room / "root"
-    for it in ("Makefile", "README.md"):
+    for it in ("Makefile", "README.md", "CONTRIBUTING.md"):
         shutil.copy(ROOT / it, home)
     for it in ("packaging", "docs"):
         shutil.copytree(ROOT / it, home / it)
@@ -479,6 +608,17 @@ def installed(room):
     bare = dict(os.environ, PATH=f"{root}/usr/bin:{os.environ['PATH']}")
     ran = subprocess.run([root / "usr/share/dmlw/examples/each.sh", "all", room / "marks.log", room / "first", "true"], capture_output=True, text=True, env=bare)
     trial("so does its each.sh, by the PATH", (ran.returncode, ran.stderr) == (0, "") and ran.stdout.endswith("5 checked, 0 failed\n"), ran)
+    words = [root / "usr/share/dmlw/examples/each.sh", "all", room / "marks.log", room / "first", "true"]
+    ran = subprocess.run(words, capture_output=True, text=True)
+    trial("and without the PATH", (ran.returncode, ran.stderr) == (0, "") and ran.stdout.endswith("5 checked, 0 failed\n"), ran)
+    for word in ("--help", "help", "-h"):
+        ran = subprocess.run([root / "usr/bin/dmlw", word], capture_output=True)
+        trial(f"{word} of the installed program has no --rebuild", ran.returncode == 0 and b"--explain" in ran.stdout and b"--rebuild" not in ran.stdout, ran)
+    ran = subprocess.run([root / "usr/bin/dmlw", "--rebuild"], capture_output=True)
+    trial("which it refuses", (ran.returncode, ran.stdout) == (2, b"") and b"checkout" in ran.stderr, ran)
+    named = set(re.findall(r"\b(?:docs/[\w/]+\.md|CONTRIBUTING\.md)", (ROOT / "README.md").read_text(encoding="utf-8")))
+    lacking = [it for it in named if not (root / "usr/share/doc/dmlw" / it).is_file()]
+    trial("the pages that README names are installed", named and not lacking, lacking)
     if shutil.which("dpkg-deb"):
         ran = subprocess.run([home / "packaging/deb.sh", room], capture_output=True, text=True)
         made = ran.stdout.strip()
@@ -658,7 +798,10 @@ def manual(room):
 
 with tempfile.TemporaryDirectory() as at:
     make_home(pathlib.Path(at))
-    for part in (files, memory, replays, texts, terminal, shipped, each, each_of_sample, completions, installed, checks, each_of_ext4, devices, manual, pipes, full_disk, killed):
-        part(pathlib.Path(at))
+    for part in (files, memory, replays, texts, terminal, shipped, each, each_of_some, each_at_once, each_ended, bisected, each_of_sample, doubts, completions, installed, checks, each_of_ext4, devices, manual, pipes, full_disk, killed):
+        try:
+            part(pathlib.Path(at))
+        except (OSError, LookupError, ValueError, subprocess.SubprocessError) as error:  # what the program left can't be read
+            trial(f"{part.__name__} goes to its end", False, repr(error))
 print(f"{len(passed)} passed, {len(failed)} failed")
 sys.exit(1 if failed else 0)

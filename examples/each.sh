@@ -181,21 +181,29 @@ fi
 
 # --- The folder, which goes at the end, however that comes.
 
-# Whether /dev/shm has twice the room, and the machine twice the memory, that the images take.
+# Whether /dev/shm has twice the room, and the machine twice the memory, that the images and the parts of the log may take.
 in_memory() {
-    [ -f "$first" ] && [ -d /dev/shm ] && [ -w /dev/shm ] && { df -Pk /dev/shm && cat /proc/meminfo; } 2>/dev/null |
-        awk -v need="$((($(wc -c <"$first") / 1024 + 8192) * 3 * 2 * jobs))" 'NR == 2 { free = $4 } /^MemAvailable:/ { left = $2 } END { exit free < need || left < need }'
+    [ -f "$first" ] && [ -f "$log" ] && [ -d /dev/shm ] && [ -w /dev/shm ] && { df -Pk /dev/shm && cat /proc/meminfo; } 2>/dev/null |
+        awk -v image="$(wc -c <"$first")" -v log_size="$(du -kL "$log" | cut -f1)" -v jobs="$jobs" '
+            NR == 2 { free = $4 }
+            /^MemAvailable:/ { left = $2 }
+            END { need = (image / 1024 * 3 + log_size + 8192) * jobs * 2; exit free < need || left < need }'
 }
 
-# Ends what runs: each worker is the head of a process group, so that its check ends too.
+signal_workers() {
+    for pid in $pids; do kill -s "$1" -- "-$pid" 2>/dev/null || kill -s "$1" "$pid" 2>/dev/null; done
+}
+
+# Ends what runs, and waits for it, since a check may have something to undo, such as a mount. Each worker is the head of a process group, so that its check gets the signal
+# too. A second signal to the loop ends a check that doesn't end at the first.
 end_workers() {
-    for pid in $pids; do kill -s TERM -- "-$pid" 2>/dev/null || kill "$pid" 2>/dev/null; done
+    trap 'signal_workers KILL' HUP INT TERM
+    signal_workers TERM
     [ -z "$pids" ] || wait
     pids=
 }
 
 interrupted() {
-    trap '' HUP INT TERM
     end_workers
     [ -z "$checked" ] || summary 2>/dev/null
     exit "$1"
@@ -204,7 +212,7 @@ interrupted() {
 pids=
 checked=
 room=
-trap 'trap "" HUP INT TERM PIPE; end_workers; [ -z "$room" ] || rm -rf "$room"' EXIT
+trap 'trap "" PIPE; end_workers; [ -z "$room" ] || rm -rf "$room"' EXIT
 trap 'interrupted 129' HUP
 trap 'interrupted 130' INT
 trap 'exit 141' PIPE

@@ -9,5 +9,8 @@ set -u
 [ $# = 1 ] || { echo "usage: $0 IMAGE" && exit 127; }
 PATH=$PATH:/usr/sbin:/sbin
 command -v e2fsck >/dev/null || { echo "e2fsck isn't here: it is one of e2fsprogs" && exit 127; }
-e2fsck -E journal_only -p "$1" || exit 1
+e2fsck -E journal_only -p "$1"
+ended=$?
+# (a crash of e2fsck keeps its status; of its own, 1 to 3 are that it changed something, and 3 would say that the image can't be checked)
+case $ended in 0) ;; [123]) exit 1 ;; *) exit $ended ;; esac
 exec e2fsck -fn "$1"

@@ -19,3 +19,5 @@ mod replaying;
 mod short_lists;
 #[cfg(test)]
 mod storing;
+#[cfg(test)]
+mod writes;

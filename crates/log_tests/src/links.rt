@@ -1,18 +1,20 @@
 //! Tests of how many links the core changes, and of whether it uses its rows again.
 use bio::{Bio, Id};
 use pending::*;
-use std::alloc::{AllocError, Global};
-use std::test::Fail;
+use std::alloc::Global;
+use std::process::Abort;
 
 // Submits a discard of one sector, and returns its id.
-fn submit(core: &mut Core, sector: u64) -> Result<u64, AllocError> {
-    let answer = core.submit(&Bio::Discard {
-        first: sector,
-        count: 1,
-    })?;
+fn submit(rt: &impl Abort, core: &mut Core, sector: u64) -> u64 {
+    let answer = core
+        .submit(&Bio::Discard {
+            first: sector,
+            count: 1,
+        })
+        .expect(rt, "memory");
     match answer {
-        Submitted::Tracked(id) => Ok(id.place()),
-        Submitted::Passed => Ok(u64::MAX),
+        Submitted::Tracked(id) => id.place(),
+        Submitted::Passed => u64::MAX,
     }
 }
 
@@ -26,9 +28,9 @@ fn end(core: &mut Core, place: u64) {
 
 // Submits `count` discards; their ids are `from` and the next ones. Then ends them in steps of
 // seven, modulo `count`.
-fn end_all(core: &mut Core, from: u64, count: u64) -> Result<(), AllocError> {
+fn end_all(rt: &impl Abort, core: &mut Core, from: u64, count: u64) {
     for sector in 0..count {
-        submit(core, sector)?;
+        submit(rt, core, sector);
     }
     for number in 0..count {
         end(
@@ -36,7 +38,6 @@ fn end_all(core: &mut Core, from: u64, count: u64) -> Result<(), AllocError> {
             from.wrapping_add(number.wrapping_mul(7).checked_rem(count).unwrap_or(0)),
         );
     }
-    Ok(())
 }
 
 // Takes the next entry, and returns its id.
@@ -57,12 +58,12 @@ fn take_all(core: &mut Core, from: u64, count: u64, flush: u64) -> u64 {
 }
 
 #[test]
-fn a_flush_changes_few_links(rt: HostRuntime) -> Result<(), Fail> {
-    let mut core = Core::new(rt.alloc())?;
-    end_all(&mut core, 0, 1000)?;
+fn a_flush_changes_few_links(rt: HostRuntime) {
+    let mut core = Core::new(rt.alloc()).expect(&rt, "memory");
+    end_all(&rt, &mut core, 0, 1000);
     let flush = core.events().len() as u64;
     let before = core.links_changed();
-    core.submit(&Bio::Flush)?;
+    core.submit(&Bio::Flush).expect(&rt, "memory");
     let submitted = core.links_changed();
     end(&mut core, flush);
     let ended = core.links_changed();
@@ -74,40 +75,38 @@ fn a_flush_changes_few_links(rt: HostRuntime) -> Result<(), Fail> {
     assert!(rt; 1001 <= two && two <= 3 * 1001 + 8, "end: {two}");
     assert_eq!(rt; take_all(&mut core, 0, 1000, flush), 1001);
     assert!(rt; core.take().is_none());
-    Ok(())
 }
 
 // Returns how many rows the core's chains have. It counts them in the core's debug text.
-fn rows_shown(alloc: Global, core: &Core) -> Result<usize, AllocError> {
-    let shown = format!(in alloc; "{core:?}")?;
+fn rows_shown(rt: &impl Abort, alloc: Global, core: &Core) -> usize {
+    let shown = format!(in alloc; "{core:?}").expect(rt, "memory");
     let (_, links) = shown.as_str().split_once("next: [").unwrap_or(("", ""));
     let (rows, _) = links.split_once(']').unwrap_or(("", ""));
-    Ok(rows.split(',').count())
+    rows.split(',').count()
 }
 
 // In each of `count` rounds, `requests` requests end, a flush ends, and all entries are taken.
 // Returns how many rows there are after the second and after the last round.
-fn rounds(alloc: Global, count: u64, requests: u64) -> Result<(usize, usize), AllocError> {
-    let mut core = Core::new(alloc)?;
+fn rounds(rt: &impl Abort, alloc: Global, count: u64, requests: u64) -> (usize, usize) {
+    let mut core = Core::new(alloc).expect(rt, "memory");
     let mut second = 0;
     for round in 0..count {
         let from = core.events().len() as u64;
-        end_all(&mut core, from, requests)?;
+        end_all(rt, &mut core, from, requests);
         let flush = core.events().len() as u64;
-        core.submit(&Bio::Flush)?;
+        core.submit(&Bio::Flush).expect(rt, "memory");
         end(&mut core, flush);
         for _ in 0..requests.saturating_add(1) {
             core.take();
         }
         if round == 1 {
-            second = rows_shown(alloc, &core)?;
+            second = rows_shown(rt, alloc, &core);
         }
     }
-    Ok((second, rows_shown(alloc, &core)?))
+    (second, rows_shown(rt, alloc, &core))
 }
 
 #[test]
-fn rows_are_used_again(rt: HostRuntime) -> Result<(), Fail> {
-    assert_eq!(rt; rounds(rt.alloc(), 200, 100)?, (101, 101));
-    Ok(())
+fn rows_are_used_again(rt: HostRuntime) {
+    assert_eq!(rt; rounds(&rt, rt.alloc(), 200, 100), (101, 101));
 }

@@ -20,7 +20,7 @@ pub fn output_of<F: Files>(
     alloc: Global,
     line: &str,
     files: &mut F,
-) -> Result<String, Fail> {
+) -> Result<String, AllocError> {
     let words = words_of(alloc, line)?;
     let mut session = Session {
         alloc,
@@ -43,7 +43,7 @@ fn words_of<'a>(alloc: Global, line: &'a str) -> Result<Vec<&'a str>, AllocError
 }
 
 // Returns `status|output|errors`, with `;` for each line feed.
-fn told(alloc: Global, status: u8, out: &[u8], err: &[u8]) -> Result<String, Fail> {
+fn told(alloc: Global, status: u8, out: &[u8], err: &[u8]) -> Result<String, AllocError> {
     let out = str::from_utf8(out).unwrap_or_default();
     let err = str::from_utf8(err).unwrap_or_default();
     let told = format!(in alloc; "{status}|{out}|{err}")?;
@@ -51,7 +51,7 @@ fn told(alloc: Global, status: u8, out: &[u8], err: &[u8]) -> Result<String, Fai
 }
 
 /// Returns a text with `;` for each line feed.
-pub fn with_semicolons(alloc: Global, text: &str) -> Result<String, Fail> {
+pub fn with_semicolons(alloc: Global, text: &str) -> Result<String, AllocError> {
     let mut shown = String::new(alloc);
     for letter in text.chars() {
         shown.push(if letter == '\n' { ';' } else { letter })?;
@@ -80,7 +80,7 @@ fn check_output<F: Files>(
     files: &mut F,
     line: &str,
     wanted: &str,
-) -> Result<(), Fail> {
+) -> Result<(), AllocError> {
     let told = output_of(rt, alloc, line, files)?;
     let (status, told) = told.as_str().split_once('|').unwrap_or_default();
     let (out, err) = told.split_once('|').unwrap_or_default();
@@ -98,7 +98,7 @@ fn check_outputs<F: Files>(
     rt: &(impl Abort + Print + Threads + Wait + Sync),
     alloc: Global,
     files: &mut F,
-) -> Result<(), Fail> {
+) -> Result<(), AllocError> {
     for row in OUTPUTS.split('\n') {
         let (line, wanted) = row.split_once('=').unwrap_or_default();
         check_output(rt, alloc, files, line, wanted)?;
@@ -111,17 +111,18 @@ fn check_outputs<F: Files>(
 #[test]
 fn reports_lack_of_memory(rt: HostRuntime) -> Result<(), Fail> {
     let mut folder = folder_of(rt.alloc(), FIRST)?;
-    check_outputs(&rt, rt.alloc(), &mut folder)
+    check_outputs(&rt, rt.alloc(), &mut folder)?;
+    Ok(())
 }
 
 // Records the folder's script, and returns the log's bytes.
 fn log_of(
-    rt: &(impl Threads + Wait + Sync),
+    rt: &(impl Abort + Threads + Wait + Sync),
     alloc: Global,
     folder: &mut Folder,
-) -> Result<Vec<u8>, Fail> {
-    let _ = output_of(rt, alloc, "record script log", folder)?;
-    Ok(Vec::from_slice(alloc, folder.bytes("log").unwrap_or_default())?)
+) -> Vec<u8> {
+    let _ = output_of(rt, alloc, "record script log", folder).expect(rt, "memory");
+    Vec::from_slice(alloc, folder.bytes("log").unwrap_or_default()).expect(rt, "memory")
 }
 
 // Checks a command's exit status, given as `0|` or `1|`.
@@ -131,10 +132,9 @@ fn check_status<F: Files>(
     files: &mut F,
     line: &str,
     status: &str,
-) -> Result<(), Fail> {
-    let told = output_of(rt, alloc, line, files)?;
+) {
+    let told = output_of(rt, alloc, line, files).expect(rt, "memory");
     assert!(rt; holds(rt, told.as_str().starts_with(status), line));
-    Ok(())
 }
 
 // Checks the exit status of a command, as `check_status` does, if its image seems to have `length`
@@ -146,7 +146,7 @@ fn check_length(
     length: u64,
     line: &str,
     status: &str,
-) -> Result<(), Fail> {
+) {
     let mut files = OneFile::new(image);
     files.length = length;
     check_status(rt, alloc, &mut files, line, status)
@@ -154,14 +154,17 @@ fn check_length(
 
 // An image may have 2^29 bytes, but not one more.
 #[test]
-fn refuses_a_longer_image(rt: HostRuntime) -> Result<(), Fail> {
+fn refuses_a_longer_image(rt: HostRuntime) {
     let alloc = rt.alloc();
-    let image = log_of(&rt, alloc, &mut folder_of(alloc, FIRST)?)?;
+    let image = log_of(
+        &rt,
+        alloc,
+        &mut folder_of(alloc, FIRST).expect(&rt, "memory"),
+    );
     for line in ["list image", "status image"] {
-        check_length(&rt, alloc, &image, 536_870_912, line, "0|")?;
-        check_length(&rt, alloc, &image, 536_870_913, line, "1|")?;
+        check_length(&rt, alloc, &image, 536_870_912, line, "0|");
+        check_length(&rt, alloc, &image, 536_870_913, line, "1|");
     }
-    Ok(())
 }
 
 // A writer that counts its writes.
@@ -274,12 +277,14 @@ fn check_reasons<F: Files>(
     rt: &(impl Abort + Print + Threads + Wait + Sync),
     alloc: Global,
     files: &mut F,
-) -> Result<(), Fail> {
-    let told = output_of(rt, alloc, "--explain list no-such-folder/log", files)?;
+) {
+    let told = output_of(rt, alloc, "--explain list no-such-folder/log", files);
+    let told = told.expect(rt, "memory");
     let wanted =
         "1||dmlw: 32 File;  no-such-folder/log can't be read: No such file or directory (os error 2);";
     assert!(rt; is_told(rt, told.as_str(), wanted, "a file that isn't there"));
-    let told = output_of(rt, alloc, "--explain record same same", files)?;
+    let told = output_of(rt, alloc, "--explain record same same", files);
+    let told = told.expect(rt, "memory");
     let is_begun = told.as_str().starts_with("1||dmlw: 32 File;");
     let ending = "the log would be written over its script;";
     assert!(rt;
@@ -289,12 +294,11 @@ fn check_reasons<F: Files>(
             told.as_str()
         )
     );
-    Ok(())
 }
 
 // `--explain` prints the system's reasons.
 #[test]
-fn explains_files(rt: HostRuntime) -> Result<(), Fail> {
+fn explains_files(rt: HostRuntime) {
     let mut files = HostFiles::new(&rt, rt.alloc());
     check_reasons(&rt, rt.alloc(), &mut files)
 }

@@ -8,7 +8,6 @@ use sector_disk::{Image, SectorDisk};
 use std::alloc::Global;
 use std::os::unix::fs::{PermissionsExt, symlink};
 use std::process::Abort;
-use std::test::Fail;
 use std::{fs, io};
 
 // The most bytes that these tests read.
@@ -17,22 +16,24 @@ const LIMIT: u64 = 1_000_000;
 // Returns a disk of `sectors` sectors: sector `sector` is filled with `byte`, and the others are
 // zeroes.
 pub(crate) fn disk_with(
+    rt: &impl Abort,
     alloc: Global,
     sectors: u64,
     sector: u64,
     byte: u8,
-) -> Result<SectorDisk, Fail>
+) -> SectorDisk
     requires few { sectors ≤ 2048 }
     requires there { sector < sectors }
 {
-    let mut disk = SectorDisk::new(alloc, sectors)?;
-    disk.write(Ms::new(0), sector, [byte; 512].as_slice(), false)?;
-    Ok(disk)
+    let mut disk = SectorDisk::new(alloc, sectors).expect(rt, "memory");
+    disk.write(Ms::new(0), sector, [byte; 512].as_slice(), false)
+        .expect(rt, "a disk never fails");
+    disk
 }
 
 // Returns a disk of one sector, which is filled with `byte`.
-pub(crate) fn disk_of(alloc: Global, byte: u8) -> Result<SectorDisk, Fail> {
-    disk_with(alloc, 1, 0, byte)
+pub(crate) fn disk_of(rt: &impl Abort, alloc: Global, byte: u8) -> SectorDisk {
+    disk_with(rt, alloc, 1, 0, byte)
 }
 
 // Returns whether the file `name` has these bytes.
@@ -57,18 +58,16 @@ pub(crate) fn has_bytes(alloc: Global, image: &Image, bytes: &[u8]) -> bool {
 }
 
 // Checks that a shorter file replaces a longer one, and that a file that is too long isn't read.
-fn check_lengths<F: Files>(
-    rt: &impl Abort,
-    alloc: Global,
-    files: &mut F,
-    name: &str,
-) -> Result<(), Fail> {
-    files.write(alloc, name, disk_with(alloc, 3, 1, 7)?)?;
-    files.write(alloc, name, disk_of(alloc, 8)?)?;
-    let read = files.read(alloc, name, 512)?;
+fn check_lengths<F: Files>(rt: &impl Abort, alloc: Global, files: &mut F, name: &str) {
+    files
+        .write(alloc, name, disk_with(rt, alloc, 3, 1, 7))
+        .expect(rt, "a file");
+    files
+        .write(alloc, name, disk_of(rt, alloc, 8))
+        .expect(rt, "a file");
+    let read = files.read(alloc, name, 512).expect(rt, "a file");
     assert!(rt; has_bytes(alloc, &read, [8; 512].as_slice()));
     assert!(rt; matches!(files.read(alloc, name, 511), Err(FileError::Unusable)));
-    Ok(())
 }
 
 // Writes a disk's image and reads it again. The disk's bytes are zeroes, except for sector
@@ -80,29 +79,23 @@ fn check_written<F: Files>(
     name: &str,
     sector: u64,
     byte: u8,
-) -> Result<(), Fail>
+)
     requires { sector < 1500 }
 {
-    let disk = disk_with(alloc, 1500, sector, byte)?;
-    let image = disk.bytes()?;
-    files.write(alloc, name, disk)?;
-    let read = files.read(alloc, name, LIMIT)?;
+    let disk = disk_with(rt, alloc, 1500, sector, byte);
+    let image = disk.bytes().expect(rt, "memory");
+    files.write(alloc, name, disk).expect(rt, "a file");
+    let read = files.read(alloc, name, LIMIT).expect(rt, "a file");
     assert!(rt; has_bytes(alloc, &read, image.as_slice()));
-    Ok(())
 }
 
 // Checks that an image reads back with its zeroes before, between and after other bytes, though a
 // write skips zeroes.
-fn check_zeroes<F: Files>(
-    rt: &impl Abort,
-    alloc: Global,
-    files: &mut F,
-    name: &str,
-) -> Result<(), Fail> {
-    check_written(rt, alloc, files, name, 0, 0)?;
-    check_written(rt, alloc, files, name, 1, 7)?;
-    check_written(rt, alloc, files, name, 127, 7)?;
-    check_written(rt, alloc, files, name, 128, 7)?;
+fn check_zeroes<F: Files>(rt: &impl Abort, alloc: Global, files: &mut F, name: &str) {
+    check_written(rt, alloc, files, name, 0, 0);
+    check_written(rt, alloc, files, name, 1, 7);
+    check_written(rt, alloc, files, name, 127, 7);
+    check_written(rt, alloc, files, name, 128, 7);
     check_written(rt, alloc, files, name, 1499, 7)
 }
 
@@ -113,13 +106,12 @@ fn check_gone<R: std::rt::Files + Abort, F: Files>(
     alloc: Global,
     files: &mut F,
     name: &str,
-) -> Result<(), Fail> {
-    assert!(rt; !fs::exists(rt, "dmlw-test-file.dmlw-tmp-0")?);
-    fs::remove_file(rt, name)?;
+) {
+    assert!(rt; !fs::exists(rt, "dmlw-test-file.dmlw-tmp-0").expect(rt, "a call of the system"));
+    fs::remove_file(rt, name).expect(rt, "a call of the system");
     assert!(rt; matches!(files.read(alloc, name, 6), Err(FileError::Unusable)));
     let gone = "no such folder/file";
-    assert!(rt; files.write(alloc, gone, disk_of(alloc, 1)?) == Err(FileError::Unusable));
-    Ok(())
+    assert!(rt; files.write(alloc, gone, disk_of(rt, alloc, 1)) == Err(FileError::Unusable));
 }
 
 fn check_files<R: std::rt::Files + Abort, F: Files>(
@@ -127,14 +119,14 @@ fn check_files<R: std::rt::Files + Abort, F: Files>(
     alloc: Global,
     files: &mut F,
     name: &str,
-) -> Result<(), Fail> {
-    check_lengths(rt, alloc, files, name)?;
-    check_zeroes(rt, alloc, files, name)?;
+) {
+    check_lengths(rt, alloc, files, name);
+    check_zeroes(rt, alloc, files, name);
     check_gone(rt, alloc, files, name)
 }
 
 #[test]
-fn files_are_read_as_they_were_written(rt: HostRuntime) -> Result<(), Fail> {
+fn files_are_read_as_they_were_written(rt: HostRuntime) {
     check_files(
         &rt,
         rt.alloc(),
@@ -165,13 +157,21 @@ fn check_link<R: std::rt::Files + Abort, F: Files>(
     files: &mut F,
     name: &str,
     link: &str,
-) -> Result<(), Fail> {
+) {
     assert!(rt; files.is_same(name, link) && files.is_same(link, link));
     assert!(rt; !files.is_same(name, "dmlw-test-none"));
-    files.write(alloc, link, disk_of(alloc, 2)?)?;
-    assert!(rt; fs::symlink_metadata(rt, link)?.is_symlink());
-    assert!(rt; holds(rt, alloc, name, [2; 512].as_slice()) && mode_of(rt, name)? == 0o640);
-    Ok(())
+    files
+        .write(alloc, link, disk_of(rt, alloc, 2))
+        .expect(rt, "a file");
+    assert!(rt;
+        fs::symlink_metadata(rt, link)
+            .expect(rt, "a call of the system")
+            .is_symlink()
+    );
+    assert!(rt;
+        holds(rt, alloc, name, [2; 512].as_slice())
+            && mode_of(rt, name).expect(rt, "a call of the system") == 0o640
+    );
 }
 
 // Checks writes through a link. A link to no file is refused, and a device is written directly.
@@ -181,18 +181,19 @@ fn check_links<R: std::rt::Files + Abort, F: Files>(
     files: &mut F,
     name: &str,
     link: &str,
-) -> Result<(), Fail> {
-    link_to(rt, name, link)?;
-    check_link(rt, alloc, files, name, link)?;
-    fs::remove_file(rt, name)?;
-    assert!(rt; files.write(alloc, link, disk_of(alloc, 3)?) == Err(FileError::Unusable));
-    fs::remove_file(rt, link)?;
-    files.write(alloc, "/dev/null", disk_of(alloc, 4)?)?;
-    Ok(())
+) {
+    link_to(rt, name, link).expect(rt, "a call of the system");
+    check_link(rt, alloc, files, name, link);
+    fs::remove_file(rt, name).expect(rt, "a call of the system");
+    assert!(rt; files.write(alloc, link, disk_of(rt, alloc, 3)) == Err(FileError::Unusable));
+    fs::remove_file(rt, link).expect(rt, "a call of the system");
+    files
+        .write(alloc, "/dev/null", disk_of(rt, alloc, 4))
+        .expect(rt, "a file");
 }
 
 #[test]
-fn links_and_modes_are_kept(rt: HostRuntime) -> Result<(), Fail> {
+fn links_and_modes_are_kept(rt: HostRuntime) {
     let mut files = HostFiles::new(&rt, rt.alloc());
     check_links(
         &rt,
@@ -205,37 +206,35 @@ fn links_and_modes_are_kept(rt: HostRuntime) -> Result<(), Fail> {
 
 // Checks that a write leaves another program's file alone, though that file has the temporary
 // file's usual name.
-fn check_beside<R: std::rt::Files + Abort, F: Files>(
-    rt: &R,
-    alloc: Global,
-    files: &mut F,
-) -> Result<(), Fail> {
+fn check_beside<R: std::rt::Files + Abort, F: Files>(rt: &R, alloc: Global, files: &mut F) {
     let (name, beside) = ("dmlw-test-new", "dmlw-test-new.dmlw-tmp-0");
-    fs::write(rt, beside, b"mine".as_slice())?;
-    files.write(alloc, name, disk_of(alloc, 5)?)?;
+    fs::write(rt, beside, b"mine".as_slice()).expect(rt, "a call of the system");
+    files
+        .write(alloc, name, disk_of(rt, alloc, 5))
+        .expect(rt, "a file");
     assert!(rt; holds(rt, alloc, name, [5; 512].as_slice()));
     assert!(rt; holds(rt, alloc, beside, b"mine".as_slice()));
-    fs::remove_file(rt, name)?;
-    fs::remove_file(rt, beside)?;
-    Ok(())
+    fs::remove_file(rt, name).expect(rt, "a call of the system");
+    fs::remove_file(rt, beside).expect(rt, "a call of the system");
 }
 
 #[test]
-fn files_beside_are_kept(rt: HostRuntime) -> Result<(), Fail> {
+fn files_beside_are_kept(rt: HostRuntime) {
     check_beside(&rt, rt.alloc(), &mut HostFiles::new(&rt, rt.alloc()))
 }
 
 // A file under /dev/shm is a regular file, so it is replaced, though its name begins with /dev/.
 #[test]
-fn files_in_memory_are_replaced(rt: HostRuntime) -> Result<(), Fail> {
+fn files_in_memory_are_replaced(rt: HostRuntime) {
     let alloc = rt.alloc();
     let name = "/dev/shm/dmlw-test-memory";
     let mut files = HostFiles::new(&rt, rt.alloc());
     // Not every machine has such a folder.
     if fs::write(&rt, name, b"older and longer".as_slice()).is_ok() {
-        files.write(alloc, name, disk_of(alloc, 6)?)?;
+        files
+            .write(alloc, name, disk_of(&rt, alloc, 6))
+            .expect(&rt, "a file");
         assert!(rt; holds(&rt, alloc, name, [6; 512].as_slice()));
-        fs::remove_file(&rt, name)?;
+        fs::remove_file(&rt, name).expect(&rt, "a call of the system");
     }
-    Ok(())
 }

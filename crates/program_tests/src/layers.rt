@@ -5,7 +5,6 @@ use std::alloc::Global;
 use std::io::Print;
 use std::process::Abort;
 use std::sync::Wait;
-use std::test::Fail;
 use std::thread::Threads;
 use test_devices::holds;
 
@@ -22,10 +21,10 @@ const LOWER: [&str; 4] = [
 
 // Returns a script whose log has three layers: the two layers `first` and `second`, and a fuse of
 // `calls` calls over both.
-fn layered(alloc: Global, first: &str, second: &str, calls: u64) -> Result<String, Fail> {
-    Ok(format!(in alloc;
+fn layered(rt: &impl Abort, alloc: Global, first: &str, second: &str, calls: u64) -> String {
+    format!(in alloc;
         "data 16\nlog 32\nlog-layer {first}\nlog-layer {second}\nlog-layer 0 32 fuse disk 0 {calls}\nw a 5 1 41\nc a\nf b\nc b\nclose\n"
-    )?)
+    ).expect(rt, "memory")
 }
 
 // Returns whether a listing has a first line, and after it a prefix of `WHOLE`.
@@ -43,49 +42,47 @@ fn check_layers(
     first: &str,
     second: &str,
     calls: u64,
-) -> Result<(), Fail> {
-    let script = layered(alloc, first, second, calls)?;
-    let listed = listed_of(rt, alloc, script.as_str())?;
+) {
+    let script = layered(rt, alloc, first, second, calls);
+    let listed = listed_of(rt, alloc, script.as_str());
     assert!(rt; holds(rt, is_beginning(listed.as_str()), script.as_str()));
-    Ok(())
 }
 
 // Any two layers lie under a fuse of 0 to 6 calls. If the log could be made, its entries are a
 // prefix of `WHOLE`.
 #[test]
-fn layers_leave_beginnings(rt: HostRuntime) -> Result<(), Fail> {
+fn layers_leave_beginnings(rt: HostRuntime) {
     let alloc = rt.alloc();
     for first in LOWER {
         for second in LOWER {
             for calls in 0..7 {
-                check_layers(&rt, alloc, first, second, calls)?;
+                check_layers(&rt, alloc, first, second, calls);
             }
         }
     }
-    Ok(())
 }
 
 // Records a script, and returns the listing of its log. If the log's device refused the log,
 // returns a listing of all entries.
-fn listed_of(
-    rt: &(impl Threads + Wait + Sync),
-    alloc: Global,
-    script: &str,
-) -> Result<String, Fail> {
-    list_after(rt, alloc, &mut folder_of(alloc, script)?)
+fn listed_of(rt: &(impl Abort + Threads + Wait + Sync), alloc: Global, script: &str) -> String {
+    list_after(
+        rt,
+        alloc,
+        &mut folder_of(alloc, script).expect(rt, "memory"),
+    )
 }
 
 // Records the file `script` among `files`, and lists its log, as `listed_of` does.
 fn list_after<F: Files>(
-    rt: &(impl Threads + Wait + Sync),
+    rt: &(impl Abort + Threads + Wait + Sync),
     alloc: Global,
     files: &mut F,
-) -> Result<String, Fail> {
-    let told = output_of(rt, alloc, "record script log", files)?;
+) -> String {
+    let told = output_of(rt, alloc, "record script log", files).expect(rt, "memory");
     if told.as_str().ends_with("dmlw: 19 Device;") {
-        return Ok(format!(in alloc; "none;{WHOLE}")?);
+        return format!(in alloc; "none;{WHOLE}").expect(rt, "memory");
     }
-    let told = output_of(rt, alloc, "list log", files)?;
+    let told = output_of(rt, alloc, "list log", files).expect(rt, "memory");
     let listed = told.as_str().strip_prefix("0|").unwrap_or("");
-    Ok(String::from_str(alloc, listed.trim_end_matches('|'))?)
+    String::from_str(alloc, listed.trim_end_matches('|')).expect(rt, "memory")
 }

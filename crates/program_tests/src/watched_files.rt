@@ -9,7 +9,6 @@ use std::fs::{Metadata, OpenFile, OpenOptions, Permissions};
 use std::io::{Read, Seek, SeekFrom, Write};
 use std::path::PathBuf;
 use std::process::Abort;
-use std::test::Fail;
 use std::{fs, io};
 
 // The kind of call that a `Watched` runtime fails.
@@ -206,14 +205,14 @@ fn check_written<R: std::rt::Files + Abort>(
     alloc: Global,
     name: &str,
     noted: &Noted,
-) -> Result<bool, Fail> {
-    fs::write(rt, name, b"older".as_slice())?;
+) -> bool {
+    fs::write(rt, name, b"older".as_slice()).expect(rt, "a call of the system");
     let watched = Watched { runtime: rt, noted };
-    let disk = disk_with(alloc, 300, 150, 7)?;
-    let image = disk.bytes()?;
+    let disk = disk_with(rt, alloc, 300, 150, 7);
+    let image = disk.bytes().expect(rt, "memory");
     let written = HostFiles::new(&watched, alloc).write(alloc, name, disk);
-    let beside = format!(in alloc; "{name}.dmlw-tmp-0")?;
-    assert!(rt; !fs::exists(rt, beside.as_str())?);
+    let beside = format!(in alloc; "{name}.dmlw-tmp-0").expect(rt, "memory");
+    assert!(rt; !fs::exists(rt, beside.as_str()).expect(rt, "a call of the system"));
     match written {
         Ok(()) => assert!(rt; holds(rt, alloc, name, image.as_slice())),
         Err(error) => {
@@ -221,23 +220,22 @@ fn check_written<R: std::rt::Files + Abort>(
             assert!(rt; holds(rt, alloc, name, b"older".as_slice()));
         }
     }
-    fs::remove_file(rt, name)?;
-    Ok(written.is_ok())
+    fs::remove_file(rt, name).expect(rt, "a call of the system");
+    written.is_ok()
 }
 
 // The new file is synced before it is renamed, and is renamed once. Only the piece that isn't
 // zeroes is written.
 #[test]
-fn files_are_synced_before_they_are_renamed(rt: HostRuntime) -> Result<(), Fail> {
+fn files_are_synced_before_they_are_renamed(rt: HostRuntime) {
     let noted = Noted::new(Failing::Nothing);
-    assert!(rt; check_written(&rt, rt.alloc(), "dmlw-test-synced", &noted)?);
+    assert!(rt; check_written(&rt, rt.alloc(), "dmlw-test-synced", &noted));
     assert!(rt; noted.renames.get() == 1 && !noted.is_early.get() && !noted.is_changed.get());
     assert!(rt; noted.written.get() == 65_536);
-    Ok(())
 }
 
 #[test]
-fn files_that_fail_leave_the_older_ones(rt: HostRuntime) -> Result<(), Fail> {
+fn files_that_fail_leave_the_older_ones(rt: HostRuntime) {
     for failing in [
         Failing::Write,
         Failing::Seek,
@@ -246,52 +244,46 @@ fn files_that_fail_leave_the_older_ones(rt: HostRuntime) -> Result<(), Fail> {
         Failing::Rename,
     ] {
         let noted = Noted::new(failing);
-        assert!(rt; !check_written(&rt, rt.alloc(), "dmlw-test-failed", &noted)?);
+        assert!(rt; !check_written(&rt, rt.alloc(), "dmlw-test-failed", &noted));
         assert!(rt; noted.renames.get() == 0);
     }
-    Ok(())
 }
 
 // Checks that a failed write to a pipe is reported.
-fn check_failing_pipe<R: std::rt::Files + Abort>(rt: &R, alloc: Global) -> Result<(), Fail> {
+fn check_failing_pipe<R: std::rt::Files + Abort>(rt: &R, alloc: Global) {
     let name = "dmlw-test-failing-pipe";
-    fs::write(rt, name, b"".as_slice())?;
+    fs::write(rt, name, b"".as_slice()).expect(rt, "a call of the system");
     let noted = Noted::new(Failing::Write);
     let watched = Watched {
         runtime: rt,
         noted: &noted,
     };
-    let written = HostFiles::new(&watched, alloc).write(alloc, name, disk_with(alloc, 1, 0, 7)?);
+    let written = HostFiles::new(&watched, alloc).write(alloc, name, disk_with(rt, alloc, 1, 0, 7));
     assert!(rt; written == Err(FileError::Unusable));
-    fs::remove_file(rt, name)?;
-    Ok(())
+    fs::remove_file(rt, name).expect(rt, "a call of the system");
 }
 
 #[test]
-fn pipes_that_fail_are_reported(rt: HostRuntime) -> Result<(), Fail> {
+fn pipes_that_fail_are_reported(rt: HostRuntime) {
     check_failing_pipe(&rt, rt.alloc())
 }
 
 // Checks that another link to the old file still has the old bytes. So the write replaced the file,
 // and didn't change it in place.
-fn check_replaced<R: std::rt::Files + Abort>(
-    rt: &R,
-    alloc: Global,
-    name: &str,
-    other: &str,
-) -> Result<(), Fail> {
-    fs::write(rt, name, b"older".as_slice())?;
-    fs::hard_link(rt, name, other)?;
-    HostFiles::new(rt, alloc).write(alloc, name, disk_with(alloc, 1, 0, 7)?)?;
+fn check_replaced<R: std::rt::Files + Abort>(rt: &R, alloc: Global, name: &str, other: &str) {
+    fs::write(rt, name, b"older".as_slice()).expect(rt, "a call of the system");
+    fs::hard_link(rt, name, other).expect(rt, "a call of the system");
+    HostFiles::new(rt, alloc)
+        .write(alloc, name, disk_with(rt, alloc, 1, 0, 7))
+        .expect(rt, "a file");
     assert!(rt; holds(rt, alloc, name, [7; 512].as_slice()));
     assert!(rt; holds(rt, alloc, other, b"older".as_slice()));
-    fs::remove_file(rt, name)?;
-    fs::remove_file(rt, other)?;
-    Ok(())
+    fs::remove_file(rt, name).expect(rt, "a call of the system");
+    fs::remove_file(rt, other).expect(rt, "a call of the system");
 }
 
 #[test]
-fn files_are_replaced_whole(rt: HostRuntime) -> Result<(), Fail> {
+fn files_are_replaced_whole(rt: HostRuntime) {
     check_replaced(&rt, rt.alloc(), "dmlw-test-one", "dmlw-test-other")
 }
 
@@ -305,10 +297,10 @@ fn is_read(alloc: Global, found: Result<Image, FileError>, bytes: &[u8]) -> bool
 
 // Checks that the bytes of two pipes can be read twice, though each pipe is empty after the first
 // read.
-fn check_pipes<R: std::rt::Files + Abort>(rt: &R, alloc: Global) -> Result<(), Fail> {
+fn check_pipes<R: std::rt::Files + Abort>(rt: &R, alloc: Global) {
     let (one, other) = ("dmlw-test-one-pipe", "dmlw-test-one-pipe-other-pipe");
-    fs::write(rt, one, b"first".as_slice())?;
-    fs::write(rt, other, b"second".as_slice())?;
+    fs::write(rt, one, b"first".as_slice()).expect(rt, "a call of the system");
+    fs::write(rt, other, b"second".as_slice()).expect(rt, "a call of the system");
     let noted = Noted::new(Failing::Nothing);
     let watched = Watched {
         runtime: rt,
@@ -322,41 +314,39 @@ fn check_pipes<R: std::rt::Files + Abort>(rt: &R, alloc: Global) -> Result<(), F
     assert!(rt; files.read(alloc, one, 4).is_err());
     assert!(rt; matches!(files.failure(), Some(FileFailure::TooLong(0))));
     assert!(rt; holds(rt, alloc, one, b"".as_slice()) && holds(rt, alloc, other, b"".as_slice()));
-    fs::remove_file(rt, one)?;
-    fs::remove_file(rt, other)?;
-    Ok(())
+    fs::remove_file(rt, one).expect(rt, "a call of the system");
+    fs::remove_file(rt, other).expect(rt, "a call of the system");
 }
 
 #[test]
-fn pipes_are_read_again(rt: HostRuntime) -> Result<(), Fail> {
+fn pipes_are_read_again(rt: HostRuntime) {
     check_pipes(&rt, rt.alloc())
 }
 
 // A regular file is read again each time.
 #[test]
-fn regular_files_are_read_anew(rt: HostRuntime) -> Result<(), Fail> {
+fn regular_files_are_read_anew(rt: HostRuntime) {
     let alloc = rt.alloc();
     let name = "dmlw-test-regular";
     let mut files = HostFiles::new(&rt, alloc);
-    fs::write(&rt, name, b"first".as_slice())?;
+    fs::write(&rt, name, b"first".as_slice()).expect(&rt, "a call of the system");
     assert!(rt; is_read(alloc, files.read(alloc, name, 6), b"first".as_slice()));
-    fs::write(&rt, name, b"second".as_slice())?;
+    fs::write(&rt, name, b"second".as_slice()).expect(&rt, "a call of the system");
     assert!(rt; is_read(alloc, files.read(alloc, name, 6), b"second".as_slice()));
-    fs::remove_file(&rt, name)?;
-    Ok(())
+    fs::remove_file(&rt, name).expect(&rt, "a call of the system");
 }
 
 // Checks that a pipe of 4 MiB can be read twice, and a longer pipe only once. If the first read
 // refused a pipe as too long, no later read gets its bytes.
-fn check_long_pipes<R: std::rt::Files + Abort>(rt: &R, alloc: Global) -> Result<(), Fail> {
+fn check_long_pipes<R: std::rt::Files + Abort>(rt: &R, alloc: Global) {
     let most = "dmlw-test-most-pipe";
     let long = "dmlw-test-long-pipe";
     let cut = "dmlw-test-cut-pipe";
-    let bytes = vec![in alloc; 7; 4_194_305]?;
+    let bytes = vec![in alloc; 7; 4_194_305].expect(rt, "memory");
     let (kept, _) = bytes.as_slice().split_at(4_194_304);
-    fs::write(rt, most, kept)?;
-    fs::write(rt, long, bytes.as_slice())?;
-    fs::write(rt, cut, b"first".as_slice())?;
+    fs::write(rt, most, kept).expect(rt, "a call of the system");
+    fs::write(rt, long, bytes.as_slice()).expect(rt, "a call of the system");
+    fs::write(rt, cut, b"first".as_slice()).expect(rt, "a call of the system");
     let noted = Noted::new(Failing::Nothing);
     let watched = Watched {
         runtime: rt,
@@ -375,14 +365,13 @@ fn check_long_pipes<R: std::rt::Files + Abort>(rt: &R, alloc: Global) -> Result<
     }
     assert!(rt; files.read(alloc, cut, 5).is_err());
     assert!(rt; is_unseekable(files.failure()));
-    fs::remove_file(rt, most)?;
-    fs::remove_file(rt, long)?;
-    fs::remove_file(rt, cut)?;
-    Ok(())
+    fs::remove_file(rt, most).expect(rt, "a call of the system");
+    fs::remove_file(rt, long).expect(rt, "a call of the system");
+    fs::remove_file(rt, cut).expect(rt, "a call of the system");
 }
 
 #[test]
-fn long_pipes_are_read_once(rt: HostRuntime) -> Result<(), Fail> {
+fn long_pipes_are_read_once(rt: HostRuntime) {
     check_long_pipes(&rt, rt.alloc())
 }
 

@@ -6,7 +6,7 @@ use blockdev::{BlockDev, Message};
 use fault_layers::Kind;
 use refusals::Refusal;
 use sector_disk::SectorDisk;
-use std::alloc::{AllocError, Global};
+use std::alloc::Global;
 use std::io::Print;
 use std::process::Abort;
 use std::test::Fail;
@@ -112,28 +112,28 @@ pub fn byte_of(sector: &[u8]) -> u8 {
 /// Returns the result of `calls` on the device, and then the result of `end`, which takes the
 /// device. For the prover: `D` is a type parameter here, so the prover doesn't look into the
 /// device.
-pub fn asked<D, T, U, F, G>(device: D, calls: F, end: G) -> Result<(T, U), Fail>
+pub fn asked<D, T, U, F, G>(device: D, calls: F, end: G) -> (T, U)
 where
     D: Drop,
     T: Drop,
-    F: FnOnce(&mut D) -> Result<T, Fail>,
-    G: FnOnce(D) -> Result<U, Fail>,
+    F: FnOnce(&mut D) -> T,
+    G: FnOnce(D) -> U,
     requires calls { F.IsAlwaysCallable calls }
     requires end { G.IsAlwaysCallable end }
 {
     let mut device = device;
-    let given = calls(&mut device)?;
-    Ok((given, end(device)?))
+    let given = calls(&mut device);
+    (given, end(device))
 }
 
 // ---- rows
 
 // Returns the time at which a call ended, in milliseconds, or its error.
-fn end_text(alloc: Global, end: Result<Ms, DevError>) -> Result<String, AllocError> {
+fn end_text(rt: &impl Abort, alloc: Global, end: Result<Ms, DevError>) -> String {
     match end {
-        Ok(end) => end.milliseconds().to_string(alloc),
-        Err(DevError::Io) => String::from_str(alloc, "Io"),
-        Err(DevError::Memory) => String::from_str(alloc, "Memory"),
+        Ok(end) => end.milliseconds().to_string(alloc).expect(rt, "memory"),
+        Err(DevError::Io) => String::from_str(alloc, "Io").expect(rt, "memory"),
+        Err(DevError::Memory) => String::from_str(alloc, "Memory").expect(rt, "memory"),
     }
 }
 
@@ -174,31 +174,32 @@ fn told<D: BlockDev + Drop>(
     device: &mut D,
     now: Ms,
     words: &str,
-) -> Result<String, AllocError> {
+) -> String {
     if words == "#" {
-        return format!(in alloc; "{} {}", device.faults(), device.lies());
+        return format!(in alloc; "{} {}", device.faults(), device.lies()).expect(rt, "memory");
     }
     let call = call_of(words);
     let answer = ask(rt, device, now, call);
-    let mut told = end_text(alloc, answer.end)?;
+    let mut told = end_text(rt, alloc, answer.end);
     if call.kind == Kind::Read && answer.end.is_ok() {
         for sector in answer.bytes.chunks(512).take(call.count as usize) {
-            told.push_str(format!(in alloc; " {}", byte_of(sector))?.as_str())?;
+            write!(told, " {}", byte_of(sector)).expect(rt, "memory");
         }
     }
-    Ok(told)
+    told
 }
 
 /// Sends a message. Returns the number and the name of its refusal, or `ok`.
 pub fn answer_of<D: Message + Drop>(
+    rt: &impl Abort,
     alloc: Global,
     device: &mut D,
     layer: u64,
     text: &str,
-) -> Result<String, AllocError> {
+) -> String {
     match device.message(layer, text) {
-        Ok(()) => String::from_str(alloc, "ok"),
-        Err(error) => format!(in alloc; "{}", Refusal::from(error)),
+        Ok(()) => String::from_str(alloc, "ok").expect(rt, "memory"),
+        Err(error) => format!(in alloc; "{}", Refusal::from(error)).expect(rt, "memory"),
     }
 }
 
@@ -208,13 +209,12 @@ fn call_row<D: BlockDev + Drop>(
     alloc: Global,
     device: &mut D,
     row: &str,
-) -> Result<(), AllocError> {
+) {
     let (asked, wanted) = row.split_once('|').unwrap_or_default();
     let (moment, words) = asked.split_once(' ').unwrap_or_default();
     let now = Ms::new(moment.parse::<u64>().unwrap_or(0));
-    let said = told(rt, alloc, device, now, words)?;
+    let said = told(rt, alloc, device, now, words);
     assert!(rt; is_told(rt, said.as_str(), wanted, row));
-    Ok(())
 }
 
 // Sends the message of a row `layer message|answer`, and checks its answer.
@@ -223,13 +223,12 @@ fn message_row<D: Message + Drop>(
     alloc: Global,
     device: &mut D,
     row: &str,
-) -> Result<(), AllocError> {
+) {
     let (asked, wanted) = row.split_once('|').unwrap_or_default();
     let (layer, text) = asked.split_once(' ').unwrap_or_default();
     let layer = layer.parse::<u64>().unwrap_or(99);
-    let answer = answer_of(alloc, device, layer, text)?;
+    let answer = answer_of(rt, alloc, device, layer, text);
     assert!(rt; is_told(rt, answer.as_str(), wanted, row));
-    Ok(())
 }
 
 /// Makes the calls of the rows in order, and checks their answers. A row is `time call|answer`,
@@ -239,11 +238,10 @@ pub fn calls<D: BlockDev + Drop>(
     alloc: Global,
     device: &mut D,
     rows: &str,
-) -> Result<(), AllocError> {
+) {
     for row in rows.lines() {
-        call_row(rt, alloc, device, row)?;
+        call_row(rt, alloc, device, row);
     }
-    Ok(())
 }
 
 /// Makes the calls of the rows as `calls` does. A row `m layer message|answer` sends a message
@@ -253,14 +251,13 @@ pub fn talk<D: Message + Drop>(
     alloc: Global,
     device: &mut D,
     rows: &str,
-) -> Result<(), AllocError> {
+) {
     for row in rows.lines() {
         match row.strip_prefix("m ") {
-            Some(rest) => message_row(rt, alloc, device, rest)?,
-            None => call_row(rt, alloc, device, row)?,
+            Some(rest) => message_row(rt, alloc, device, rest),
+            None => call_row(rt, alloc, device, row),
         }
     }
-    Ok(())
 }
 
 // ---- lines

@@ -5,8 +5,8 @@ ghost use Rattle.std.specs.List.{list_any};
 ghost use Rattle.pending.specs.ChainsView.{chain_in};
 
 use pending::chains::Chains;
-use std::alloc::{AllocError, Global};
-use std::test::Fail;
+use std::alloc::Global;
+use std::process::Abort;
 
 fn number_of(word: Option<&str>) -> u64 {
     word.unwrap_or_default().parse::<u64>().unwrap_or(0)
@@ -30,26 +30,19 @@ fn are_two(chains: &Chains<u64>, one: usize, two: usize) -> bool
 }
 
 // Does a step that changes one chain: `add`, `take` or `set`.
-fn change(
-    chains: &mut Chains<u64>,
-    word: &str,
-    chain: usize,
-    value: u64,
-) -> Result<(), AllocError> {
+fn change(rt: &impl Abort, chains: &mut Chains<u64>, word: &str, chain: usize, value: u64) {
     if chains.walked().is_some() || !is_there(chains, chain) {
-        return Ok(());
+        return;
     }
     match word {
-        "add" => chains.add(chain, value),
+        "add" => chains.add(chain, value).expect(rt, "memory"),
         "take" => {
             chains.take_first(chain);
-            Ok(())
         }
         "set" => {
             chains.replace_first(chain, value);
-            Ok(())
         }
-        _ => Ok(()),
+        _ => {}
     }
 }
 
@@ -68,34 +61,34 @@ fn go(chains: &mut Chains<u64>, word: &str, one: usize, two: usize) {
 
 // Returns the values of each chain, each chain followed by `|`, and then how many links were
 // changed.
-fn shown(alloc: Global, chains: &Chains<u64>) -> Result<String, AllocError> {
+fn shown(rt: &impl Abort, alloc: Global, chains: &Chains<u64>) -> String {
     let mut text = String::new(alloc);
     for chain in 1..chains.chains() {
         for value in chains.iter(chain) {
-            write!(text, "{value} ")?;
+            write!(text, "{value} ").expect(rt, "memory");
         }
-        text.push_str("| ")?;
+        text.push_str("| ").expect(rt, "memory");
     }
     let changed = chains.links_changed();
-    write!(text, "{changed}")?;
-    Ok(text)
+    write!(text, "{changed}").expect(rt, "memory");
+    text
 }
 
 // Makes three chains, does these steps, and returns the chains as text. Commas separate the steps;
 // each is a word with at most two numbers.
-fn played(alloc: Global, steps: &str) -> Result<String, AllocError> {
-    let mut chains = Chains::new(alloc, 3)?;
+fn played(rt: &impl Abort, alloc: Global, steps: &str) -> String {
+    let mut chains = Chains::new(alloc, 3).expect(rt, "memory");
     for step in steps.split(",") {
         let mut words = step.split(" ");
         let word = words.next().unwrap_or_default();
         let (one, two) = (number_of(words.next()), number_of(words.next()));
         if word == "begin" && chains.walked().is_none() {
-            chains.begin_with(one)?;
+            chains.begin_with(one).expect(rt, "memory");
         }
-        change(&mut chains, word, one as usize, two)?;
+        change(rt, &mut chains, word, one as usize, two);
         go(&mut chains, word, one as usize, two as usize);
     }
-    shown(alloc, &chains)
+    shown(rt, alloc, &chains)
 }
 
 // Rows `steps=chains`: after `=`, each chain's values are followed by `|`, and the last number
@@ -117,13 +110,12 @@ add 1 10,add 1 11,add 1 12,walk 1,lift 3,turn,lift 3,rest,join 3 2=11 | 12 10 | 
 add 1 10,add 2 20,walk 1,lift 2,lift 2,turn,rest=| 10 20 | | 9";
 
 #[test]
-fn chains_are_changed(rt: HostRuntime) -> Result<(), Fail> {
+fn chains_are_changed(rt: HostRuntime) {
     for row in ROWS.split("\n") {
         let mut parts = row.split("=");
-        let shown = played(rt.alloc(), parts.next().unwrap_or_default())?;
+        let shown = played(&rt, rt.alloc(), parts.next().unwrap_or_default());
         assert_eq!(rt; Some(shown.as_str()), parts.next(), "{row}");
     }
-    Ok(())
 }
 
 // Returns whether a value is in a chain.
@@ -136,10 +128,10 @@ fn has(chains: &Chains<u64>, chain: usize, value: u64) -> bool
 
 // A value is found while another chain is walked. The first value of a chain is changed in place.
 #[test]
-fn chains_are_read(rt: HostRuntime) -> Result<(), Fail> {
-    let mut chains = Chains::new(rt.alloc(), 2)?;
-    chains.add(1, 10)?;
-    chains.add(2, 20)?;
+fn chains_are_read(rt: HostRuntime) {
+    let mut chains = Chains::new(rt.alloc(), 2).expect(&rt, "memory");
+    chains.add(1, 10).expect(&rt, "memory");
+    chains.add(2, 20).expect(&rt, "memory");
     *chains.first_mut(2) += 1;
     chains.walk(1);
     assert!(rt; has(&chains, 2, 21));
@@ -149,5 +141,4 @@ fn chains_are_read(rt: HostRuntime) -> Result<(), Fail> {
     chains.rest();
     assert_eq!(rt; chains.take_first(2), Some(21));
     assert!(rt; chains.is_empty(2));
-    Ok(())
 }

@@ -7,7 +7,6 @@ use sector_disk::SectorDisk;
 use std::alloc::Global;
 use std::io::Print;
 use std::process::Abort;
-use std::test::Fail;
 
 mod orders;
 
@@ -24,20 +23,14 @@ fn by_sector<D: BlockDev + Drop>(alloc: Global, lower: D) -> Dust<D> {
 }
 
 // Makes the rows' calls, and sends their messages, to a dust layer with blocks of 1,024 bytes.
-fn talk_over<D: BlockDev + Drop>(
-    rt: &(impl Abort + Print),
-    alloc: Global,
-    lower: D,
-    rows: &str,
-) -> Result<(), Fail> {
+fn talk_over<D: BlockDev + Drop>(rt: &(impl Abort + Print), alloc: Global, lower: D, rows: &str) {
     let mut device = over(alloc, lower);
-    talk(rt, alloc, &mut device, rows)?;
-    Ok(())
+    talk(rt, alloc, &mut device, rows);
 }
 
 // Returns a disk of 16 sectors.
-fn disk_of_16(alloc: Global) -> Result<SectorDisk, Fail> {
-    Ok(SectorDisk::new(alloc, 16)?)
+fn disk_of_16(rt: &impl Abort, alloc: Global) -> SectorDisk {
+    SectorDisk::new(alloc, 16).expect(rt, "memory")
 }
 
 // Writes of four sectors over blocks of two sectors. A bad block fails the first write; the second
@@ -63,61 +56,46 @@ m 0 enable|6 BadMessage
 m 2 enable|6 BadMessage";
 
 #[test]
-fn bad_blocks_fail_once(rt: HostRuntime) -> Result<(), Fail> {
-    let mut device = over(rt.alloc(), disk_of_16(rt.alloc())?);
+fn bad_blocks_fail_once(rt: HostRuntime) {
+    let mut device = over(rt.alloc(), disk_of_16(&rt, rt.alloc()));
     assert!(rt; device.mode() == Mode::Bypass && device.mode().text() == "bypass");
-    talk(&rt, rt.alloc(), &mut device, ONCE)?;
+    talk(&rt, rt.alloc(), &mut device, ONCE);
     assert!(rt; device.mode().text() == "fail_read_on_bad_block");
-    Ok(())
 }
 
 // Lists each even block number below 2,000 as bad.
-fn list_many<D: Message + Drop>(
-    rt: &impl Abort,
-    alloc: Global,
-    device: &mut D,
-) -> Result<(), Fail> {
+fn list_many<D: Message + Drop>(rt: &impl Abort, alloc: Global, device: &mut D) {
     for number in 0..1000u64 {
-        let text = format!(in alloc; "addbadblock {}", number.saturating_mul(2))?;
+        let number = number.saturating_mul(2);
+        let text = format!(in alloc; "addbadblock {number}").expect(rt, "memory");
         assert!(rt; device.message(1, &text).is_ok());
     }
-    Ok(())
 }
 
 // Fills the first 2,048 sectors with 5.
-fn write_many<D: BlockDev + Drop>(
-    rt: &impl Abort,
-    alloc: Global,
-    device: &mut D,
-) -> Result<(), Fail> {
-    let bytes = vec![in alloc; 5; 1_048_576]?;
+fn write_many<D: BlockDev + Drop>(rt: &impl Abort, alloc: Global, device: &mut D) {
+    let bytes = vec![in alloc; 5; 1_048_576].expect(rt, "memory");
     assert!(rt; device.sectors() == 4096);
     assert!(rt; device.write(Ms::new(9), 0, &bytes, true) == Ok(Ms::new(9)));
-    Ok(())
 }
 
 // Lists 1,000 bad blocks of one sector each. Then one write writes all these blocks, and so removes
 // them from the list.
-fn mend_many<D: Message + Drop>(
-    rt: &(impl Abort + Print),
-    alloc: Global,
-    device: &mut D,
-) -> Result<(), Fail> {
-    list_many(rt, alloc, device)?;
-    talk(rt, alloc, device, "m 1 enable|ok\n9 r 0 1|Io")?;
-    write_many(rt, alloc, device)?;
+fn mend_many<D: Message + Drop>(rt: &(impl Abort + Print), alloc: Global, device: &mut D) {
+    list_many(rt, alloc, device);
+    talk(rt, alloc, device, "m 1 enable|ok\n9 r 0 1|Io");
+    write_many(rt, alloc, device);
     talk(
         rt,
         alloc,
         device,
         "9 r 0 1|9 5\nm 1 removebadblock 1998|8 NotBad",
-    )?;
-    Ok(())
+    );
 }
 
 #[test]
-fn many_blocks_are_listed(rt: HostRuntime) -> Result<(), Fail> {
-    let disk = SectorDisk::new(rt.alloc(), 4096)?;
+fn many_blocks_are_listed(rt: HostRuntime) {
+    let disk = SectorDisk::new(rt.alloc(), 4096).expect(&rt, "memory");
     let mut device = by_sector(rt.alloc(), disk);
     mend_many(&rt, rt.alloc(), &mut device)
 }

@@ -6,7 +6,6 @@ use fault_layers::{Delay, ErrorDev, Feature, Flakey, Fuse, Linear};
 use sector_disk::SectorDisk;
 use std::io::Print;
 use std::process::Abort;
-use std::test::Fail;
 
 // Each line names layers over a disk of 8 sectors of zeroes, and then has calls. `@12` sets the
 // time of the later calls to 12 milliseconds. `w31+` fills sector 3 with 1, and `F31+` does so with
@@ -101,9 +100,9 @@ fn played_deep(rt: &(impl Abort + Print), disk: SectorDisk, line: &str) -> Secto
 
 // The expected results were computed by hand.
 #[test]
-fn layers_do_what_their_rules_say(rt: HostRuntime) -> Result<(), Fail> {
+fn layers_do_what_their_rules_say(rt: HostRuntime) {
     for line in CALLS.lines() {
-        let disk = SectorDisk::new(rt.alloc(), 8)?;
+        let disk = SectorDisk::new(rt.alloc(), 8).expect(&rt, "memory");
         let disk = if line.starts_with("linear") {
             play(&rt, disk, "F01 F12 F23 F34 F45 F56 F67 F78")
         } else {
@@ -114,7 +113,6 @@ fn layers_do_what_their_rules_say(rt: HostRuntime) -> Result<(), Fail> {
             look(&rt, &mut disk, word, line);
         }
     }
-    Ok(())
 }
 
 // Rows `time call|answer`, as `calls` of the crate's harness reads them. The layer delays reads by
@@ -134,20 +132,18 @@ const LATER: &str = "9979 f|9999
 // A delayed call begins later by the delay of its kind, and so ends later. A discard is delayed
 // like a write.
 #[test]
-fn delayed_calls_begin_later(rt: HostRuntime) -> Result<(), Fail> {
-    let disk = SectorDisk::new(rt.alloc(), 1)?;
+fn delayed_calls_begin_later(rt: HostRuntime) {
+    let disk = SectorDisk::new(rt.alloc(), 1).expect(&rt, "memory");
     let mut device = Delay::new(disk, Ms::new(10), Ms::new(20), Ms::new(30));
-    calls(&rt, rt.alloc(), &mut device, DELAYED)?;
-    Ok(())
+    calls(&rt, rt.alloc(), &mut device, DELAYED);
 }
 
 #[test]
-fn delays_stand_over_other_layers(rt: HostRuntime) -> Result<(), Fail> {
-    let disk = SectorDisk::new(rt.alloc(), 1)?;
+fn delays_stand_over_other_layers(rt: HostRuntime) {
+    let disk = SectorDisk::new(rt.alloc(), 1).expect(&rt, "memory");
     let flakey = Flakey::new(disk, 10, 5, Feature::None, Ms::new(0));
     let mut device = Delay::new(flakey, Ms::new(0), Ms::new(0), Ms::new(20));
-    calls(&rt, rt.alloc(), &mut device, LATER)?;
-    Ok(())
+    calls(&rt, rt.alloc(), &mut device, LATER);
 }
 
 // A stack of layers has the laws that all devices have.

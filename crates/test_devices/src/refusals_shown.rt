@@ -2,7 +2,6 @@
 
 use crate::is_told;
 use refusals::{Fault, Refusal};
-use std::test::Fail;
 
 // Returns a fault with or without a line.
 fn fault(line: Option<u64>, refusal: Refusal) -> Fault {
@@ -10,15 +9,15 @@ fn fault(line: Option<u64>, refusal: Refusal) -> Fault {
 }
 
 #[test]
-fn faults_are_shown(rt: HostRuntime) -> Result<(), Fail> {
+fn faults_are_shown(rt: HostRuntime) {
     let shown = format!(in rt.alloc();
         "{}, {}, {}, {}",
         fault(None, Refusal::Io),
         fault(None, Refusal::EndMemory),
         fault(None, Refusal::NoThread),
         fault(Some(4), Refusal::Busy)
-    )?;
+    )
+    .expect(&rt, "memory");
     let wanted = "1 Io, 20 Memory, 38 NoThread, line 4: 24 Busy";
     assert!(rt; is_told(&rt, shown.as_str(), wanted, "faults"));
-    Ok(())
 }

@@ -35,19 +35,15 @@ pub fn holds(rt: &impl Print, test: bool, row: &str) -> bool
 
 /// Returns whether each row of the form `text=wanted` is right: `tell` must return `wanted` for the
 /// text before the first `=`. Prints each row whose result is wrong.
-pub fn rows_are_told<E, F: FnMut(&str) -> Result<String, E>>(
-    rt: &impl Print,
-    rows: &str,
-    tell: F,
-) -> Result<bool, E>
+pub fn rows_are_told<F: FnMut(&str) -> String>(rt: &impl Print, rows: &str, tell: F) -> bool
     requires { F.IsAlwaysCallable tell }
 {
     let mut tell = tell;
     let mut are_told = true;
     for row in rows.split('\n') {
         let (asked, wanted) = row.split_once('=').unwrap_or_default();
-        let told = tell(asked)?;
+        let told = tell(asked);
         are_told &= is_told(rt, told.as_str(), wanted, row);
     }
-    Ok(are_told)
+    are_told
 }

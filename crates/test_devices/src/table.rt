@@ -16,7 +16,6 @@ use sector_disk::SectorDisk;
 use std::alloc::Global;
 use std::io::Print;
 use std::process::Abort;
-use std::test::Fail;
 
 mod plain;
 
@@ -78,18 +77,20 @@ fn stack_of(
 
 // Makes `calls` on a disk under the layers of these lines. Returns their result, and the disk's
 // bytes afterwards.
-fn on_stack<T: Drop, F: FnOnce(&mut Stack) -> Result<T, Fail>>(
+fn on_stack<T: Drop, F: FnOnce(&mut Stack) -> T>(
     rt: &impl Abort,
     alloc: Global,
     disk: SectorDisk,
     lines: &[(&str, u64)],
     ends: Option<Refusal>,
     calls: F,
-) -> Result<(T, Vec<u8>), Fail>
+) -> (T, Vec<u8>)
     requires { F.IsAlwaysCallable calls }
 {
     let stack = stack_of(rt, alloc, disk, lines, ends);
-    asked(stack, calls, |stack| Ok(stack.into_disk().into_bytes()?))
+    asked(stack, calls, |stack| {
+        stack.into_disk().into_bytes().expect(rt, "memory")
+    })
 }
 
 // The calls of a round, in this order.
@@ -145,12 +146,14 @@ fn play<D: BlockDev + Drop>(
 }
 
 // Returns the plain model of the layers of these lines.
-fn plain_layers(rt: &impl Abort, alloc: Global, lines: &[(&str, u64)]) -> Result<Vec<Plain>, Fail> {
+fn plain_layers(rt: &impl Abort, alloc: Global, lines: &[(&str, u64)]) -> Vec<Plain> {
     let mut layers = Vec::new(alloc);
     for (line, load) in lines {
-        layers.push(Plain::new(spec_of(rt, line), *load))?;
+        layers
+            .push(Plain::new(spec_of(rt, line), *load))
+            .expect(rt, "memory");
     }
-    Ok(layers)
+    layers
 }
 
 // Plays all rounds on `device` and on the model of its layers. Compares the answers, and the counts
@@ -160,52 +163,49 @@ fn play_all<D: BlockDev + Drop>(
     alloc: Global,
     device: &mut D,
     lines: &[(&str, u64)],
-) -> Result<[u8; 16], Fail> {
-    let mut layers = plain_layers(rt, alloc, lines)?;
+) -> [u8; 16] {
+    let mut layers = plain_layers(rt, alloc, lines);
     let mut disk = [0; 16];
     play(rt, device, &mut layers, &mut disk);
     let found = (device.faults(), device.lies());
     assert!(rt; is_same(rt, &found, &counts(&layers), "faults and lies"));
-    Ok(disk)
+    disk
 }
 
 // Plays all rounds on these layers, and compares the disk below with the model's disk.
-fn check(rt: &(impl Abort + Print), alloc: Global, lines: &[(&str, u64)]) -> Result<(), Fail> {
-    let under = SectorDisk::new(alloc, 16)?;
+fn check(rt: &(impl Abort + Print), alloc: Global, lines: &[(&str, u64)]) {
+    let under = SectorDisk::new(alloc, 16).expect(rt, "memory");
     let (disk, image) = on_stack(rt, alloc, under, lines, None, |stack| {
         play_all(rt, alloc, stack, lines)
-    })?;
+    });
     for (sector, value) in disk.iter().enumerate() {
         assert_eq!(rt; image.get(sector * 512), Some(value));
     }
-    Ok(())
 }
 
 // Checks each upper layer over each lower layer, below the layer of `top`, if it has one.
-fn check_each(rt: &(impl Abort + Print), alloc: Global, top: &[(&str, u64)]) -> Result<(), Fail> {
+fn check_each(rt: &(impl Abort + Print), alloc: Global, top: &[(&str, u64)]) {
     for lower in LOWER.split('\n') {
         for upper in UPPER.split('\n') {
             match top {
-                [] => check(rt, alloc, &[(lower, 0), (upper, 3_000)])?,
-                [top, ..] => check(rt, alloc, &[(lower, 0), (upper, 3_000), *top])?,
+                [] => check(rt, alloc, &[(lower, 0), (upper, 3_000)]),
+                [top, ..] => check(rt, alloc, &[(lower, 0), (upper, 3_000), *top]),
             }
         }
     }
-    Ok(())
 }
 
 #[test]
-fn layers_over_layers(rt: HostRuntime) -> Result<(), Fail> {
+fn layers_over_layers(rt: HostRuntime) {
     check_each(&rt, rt.alloc(), &[])
 }
 
 #[test]
-fn fuses_over_layers(rt: HostRuntime) -> Result<(), Fail> {
+fn fuses_over_layers(rt: HostRuntime) {
     for calls in 0..7 {
-        let top = format!(in rt.alloc(); "0 8 fuse disk 0 {calls}")?;
-        check_each(&rt, rt.alloc(), &[(top.as_str(), 0)])?;
+        let top = format!(in rt.alloc(); "0 8 fuse disk 0 {calls}").expect(&rt, "memory");
+        check_each(&rt, rt.alloc(), &[(top.as_str(), 0)]);
     }
-    Ok(())
 }
 
 // Returns the specification of a linear layer of `length` sectors from sector `offset` on.
@@ -229,21 +229,21 @@ fn sectors_of<D: BlockDev + Drop>(put: Result<D, (D, Refusal)>) -> Result<u64, R
 
 // Puts these layers over a disk of 16 sectors. Returns the sector count of the topmost layer, or
 // the refusal.
-fn under(alloc: Global, layers: &[LayerSpec]) -> Result<Result<u64, Refusal>, Fail>
+fn under(rt: &impl Abort, alloc: Global, layers: &[LayerSpec]) -> Result<u64, Refusal>
     requires { AllByRecursion IsLayerSpec layers.now }
 {
-    let disk = SectorDisk::new(alloc, 16)?;
-    Ok(sectors_of(Stack::new(disk).under(alloc, layers, Ms::new(0))))
+    let disk = SectorDisk::new(alloc, 16).expect(rt, "memory");
+    sectors_of(Stack::new(disk).under(alloc, layers, Ms::new(0)))
 }
 
 #[test]
-fn layers_are_put_over_at_once(rt: HostRuntime) -> Result<(), Fail> {
+fn layers_are_put_over_at_once(rt: HostRuntime) {
     let alloc = rt.alloc();
     let four = [linear(12, 4), linear(8, 4), linear(4, 4), linear(2, 2)];
-    assert!(rt; under(alloc, &[])? == Ok(16));
-    assert!(rt; under(alloc, &four)? == Ok(2));
+    assert!(rt; under(&rt, alloc, &[]) == Ok(16));
+    assert!(rt; under(&rt, alloc, &four) == Ok(2));
     let past = [linear(12, 4), linear(8, 5)];
-    assert!(rt; under(alloc, &past)? == Err(Refusal::OutOfRange));
+    assert!(rt; under(&rt, alloc, &past) == Err(Refusal::OutOfRange));
     let five = [
         linear(12, 4),
         linear(8, 4),
@@ -251,6 +251,5 @@ fn layers_are_put_over_at_once(rt: HostRuntime) -> Result<(), Fail> {
         linear(2, 2),
         linear(1, 0),
     ];
-    assert!(rt; under(alloc, &five)? == Err(Refusal::OutOfRange));
-    Ok(())
+    assert!(rt; under(&rt, alloc, &five) == Err(Refusal::OutOfRange));
 }

@@ -3,63 +3,63 @@
 use crate::{holds, rows_are_told};
 use bio::{Bio, Bytes, CoreEvent, End, Id};
 use judge::{First, Verdict, could_hold, is_lawful};
-use std::alloc::{AllocError, Global};
+use std::alloc::Global;
 use std::process::Abort;
-use std::test::Fail;
 
 // Returns the submission of a write of `length` bytes, each `byte`, without flush.
 fn write(
+    rt: &impl Abort,
     alloc: Global,
     first: u64,
     length: usize,
     byte: u8,
     fua: bool,
-) -> Result<CoreEvent, AllocError> {
-    Ok(CoreEvent::Submit(Bio::Write {
+) -> CoreEvent {
+    CoreEvent::Submit(Bio::Write {
         first,
-        bytes: Bytes::from_vec(vec![in alloc; byte; length]?),
+        bytes: Bytes::from_vec(vec![in alloc; byte; length].expect(rt, "memory")),
         flush: false,
         fua,
         meta: false,
-    }))
+    })
 }
 
 // Returns a mark whose text is the byte `byte`.
-fn mark(alloc: Global, byte: u8) -> Result<CoreEvent, AllocError> {
-    Ok(CoreEvent::Mark(Bytes::from_vec(vec![in alloc; byte; 1]?)))
+fn mark(rt: &impl Abort, alloc: Global, byte: u8) -> CoreEvent {
+    CoreEvent::Mark(Bytes::from_vec(vec![in alloc; byte; 1].expect(rt, "memory")))
 }
 
 // Returns the event of a step. `w 3 1` submits a write of one sector, 3, filled with 1. `w3 3 1` is
 // one of three sectors, `cut` one of 511 bytes, `fua` one with FUA. `d 3` submits a discard and `r
 // 3` a read of sector 3, and `f` a flush. `m 0 120` is a mark of the byte 120. `c 2` completes with
 // success what event 2 submitted, and `x 2` with failure.
-fn event_of(alloc: Global, word: &str, number: u64, byte: u8) -> Result<CoreEvent, AllocError> {
+fn event_of(rt: &impl Abort, alloc: Global, word: &str, number: u64, byte: u8) -> CoreEvent {
     match word {
-        "w" => write(alloc, number, 512, byte, false),
-        "w3" => write(alloc, number, 1536, byte, false),
-        "cut" => write(alloc, number, 511, byte, false),
-        "fua" => write(alloc, number, 512, byte, true),
-        "m" => mark(alloc, byte),
-        "d" => Ok(CoreEvent::Submit(Bio::Discard {
+        "w" => write(rt, alloc, number, 512, byte, false),
+        "w3" => write(rt, alloc, number, 1536, byte, false),
+        "cut" => write(rt, alloc, number, 511, byte, false),
+        "fua" => write(rt, alloc, number, 512, byte, true),
+        "m" => mark(rt, alloc, byte),
+        "d" => CoreEvent::Submit(Bio::Discard {
             first: number,
             count: 1,
-        })),
-        "r" => Ok(CoreEvent::Submit(Bio::Read {
+        }),
+        "r" => CoreEvent::Submit(Bio::Read {
             first: number,
             count: 1,
-        })),
-        "f" => Ok(CoreEvent::Submit(Bio::Flush)),
-        "stop" => Ok(CoreEvent::Stop(End::Full)),
-        "close" => Ok(CoreEvent::Close),
-        word => Ok(CoreEvent::Complete {
+        }),
+        "f" => CoreEvent::Submit(Bio::Flush),
+        "stop" => CoreEvent::Stop(End::Full),
+        "close" => CoreEvent::Close,
+        word => CoreEvent::Complete {
             id: Id::new(number),
             ok: word == "c",
-        }),
+        },
     }
 }
 
 // Returns the events of steps that commas separate.
-pub fn events_of(alloc: Global, steps: &str) -> Result<Vec<CoreEvent>, AllocError> {
+pub fn events_of(rt: &impl Abort, alloc: Global, steps: &str) -> Vec<CoreEvent> {
     let mut events = Vec::new(alloc);
     for step in steps.split(",") {
         let mut words = step.split(" ");
@@ -67,15 +67,17 @@ pub fn events_of(alloc: Global, steps: &str) -> Result<Vec<CoreEvent>, AllocErro
         let number = words.next().unwrap_or_default().parse::<u64>().unwrap_or(0);
         let byte = words.next().unwrap_or_default().parse::<u8>().unwrap_or(0);
         if !word.is_empty() {
-            events.push(event_of(alloc, word, number, byte)?)?;
+            events
+                .push(event_of(rt, alloc, word, number, byte))
+                .expect(rt, "memory");
         }
     }
-    Ok(events)
+    events
 }
 
 // Returns an image of zeroes, in which each word such as `3:7` fills a sector, here 3 with 7.
-pub fn image_of(alloc: Global, sectors: u8, words: &str) -> Result<Vec<u8>, AllocError> {
-    let mut image = vec![in alloc; 0; sectors as usize * 512]?;
+pub fn image_of(rt: &impl Abort, alloc: Global, sectors: u8, words: &str) -> Vec<u8> {
+    let mut image = vec![in alloc; 0; sectors as usize * 512].expect(rt, "memory");
     for word in words.split(" ") {
         let mut parts = word.split(":");
         let sector = parts
@@ -90,7 +92,7 @@ pub fn image_of(alloc: Global, sectors: u8, words: &str) -> Result<Vec<u8>, Allo
             }
         }
     }
-    Ok(image)
+    image
 }
 
 // Returns whether all these bytes are zeroes.
@@ -102,42 +104,49 @@ fn has_zeroes(bytes: &[u8]) -> bool {
 // sector, or `no` with a sector and the request that rules it out. If the events are unlawful, says
 // so.
 fn verdict_of(
+    rt: &impl Abort,
     alloc: Global,
     events: &[CoreEvent],
     moment: u64,
     first: &[u8],
     image: &[u8],
-) -> Result<String, AllocError> {
+) -> String {
     if image.len() % 512 != 0
         || first.len() != image.len()
         || !is_lawful(events, (image.len() / 512) as u64)
     {
-        return String::from_str(alloc, "unlawful");
+        return String::from_str(alloc, "unlawful").expect(rt, "memory");
     }
-    let verdict = could_hold(alloc, events, moment, First::Image(first), image)?;
-    if has_zeroes(first) && could_hold(alloc, events, moment, First::Zeroes, image)? != verdict {
-        return String::from_str(alloc, "another one over zeroes");
+    let verdict = could_hold(alloc, events, moment, First::Image(first), image);
+    if has_zeroes(first) && could_hold(alloc, events, moment, First::Zeroes, image) != verdict {
+        return String::from_str(alloc, "another one over zeroes").expect(rt, "memory");
     }
-    match verdict {
+    verdict_text(rt, alloc, verdict.expect(rt, "memory"))
+}
+
+// Returns `yes`, or `no` with the sector and the request that rules the image out.
+fn verdict_text(rt: &impl Abort, alloc: Global, verdict: Verdict) -> String {
+    let told = match verdict {
         Verdict::Yes => String::from_str(alloc, "yes"),
         Verdict::No { sector, by: None } => format!(in alloc; "no {sector}"),
         Verdict::No {
             sector,
             by: Some(id),
         } => format!(in alloc; "no {sector} by {}", id.place()),
-    }
+    };
+    told.expect(rt, "memory")
 }
 
 // Returns the verdict for a row `sectors|events|moment|first|image`. Both images are zeroes except
 // for the sectors that are named.
-fn judged(alloc: Global, row: &str) -> Result<String, AllocError> {
+fn judged(rt: &impl Abort, alloc: Global, row: &str) -> String {
     let mut parts = row.split("|");
     let sectors = parts.next().unwrap_or_default().parse::<u8>().unwrap_or(0);
-    let events = events_of(alloc, parts.next().unwrap_or_default())?;
+    let events = events_of(rt, alloc, parts.next().unwrap_or_default());
     let moment = parts.next().unwrap_or_default().parse::<u64>().unwrap_or(0);
-    let first = image_of(alloc, sectors, parts.next().unwrap_or_default())?;
-    let image = image_of(alloc, sectors, parts.next().unwrap_or_default())?;
-    verdict_of(alloc, &events, moment, &first, &image)
+    let first = image_of(rt, alloc, sectors, parts.next().unwrap_or_default());
+    let image = image_of(rt, alloc, sectors, parts.next().unwrap_or_default());
+    verdict_of(rt, alloc, &events, moment, &first, &image)
 }
 
 // Rows `sectors|events|moment|first|image=verdict`. Two writes of one sector, at moments before and
@@ -191,10 +200,9 @@ pub const ROWS: &str = "16|w 3 1,w 3 2,c 0,c 1,f,c 4|4||=yes
 0|f,c 0,m 0 120,f,stop,c 3,close|9||=yes";
 
 #[test]
-fn images_are_judged(rt: HostRuntime) -> Result<(), Fail> {
+fn images_are_judged(rt: HostRuntime) {
     let alloc = rt.alloc();
-    assert!(rt; rows_are_told(&rt, ROWS, |row| judged(alloc, row))?);
-    Ok(())
+    assert!(rt; rows_are_told(&rt, ROWS, |row| judged(&rt, alloc, row)));
 }
 
 // Lists of events for a device of 8 sectors. A list that begins with `=` is lawful. A list that
@@ -234,33 +242,40 @@ const LISTS: &str = "
 !w 1 1,c 0,d 9";
 
 #[test]
-fn lawful_lists_are_told_apart(rt: HostRuntime) -> Result<(), Fail> {
+fn lawful_lists_are_told_apart(rt: HostRuntime) {
     for line in LISTS.split("\n") {
         let steps = line.trim_start_matches(|c| c == '=' || c == '!');
-        let events = events_of(rt.alloc(), steps)?;
+        let events = events_of(&rt, rt.alloc(), steps);
         assert!(rt; holds(&rt, is_lawful(&events, 8) != line.starts_with("!"), line));
     }
-    Ok(())
 }
 
 // Returns `count` writes, each with its end, and a flush. Write n fills sector n modulo 4,096 with
 // the byte n modulo 251.
-fn many_writes(alloc: Global, count: u64) -> Result<Vec<CoreEvent>, AllocError> {
+fn many_writes(rt: &impl Abort, alloc: Global, count: u64) -> Vec<CoreEvent> {
     let mut events = Vec::new(alloc);
     for number in 0..count {
-        events.push(write(alloc, number % 4096, 512, (number % 251) as u8, false)?)?;
+        events
+            .push(write(rt, alloc, number % 4096, 512, (number % 251) as u8, false))
+            .expect(rt, "memory");
         let id = Id::new(events.len() as u64 - 1);
-        events.push(CoreEvent::Complete { id, ok: true })?;
+        events
+            .push(CoreEvent::Complete { id, ok: true })
+            .expect(rt, "memory");
     }
     let id = Id::new(events.len() as u64);
-    events.push(CoreEvent::Submit(Bio::Flush))?;
-    events.push(CoreEvent::Complete { id, ok: true })?;
-    Ok(events)
+    events
+        .push(CoreEvent::Submit(Bio::Flush))
+        .expect(rt, "memory");
+    events
+        .push(CoreEvent::Complete { id, ok: true })
+        .expect(rt, "memory");
+    events
 }
 
 // Returns the image that the first `count` of the writes of `many_writes` leave.
-fn many_sectors(alloc: Global, count: u64) -> Result<Vec<u8>, AllocError> {
-    let mut image = vec![in alloc; 0; 4096 * 512]?;
+fn many_sectors(rt: &impl Abort, alloc: Global, count: u64) -> Vec<u8> {
+    let mut image = vec![in alloc; 0; 4096 * 512].expect(rt, "memory");
     for number in 0..count {
         let sector = (number % 4096) as usize;
         for at in 0..512 {
@@ -270,39 +285,33 @@ fn many_sectors(alloc: Global, count: u64) -> Result<Vec<u8>, AllocError> {
             }
         }
     }
-    Ok(image)
+    image
 }
 
 // Returns the verdict, after all events, on the image that the first `count` writes leave.
-fn verdict_on_many(
-    rt: &impl Abort,
-    alloc: Global,
-    events: &[CoreEvent],
-    count: u64,
-) -> Result<Verdict, AllocError> {
-    let first = many_sectors(alloc, 0)?;
-    let image = many_sectors(alloc, count)?;
+fn verdict_on_many(rt: &impl Abort, alloc: Global, events: &[CoreEvent], count: u64) -> Verdict {
+    let first = many_sectors(rt, alloc, 0);
+    let image = many_sectors(rt, alloc, count);
     assert!(rt; image.len() % 512 == 0 && first.len() == image.len());
     assert!(rt; is_lawful(events, (image.len() / 512) as u64));
-    could_hold(alloc, events, 20_000, First::Image(&first), &image)
+    could_hold(alloc, events, 20_000, First::Image(&first), &image).expect(rt, "memory")
 }
 
 // After 20,000 events on 4,096 sectors, the image with all last values is possible. The image
 // without the last write isn't.
 #[test]
-fn long_lists_are_judged(rt: HostRuntime) -> Result<(), Fail> {
+fn long_lists_are_judged(rt: HostRuntime) {
     let alloc = rt.alloc();
-    let events = many_writes(alloc, 9999)?;
+    let events = many_writes(&rt, alloc, 9999);
     assert!(rt; events.len() == 20_000);
-    assert!(rt; verdict_on_many(&rt, alloc, &events, 9999)? == Verdict::Yes);
+    assert!(rt; verdict_on_many(&rt, alloc, &events, 9999) == Verdict::Yes);
     let by = Some(Id::new(19_996));
     let ruled_out = Verdict::No { sector: 1806, by };
-    assert!(rt; verdict_on_many(&rt, alloc, &events, 9998)? == ruled_out);
-    Ok(())
+    assert!(rt; verdict_on_many(&rt, alloc, &events, 9998) == ruled_out);
 }
 
 #[test]
-fn verdicts_are_compared(rt: HostRuntime) -> Result<(), Fail> {
+fn verdicts_are_compared(rt: HostRuntime) {
     let unsure = Verdict::No {
         sector: 1,
         by: None,
@@ -313,5 +322,4 @@ fn verdicts_are_compared(rt: HostRuntime) -> Result<(), Fail> {
     };
     assert!(rt; Verdict::Yes != unsure);
     assert!(rt; unsure != sure);
-    Ok(())
 }

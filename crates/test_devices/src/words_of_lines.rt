@@ -2,19 +2,18 @@
 
 use crate::rows_are_told;
 use refusals::{count_words, cut, number_of, push_number, word_at};
-use std::alloc::{AllocError, Global};
+use std::alloc::Global;
 use std::process::Abort;
-use std::test::Fail;
 
 // Parses a word as a number, and prints the number again. If it is no number, returns `no number`.
-fn answer(alloc: Global, word: &str) -> Result<String, Fail> {
+fn answer(rt: &impl Abort, alloc: Global, word: &str) -> String {
     match number_of(word.as_bytes()) {
         Some(number) => {
             let mut text = Vec::new(alloc);
-            push_number(&mut text, number)?;
-            Ok(String::from_utf8(text).unwrap_or(String::new(alloc)))
+            push_number(&mut text, number).expect(rt, "memory");
+            String::from_utf8(text).unwrap_or(String::new(alloc))
         }
-        None => Ok(String::from_str(alloc, "no number")?),
+        None => String::from_str(alloc, "no number").expect(rt, "memory"),
     }
 }
 
@@ -35,32 +34,32 @@ const NUMBERS: &str = "0=0
 :=no number";
 
 #[test]
-fn numbers_are_read(rt: HostRuntime) -> Result<(), Fail> {
+fn numbers_are_read(rt: HostRuntime) {
     let alloc = rt.alloc();
-    assert!(rt; rows_are_told(&rt, NUMBERS, |word| answer(alloc, word))?);
-    Ok(())
+    assert!(rt; rows_are_told(&rt, NUMBERS, |word| answer(&rt, alloc, word)));
 }
 
 #[test]
-fn texts_are_cut(rt: HostRuntime) -> Result<(), Fail> {
+fn texts_are_cut(rt: HostRuntime) {
     let line: &[u8] = b"w a  5";
     let (first, rest) = cut(line, b' ');
     assert!(rt; first == b"w".as_slice() && rest == Some(b"a  5".as_slice()));
     let (all, none) = cut(line, b'x');
     assert!(rt; all == line && none.is_none());
-    Ok(())
 }
 
 // Returns the words of a line, each followed by a bar.
-fn barred(rt: &impl Abort, alloc: Global, line: &str) -> Result<String, AllocError> {
+fn barred(rt: &impl Abort, alloc: Global, line: &str) -> String {
     let (line, mut shown) = (line.as_bytes(), String::new(alloc));
     for place in 0..count_words(line) {
         let word = word_at(line, place).unwrap_or_default();
-        shown.push_str(str::from_utf8(word).unwrap_or_default())?;
-        shown.push('|')?;
+        shown
+            .push_str(str::from_utf8(word).unwrap_or_default())
+            .expect(rt, "memory");
+        shown.push('|').expect(rt, "memory");
     }
     assert!(rt; word_at(line, count_words(line)).is_none());
-    Ok(shown)
+    shown
 }
 
 // Rows `line=its words`, each word followed by a bar.
@@ -71,8 +70,7 @@ one=one|
 a\tb c=a\tb|c|";
 
 #[test]
-fn words_are_told_apart(rt: HostRuntime) -> Result<(), Fail> {
+fn words_are_told_apart(rt: HostRuntime) {
     let alloc = rt.alloc();
-    assert!(rt; rows_are_told(&rt, LINES, |line| barred(&rt, alloc, line))?);
-    Ok(())
+    assert!(rt; rows_are_told(&rt, LINES, |line| barred(&rt, alloc, line)));
 }

@@ -5,14 +5,14 @@ use crate::{holds, rows_are_told};
 use bio::{CoreEvent, Id};
 use judge::{First, is_lawful};
 use refusals::{Fault, Refusal};
-use std::alloc::{AllocError, Global};
-use std::test::Fail;
+use std::alloc::Global;
+use std::process::Abort;
 use world::{Step, StepError, World, reach};
 
 // Returns a device that holds `first`, without a partial last sector.
-fn world_of(alloc: Global, first: &[u8]) -> Result<World, AllocError> {
+fn world_of(rt: &impl Abort, alloc: Global, first: &[u8]) -> World {
     let whole = first.len() / 512 * 512;
-    World::new(alloc, &first[..whole])
+    World::new(alloc, &first[..whole]).expect(rt, "memory")
 }
 
 // Takes a step, if the events are lawful for the device.
@@ -25,70 +25,72 @@ fn take(world: &mut World, events: &[CoreEvent], step: &Step) -> Result<(), Step
 
 // Returns whether a device that held `first` takes each step of `run`, and then holds `image`.
 fn leaves(
+    rt: &impl Abort,
     alloc: Global,
     events: &[CoreEvent],
     first: &[u8],
     run: &[Step],
     image: &[u8],
-) -> Result<bool, AllocError> {
-    let mut world = world_of(alloc, first)?;
+) -> bool {
+    let mut world = world_of(rt, alloc, first);
     for step in run {
         if take(&mut world, events, step).is_err() {
-            return Ok(false);
+            return false;
         }
     }
-    Ok(world.image() == image)
+    world.image() == image
 }
 
 // Returns the steps as text, separated by commas.
-fn run_text(alloc: Global, run: &[Step]) -> Result<String, AllocError> {
+fn run_text(rt: &impl Abort, alloc: Global, run: &[Step]) -> String {
     let mut text = String::new(alloc);
     for step in run {
         if !text.is_empty() {
-            text.push_str(",")?;
+            text.push_str(",").expect(rt, "memory");
         }
-        text.push_str(format!(in alloc; "{step}")?.as_str())?;
+        write!(text, "{step}").expect(rt, "memory");
     }
-    Ok(text)
+    text
 }
 
 // Returns a run that leaves `image` after `moment` events, as text; or `none` if there is none. The
 // device must take this run.
 fn path(
+    rt: &impl Abort,
     alloc: Global,
     events: &[CoreEvent],
     moment: u64,
     first: &[u8],
     image: &[u8],
-) -> Result<String, AllocError> {
+) -> String {
     if image.len() % 512 != 0
         || first.len() != image.len()
         || !is_lawful(events, (image.len() / 512) as u64)
     {
-        return String::from_str(alloc, "unlawful");
+        return String::from_str(alloc, "unlawful").expect(rt, "memory");
     }
-    match reach(alloc, events, moment, First::Image(first), image)? {
+    match reach(alloc, events, moment, First::Image(first), image).expect(rt, "memory") {
         Some(run) => {
-            if leaves(alloc, events, first, &run, image)? {
-                run_text(alloc, &run)
+            if leaves(rt, alloc, events, first, &run, image) {
+                run_text(rt, alloc, &run)
             } else {
-                String::from_str(alloc, "refused")
+                String::from_str(alloc, "refused").expect(rt, "memory")
             }
         }
-        None => String::from_str(alloc, "none"),
+        None => String::from_str(alloc, "none").expect(rt, "memory"),
     }
 }
 
 // Returns a run for a row `sectors|events|moment|first|image`. Both images are zeroes except for
 // the sectors that are named.
-fn path_of(alloc: Global, row: &str) -> Result<String, AllocError> {
+fn path_of(rt: &impl Abort, alloc: Global, row: &str) -> String {
     let mut parts = row.split("|");
     let sectors = parts.next().unwrap_or_default().parse::<u8>().unwrap_or(0);
-    let events = events_of(alloc, parts.next().unwrap_or_default())?;
+    let events = events_of(rt, alloc, parts.next().unwrap_or_default());
     let moment = parts.next().unwrap_or_default().parse::<u64>().unwrap_or(0);
-    let first = image_of(alloc, sectors, parts.next().unwrap_or_default())?;
-    let image = image_of(alloc, sectors, parts.next().unwrap_or_default())?;
-    path(alloc, &events, moment, &first, &image)
+    let first = image_of(rt, alloc, sectors, parts.next().unwrap_or_default());
+    let image = image_of(rt, alloc, sectors, parts.next().unwrap_or_default());
+    path(rt, alloc, &events, moment, &first, &image)
 }
 
 // Rows `sectors|events|moment|first|image=run`. Two writes of one sector, at moments before and
@@ -111,19 +113,18 @@ const RUNS: &str =
 4||0|3:1|3:1=power";
 
 #[test]
-fn runs_are_reached(rt: HostRuntime) -> Result<(), Fail> {
+fn runs_are_reached(rt: HostRuntime) {
     let alloc = rt.alloc();
-    assert!(rt; rows_are_told(&rt, RUNS, |row| path_of(alloc, row))?);
-    Ok(())
+    assert!(rt; rows_are_told(&rt, RUNS, |row| path_of(&rt, alloc, row)));
 }
 
 // If the judge allows the image of a row, a run leaves the image; otherwise no run does.
 #[test]
-fn possible_images_are_reached(rt: HostRuntime) -> Result<(), Fail> {
+fn possible_images_are_reached(rt: HostRuntime) {
     let alloc = rt.alloc();
     for row in ROWS.split("\n") {
         let (asked, verdict) = row.split_once("=").unwrap_or_default();
-        let told = path_of(alloc, asked)?;
+        let told = path_of(&rt, alloc, asked);
         let wanted = if verdict == "yes" {
             told.as_str().ends_with("power")
         } else {
@@ -131,7 +132,6 @@ fn possible_images_are_reached(rt: HostRuntime) -> Result<(), Fail> {
         };
         assert!(rt; holds(&rt, wanted, row));
     }
-    Ok(())
 }
 
 // Returns the step that this text means.
@@ -151,23 +151,23 @@ fn step_of(text: &str) -> Step {
 
 // Makes the steps of a row `events|steps`. Returns the answer to the last step: `ok`, or its
 // refusal.
-fn answer_of(alloc: Global, row: &str) -> Result<String, AllocError> {
+fn answer_of(rt: &impl Abort, alloc: Global, row: &str) -> String {
     let (list, steps) = row.split_once("|").unwrap_or_default();
-    let events = events_of(alloc, list)?;
-    let image = image_of(alloc, 8, "")?;
-    let mut world = world_of(alloc, &image)?;
+    let events = events_of(rt, alloc, list);
+    let image = image_of(rt, alloc, 8, "");
+    let mut world = world_of(rt, alloc, &image);
     let mut answer: Result<(), StepError> = Ok(());
     for text in steps.split(",") {
         answer = take(&mut world, &events, &step_of(text));
     }
     match answer {
-        Ok(()) => String::from_str(alloc, "ok"),
+        Ok(()) => String::from_str(alloc, "ok").expect(rt, "memory"),
         Err(error) => {
             let fault = Fault {
                 line: None,
                 refusal: Refusal::from(error),
             };
-            format!(in alloc; "{fault}")
+            format!(in alloc; "{fault}").expect(rt, "memory")
         }
     }
 }
@@ -211,10 +211,9 @@ w 3 1|power,submit 0=35 BadStep
 w 3 1|submit 0,land 0 3,power,destage 3=35 BadStep";
 
 #[test]
-fn steps_are_answered(rt: HostRuntime) -> Result<(), Fail> {
+fn steps_are_answered(rt: HostRuntime) {
     let alloc = rt.alloc();
-    assert!(rt; rows_are_told(&rt, STEPS, |row| answer_of(alloc, row))?);
-    Ok(())
+    assert!(rt; rows_are_told(&rt, STEPS, |row| answer_of(&rt, alloc, row)));
 }
 
 // Rows `events|steps=the image that they leave`. If a write lands after a destage, it isn't durable
@@ -226,34 +225,32 @@ w 3 1,d 3|submit 0,submit 1,land 0 3,destage 3,land 1 3,destage 3=
 w3 0 7|submit 0,land 0 2,land 0 0,destage 2,destage 0=0:7 2:7";
 
 // Returns whether the steps of a row leave its image.
-fn is_left(alloc: Global, row: &str) -> Result<bool, AllocError> {
+fn is_left(rt: &impl Abort, alloc: Global, row: &str) -> bool {
     let (asked, words) = row.split_once("=").unwrap_or_default();
     let (list, steps) = asked.split_once("|").unwrap_or_default();
-    let events = events_of(alloc, list)?;
-    let first = image_of(alloc, 8, "")?;
-    let mut world = world_of(alloc, &first)?;
+    let events = events_of(rt, alloc, list);
+    let first = image_of(rt, alloc, 8, "");
+    let mut world = world_of(rt, alloc, &first);
     for text in steps.split(",") {
         if take(&mut world, &events, &step_of(text)).is_err() {
-            return Ok(false);
+            return false;
         }
     }
-    let image = image_of(alloc, 8, words)?;
-    Ok(world.image() == image.as_slice())
+    let image = image_of(rt, alloc, 8, words);
+    world.image() == image.as_slice()
 }
 
 #[test]
-fn images_are_left(rt: HostRuntime) -> Result<(), Fail> {
+fn images_are_left(rt: HostRuntime) {
     for row in IMAGES.split("\n") {
-        assert!(rt; holds(&rt, is_left(rt.alloc(), row)?, row));
+        assert!(rt; holds(&rt, is_left(&rt, rt.alloc(), row), row));
     }
-    Ok(())
 }
 
 #[test]
-fn errors_are_compared(rt: HostRuntime) -> Result<(), Fail> {
+fn errors_are_compared(rt: HostRuntime) {
     assert!(rt; StepError::BadStep != StepError::Memory);
     assert!(rt; Refusal::from(StepError::Memory) == Refusal::Memory);
     assert!(rt; Step::Power != Step::Destage(3));
     assert!(rt; Step::End(Id::new(1), true) == step_of("end 1 ok"));
-    Ok(())
 }

@@ -1,9 +1,10 @@
 // Tests of copies into logs with sectors of 4,096 bytes.
-ghost use Rattle.std.specs.Prelude.{IfOk, IsTrue};
+ghost use Rattle.std.specs.Prelude.{IsTrue};
 ghost use Rattle.bio.specs.Requests.{bytes_of, is_tracked};
 ghost use Rattle.log_format.specs.Entries.{is_readable};
 
-use bio::{Bio, Bytes, SectorSize, check_sized};
+use crate::writes::filled;
+use bio::{Bio, SectorSize, check_sized};
 use blockdev::BlockDev;
 use log_format::Entry;
 use log_reader::LogReader;
@@ -11,9 +12,8 @@ use log_store::LogStore;
 use refusals::Refusal;
 use replay::{CopyFault, copy_log};
 use sector_disk::SectorDisk;
-use std::alloc::{AllocError, Global};
+use std::alloc::Global;
 use std::process::Abort;
-use std::test::Fail;
 use test_devices::{Failing, rows_are_told};
 
 // Rows `sectors calls entries=answer;status;copy`: copies of a log with sectors of 512 bytes. The
@@ -45,18 +45,18 @@ const READS: &str = "99 wdum=4;4 55;1+1 0 65;2+2 4 0;1+1 2 65;0+0 8 100;
 3 um=1 Io after 1;1 23;1+1 2 65;";
 
 // Returns the request that a letter of these rows names; any other letter is a flush.
-fn request(alloc: Global, kind: u8) -> Result<Bio, AllocError>
-    ensures { IfOk result (λ bio. IsTrue (is_tracked bio)) }
+fn request(rt: &impl Abort, alloc: Global, kind: u8) -> Bio
+    ensures { IsTrue (is_tracked result) }
 {
     let (first, bytes) = match kind {
         b'p' => (4, 4096),
         b'l' => (8, 2048),
         _ => (8, 4096),
     };
-    Ok(match kind {
+    match kind {
         b'w' | b'u' | b'p' | b'l' => Bio::Write {
             first,
-            bytes: Bytes::from_vec(vec![in alloc; b'A'; bytes]?),
+            bytes: filled(rt, alloc, b'A', bytes),
             flush: false,
             fua: kind == b'u',
             meta: false,
@@ -66,21 +66,21 @@ fn request(alloc: Global, kind: u8) -> Result<Bio, AllocError>
             count: 16,
         },
         _ => Bio::Flush,
-    })
+    }
 }
 
 // Returns the entry that a letter of these rows names, in a log with sectors of size `size`.
-fn entry(rt: &impl Abort, alloc: Global, size: SectorSize, kind: u8) -> Result<Entry, Fail>
-    ensures { IfOk result (λ entry. IsTrue (is_readable (bytes_of size) entry)) }
+fn entry(rt: &impl Abort, alloc: Global, size: SectorSize, kind: u8) -> Entry
+    ensures { IsTrue (is_readable (bytes_of size) result) }
 {
     if kind == b'm' {
         log_format::laws::end_mark_is_readable();
-        return Ok(Entry::end_mark(alloc)?);
+        return Entry::end_mark(alloc).expect(rt, "memory");
     }
     log_format::laws::requests_are_readable();
-    let bio = request(alloc, kind)?;
+    let bio = request(rt, alloc, kind);
     assert!(rt; check_sized(&bio, 1_048_576, size).is_ok());
-    Ok(Entry::of_request(alloc, &bio, size.bytes())?)
+    Entry::of_request(alloc, &bio, size.bytes()).expect(rt, "memory")
 }
 
 // Returns a store with a new log on a device.
@@ -92,26 +92,21 @@ fn store_over<D: BlockDev + Drop>(rt: &impl Abort, device: D, size: SectorSize) 
 }
 
 // Returns a disk with a settled log of these entries.
-fn log_of(
-    rt: &impl Abort,
-    alloc: Global,
-    size: SectorSize,
-    kinds: &str,
-) -> Result<SectorDisk, Fail> {
-    let mut store = store_over(rt, SectorDisk::new(alloc, 256)?, size);
+fn log_of(rt: &impl Abort, alloc: Global, size: SectorSize, kinds: &str) -> SectorDisk {
+    let mut store = store_over(rt, SectorDisk::new(alloc, 256).expect(rt, "memory"), size);
     for kind in kinds.bytes() {
         assert!(rt;
             store
-                .append(&entry(rt, alloc, store.sector_size(), kind)?)
+                .append(&entry(rt, alloc, store.sector_size(), kind))
                 .is_ok()
         );
     }
     assert!(rt; store.settle().is_ok());
-    Ok(store.into_device())
+    store.into_device()
 }
 
 // Crashes the disk so that only durable values are left, and returns the entries of its log.
-fn left(rt: &impl Abort, alloc: Global, disk: SectorDisk) -> Result<String, Fail> {
+fn left(rt: &impl Abort, alloc: Global, disk: SectorDisk) -> String {
     let mut disk = disk;
     disk.crash(&[0; 128]);
     let mut log = LogReader::open(alloc, disk).ok().expect(rt, "a log");
@@ -128,10 +123,11 @@ fn left(rt: &impl Abort, alloc: Global, disk: SectorDisk) -> Result<String, Fail
             entry.sector,
             entry.nr_sectors,
             entry.flags.bits()
-        )?;
-        list.push_str(text.as_str())?;
+        )
+        .expect(rt, "memory");
+        list.push_str(text.as_str()).expect(rt, "memory");
     }
-    Ok(list)
+    list
 }
 
 // Copies the log on `device` to a new log on `target`. Returns `answer;status;copy`.
@@ -140,19 +136,19 @@ fn copied<A: BlockDev + Drop>(
     alloc: Global,
     device: A,
     target: Failing<SectorDisk>,
-) -> Result<String, Fail> {
+) -> String {
     let mut log = LogReader::open(alloc, device).ok().expect(rt, "a log");
     let mut store = store_over(rt, target, SectorSize::B4096);
     assert!(rt; log.head().sectorsize <= store.sector_size().bytes());
     let answer = match copy_log(&mut log, &mut store) {
-        Ok(count) => format!(in alloc; "{count}")?,
+        Ok(count) => format!(in alloc; "{count}").expect(rt, "memory"),
         Err(CopyFault { applied, cause }) => {
-            format!(in alloc; "{} after {applied}", Refusal::from(cause))?
+            format!(in alloc; "{} after {applied}", Refusal::from(cause)).expect(rt, "memory")
         }
     };
     let status = store.status();
-    let list = left(rt, alloc, store.into_device().lower)?;
-    Ok(format!(in alloc; "{answer};{status};{list}")?)
+    let list = left(rt, alloc, store.into_device().lower);
+    format!(in alloc; "{answer};{status};{list}").expect(rt, "memory")
 }
 
 fn number(word: Option<&str>) -> u64 {
@@ -160,42 +156,40 @@ fn number(word: Option<&str>) -> u64 {
 }
 
 // Makes the copy of a row of `COPIES`, and returns its result.
-fn copy_told(rt: &impl Abort, alloc: Global, row: &str) -> Result<String, Fail> {
+fn copy_told(rt: &impl Abort, alloc: Global, row: &str) -> String {
     let mut words = row.split(' ');
-    let disk = SectorDisk::new(alloc, number(words.next()).clamp(8, 8192))?;
+    let disk = SectorDisk::new(alloc, number(words.next()).clamp(8, 8192)).expect(rt, "memory");
     let target = Failing::in_changes(disk, number(words.next()));
     let kinds = words.next().unwrap_or_default();
     copied(
         rt,
         alloc,
-        log_of(rt, alloc, SectorSize::B512, kinds)?,
+        log_of(rt, alloc, SectorSize::B512, kinds),
         target,
     )
 }
 
 #[test]
-fn logs_are_copied(rt: HostRuntime) -> Result<(), Fail> {
+fn logs_are_copied(rt: HostRuntime) {
     let alloc = rt.alloc();
-    assert!(rt; rows_are_told(&rt, COPIES, |row| copy_told(&rt, alloc, row))?);
-    Ok(())
+    assert!(rt; rows_are_told(&rt, COPIES, |row| copy_told(&rt, alloc, row)));
 }
 
 // Makes the copy of a row of `READS`, and returns its result.
-fn reads_told(rt: &impl Abort, alloc: Global, row: &str) -> Result<String, Fail> {
+fn reads_told(rt: &impl Abort, alloc: Global, row: &str) -> String {
     let (reads, kinds) = row.split_once(' ').unwrap_or_default();
-    let log = log_of(rt, alloc, SectorSize::B4096, kinds)?;
+    let log = log_of(rt, alloc, SectorSize::B4096, kinds);
     let log = Failing::in_reads(log, number(Some(reads)));
     copied(
         rt,
         alloc,
         log,
-        Failing::in_changes(SectorDisk::new(alloc, 64)?, 99),
+        Failing::in_changes(SectorDisk::new(alloc, 64).expect(rt, "memory"), 99),
     )
 }
 
 #[test]
-fn logs_whose_device_fails_are_copied_in_part(rt: HostRuntime) -> Result<(), Fail> {
+fn logs_whose_device_fails_are_copied_in_part(rt: HostRuntime) {
     let alloc = rt.alloc();
-    assert!(rt; rows_are_told(&rt, READS, |row| reads_told(&rt, alloc, row))?);
-    Ok(())
+    assert!(rt; rows_are_told(&rt, READS, |row| reads_told(&rt, alloc, row)));
 }

@@ -4,10 +4,9 @@ use log_reader::LogReader;
 use refusals::Refusal;
 use replay::{ReplayFault, Upto, replay};
 use sector_disk::SectorDisk;
-use std::alloc::{AllocError, Global};
+use std::alloc::Global;
 use std::io::Print;
 use std::process::Abort;
-use std::test::Fail;
 use test_devices::{Failing, Watched, holds, is_told};
 
 // A replay's log and its target, each on a device that notes its calls and may fail them.
@@ -26,29 +25,30 @@ fn pair_of(
     log_passes: u64,
     sectors: u64,
     passes: u64,
-) -> Result<Pair, Fail> {
-    let disk = Failing::in_calls(disk_of(rt, alloc, image)?, log_passes);
-    let target = SectorDisk::new(alloc, sectors.clamp(1, 1_048_576))?;
+) -> Pair {
+    let disk = Failing::in_calls(disk_of(rt, alloc, image), log_passes);
+    let target = SectorDisk::new(alloc, sectors.clamp(1, 1_048_576)).expect(rt, "memory");
     let target = Failing::in_calls(target, passes);
-    Ok(Pair {
+    Pair {
         log: LogReader::open(alloc, Watched::new(alloc, disk))
             .ok()
             .expect(rt, "a log"),
         target: Watched::new(alloc, target),
-    })
+    }
 }
 
 // Replays the log up to `upto`. Returns the answer, and the calls of the target.
-fn step(alloc: Global, pair: &mut Pair, upto: &Upto) -> Result<String, AllocError> {
+fn step(rt: &impl Abort, alloc: Global, pair: &mut Pair, upto: &Upto) -> String {
     let mut text = match replay(&mut pair.log, &mut pair.target, upto) {
-        Ok(count) => format!(in alloc; "{count}:")?,
+        Ok(count) => format!(in alloc; "{count}:").expect(rt, "memory"),
         Err(ReplayFault { applied, cause }) => {
-            format!(in alloc; "{} after {applied}:", Refusal::from(cause))?
+            format!(in alloc; "{} after {applied}:", Refusal::from(cause)).expect(rt, "memory")
         }
     };
-    text.push_str(pair.target.seen.as_str().trim_end())?;
+    text.push_str(pair.target.seen.as_str().trim_end())
+        .expect(rt, "memory");
     pair.target.seen = String::new(alloc);
-    Ok(text)
+    text
 }
 
 // The parts of a log: writes with no flag, with FUA, with FLUSH and FUA, and without sectors; a
@@ -79,25 +79,25 @@ const STALE: &str = "8 1 1 512 0 512 5 1 0 0 1536 6 1 0 0 2560 0 0 1 0 3072 0 0 
 const DAMAGED: &str = "8 1 2 512 0 512 5 1 0 0 1536 0 9223372036854775808 0 0";
 
 // Returns the image of this name.
-fn image_named(alloc: Global, name: &str) -> Result<Vec<u8>, AllocError> {
+fn image_named(rt: &impl Abort, alloc: Global, name: &str) -> Vec<u8> {
     match name {
-        "calls" => image_of(alloc, CALLS, 7_680),
-        "largest" => image_of(alloc, LARGEST, 20_480),
-        "long" => image_of(alloc, LONG, 4_195_328),
-        "wide" => image_of(alloc, WIDE, 1_024),
-        "marks" => image_of(alloc, MARKS, 3_584),
-        "flushes" => image_of(alloc, FLUSHES, 4_096),
-        "stale" => image_of(alloc, STALE, 4_096),
-        _ => image_of(alloc, DAMAGED, 4_096),
+        "calls" => image_of(rt, alloc, CALLS, 7_680),
+        "largest" => image_of(rt, alloc, LARGEST, 20_480),
+        "long" => image_of(rt, alloc, LONG, 4_195_328),
+        "wide" => image_of(rt, alloc, WIDE, 1_024),
+        "marks" => image_of(rt, alloc, MARKS, 3_584),
+        "flushes" => image_of(rt, alloc, FLUSHES, 4_096),
+        "stale" => image_of(rt, alloc, STALE, 4_096),
+        _ => image_of(rt, alloc, DAMAGED, 4_096),
     }
 }
 
 // Returns the log and the target of a row `log passes sectors passes`: the image's name, how many
 // calls the log's device passes, the target's sectors, and how many calls it passes. `-` means all
 // calls.
-fn pair_in(rt: &impl Abort, alloc: Global, row: &str) -> Result<Pair, Fail> {
+fn pair_in(rt: &impl Abort, alloc: Global, row: &str) -> Pair {
     let mut words = row.split(' ');
-    let image = image_named(alloc, words.next().unwrap_or_default())?;
+    let image = image_named(rt, alloc, words.next().unwrap_or_default());
     let log_passes = number_of(words.next());
     let sectors = number_of(words.next());
     pair_of(
@@ -117,31 +117,29 @@ fn assert_steps(
     pair: &mut Pair,
     replays: &str,
     row: &str,
-) -> Result<(), Fail> {
+) {
     for replay in replays.split(';') {
         let (asked, wanted) = replay.split_once('=').unwrap_or_default();
-        let found = step(alloc, pair, &upto_of(asked))?;
+        let found = step(rt, alloc, pair, &upto_of(asked));
         assert!(rt; is_told(rt, found.as_str(), wanted, row));
     }
-    Ok(())
 }
 
 // Makes the replays of each row `log passes sectors passes;end=result;..`. Checks that each call of
 // the log's device is at time 0.
-fn assert_replays(rt: &(impl Abort + Print), alloc: Global, rows: &str) -> Result<(), Fail> {
+fn assert_replays(rt: &(impl Abort + Print), alloc: Global, rows: &str) {
     for row in rows.lines() {
         let (made, replays) = row.split_once(';').unwrap_or_default();
-        let mut pair = pair_in(rt, alloc, made)?;
-        assert_steps(rt, alloc, &mut pair, replays, row)?;
+        let mut pair = pair_in(rt, alloc, made);
+        assert_steps(rt, alloc, &mut pair, replays, row);
         let seen = pair.log.into_device().seen;
         assert!(rt; holds(rt, !seen.as_str().contains('@'), row));
     }
-    Ok(())
 }
 
 // Each entry with sectors makes one call, at time 0 and without FUA. Other entries make none.
 #[test]
-fn each_entry_is_one_call(rt: HostRuntime) -> Result<(), Fail> {
+fn each_entry_is_one_call(rt: HostRuntime) {
     assert_replays(
         &rt,
         rt.alloc(),
@@ -158,44 +156,43 @@ wide - 131072 -;1=27 PastTarget after 0:",
 
 // Appends an entry to the text of a long log, and its call to the expected calls.
 fn push_discard(
+    rt: &impl Abort,
     alloc: Global,
     number: u64,
     text: &mut String,
     wanted: &mut String,
-) -> Result<(), AllocError> {
+) {
     let at = number.saturating_mul(512).saturating_add(512);
     let sector = number % 16;
-    text.push_str(format!(in alloc; " {at} {sector} 1 4 0")?.as_str())?;
-    wanted.push_str(format!(in alloc; "d{sector}+1 ")?.as_str())?;
-    Ok(())
+    write!(text, " {at} {sector} 1 4 0").expect(rt, "memory");
+    write!(wanted, "d{sector}+1 ").expect(rt, "memory");
 }
 
 // Replays a long log up to its first flush, and returns the result.
-fn long_text(rt: &impl Abort, alloc: Global, text: &str) -> Result<String, Fail> {
-    let image = image_of(alloc, text, 15_361_024)?;
-    let mut pair = pair_of(rt, alloc, image, u64::MAX, 16, u64::MAX)?;
-    Ok(step(alloc, &mut pair, &Upto::Flush)?)
+fn long_text(rt: &impl Abort, alloc: Global, text: &str) -> String {
+    let image = image_of(rt, alloc, text, 15_361_024);
+    let mut pair = pair_of(rt, alloc, image, u64::MAX, 16, u64::MAX);
+    step(rt, alloc, &mut pair, &Upto::Flush)
 }
 
 // Thousands of discards make one call each, in their order. If later steps took longer, the test
 // wouldn't end in time.
 #[test]
-fn thousands_of_entries_are_replayed(rt: HostRuntime) -> Result<(), Fail> {
+fn thousands_of_entries_are_replayed(rt: HostRuntime) {
     let alloc = rt.alloc();
-    let mut text = String::from_str(alloc, "8 1 30001 512 0")?;
-    let mut wanted = String::from_str(alloc, "30001:")?;
+    let mut text = String::from_str(alloc, "8 1 30001 512 0").expect(&rt, "memory");
+    let mut wanted = String::from_str(alloc, "30001:").expect(&rt, "memory");
     for number in 0..30_000 {
-        push_discard(alloc, number, &mut text, &mut wanted)?;
+        push_discard(&rt, alloc, number, &mut text, &mut wanted);
     }
-    text.push_str(" 15360512 0 0 1 0")?;
-    let found = long_text(&rt, alloc, text.as_str())?;
+    text.push_str(" 15360512 0 0 1 0").expect(&rt, "memory");
+    let found = long_text(&rt, alloc, text.as_str());
     assert!(rt; found.as_str() == wanted.as_str().trim_end());
-    Ok(())
 }
 
 // If the target fails a call, the replay ends at that call.
 #[test]
-fn targets_that_fail_end_a_replay(rt: HostRuntime) -> Result<(), Fail> {
+fn targets_that_fail_end_a_replay(rt: HostRuntime) {
     assert_replays(
         &rt,
         rt.alloc(),
@@ -211,7 +208,7 @@ calls - 16 5;9=9:w5+1 w6+2 w8+1 d9+3 w1+1",
 // If the log's device fails, the replay ends too. If it fails in a search, no entry is applied. If
 // it fails while an entry's header or data is read, that entry isn't applied.
 #[test]
-fn log_devices_that_fail_end_a_replay(rt: HostRuntime) -> Result<(), Fail> {
+fn log_devices_that_fail_end_a_replay(rt: HostRuntime) {
     assert_replays(
         &rt,
         rt.alloc(),
@@ -231,23 +228,17 @@ calls 1 16 -;0=0:",
 }
 
 // Replays the log `MARKS` up to the first mark of exactly the bytes `mark`, and checks the result.
-fn check_mark(
-    rt: &(impl Abort + Print),
-    alloc: Global,
-    mark: &[u8],
-    wanted: &str,
-) -> Result<(), Fail> {
-    let image = image_named(alloc, "marks")?;
-    let mut pair = pair_of(rt, alloc, image, u64::MAX, 16, u64::MAX)?;
-    let found = step(alloc, &mut pair, &Upto::Mark(mark))?;
+fn check_mark(rt: &(impl Abort + Print), alloc: Global, mark: &[u8], wanted: &str) {
+    let image = image_named(rt, alloc, "marks");
+    let mut pair = pair_of(rt, alloc, image, u64::MAX, 16, u64::MAX);
+    let found = step(rt, alloc, &mut pair, &Upto::Mark(mark));
     assert!(rt; is_told(rt, found.as_str(), wanted, "a mark"));
-    Ok(())
 }
 
 // A replay ends at the first mark that has exactly the given text, whatever its bytes are. A mark
 // that only begins with the text doesn't count.
 #[test]
-fn marks_are_found_by_all_their_bytes(rt: HostRuntime) -> Result<(), Fail> {
+fn marks_are_found_by_all_their_bytes(rt: HostRuntime) {
     let alloc = rt.alloc();
     assert_replays(
         &rt,
@@ -256,15 +247,15 @@ fn marks_are_found_by_all_their_bytes(rt: HostRuntime) -> Result<(), Fail> {
 marks - 16 -;ma=2:
 marks - 16 -;m=3:
 marks - 16 -;mb=25 NoSuchMark after 0:",
-    )?;
-    check_mark(&rt, alloc, &[0, 255], "4:")?;
-    check_mark(&rt, alloc, &[0; 480], "6:")?;
+    );
+    check_mark(&rt, alloc, &[0, 255], "4:");
+    check_mark(&rt, alloc, &[0; 480], "6:");
     check_mark(&rt, alloc, &[0; 479], "25 NoSuchMark after 0:")
 }
 
 // A replay begins where the replay before it ended.
 #[test]
-fn replays_go_on_from_the_place(rt: HostRuntime) -> Result<(), Fail> {
+fn replays_go_on_from_the_place(rt: HostRuntime) {
     assert_replays(
         &rt,
         rt.alloc(),
@@ -275,7 +266,7 @@ flushes - 16 -;f=2:w2+1;f=1:;f=26 NoFlush after 0:",
 
 // Entries that the super block doesn't count aren't read.
 #[test]
-fn stale_entries_are_not_replayed(rt: HostRuntime) -> Result<(), Fail> {
+fn stale_entries_are_not_replayed(rt: HostRuntime) {
     assert_replays(
         &rt,
         rt.alloc(),
@@ -286,7 +277,7 @@ fn stale_entries_are_not_replayed(rt: HostRuntime) -> Result<(), Fail> {
 // If a reader refuses a call because of its log, it refuses later calls with 22. Only a call for
 // too many entries has its own refusal. After any other refusal the reader goes on.
 #[test]
-fn readers_refuse_after_a_refusal(rt: HostRuntime) -> Result<(), Fail> {
+fn readers_refuse_after_a_refusal(rt: HostRuntime) {
     assert_replays(
         &rt,
         rt.alloc(),

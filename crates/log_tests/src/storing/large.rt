@@ -1,16 +1,16 @@
 // Tests of logs with sectors of 4,096 bytes.
-ghost use Rattle.std.specs.Prelude.{IfOk, IsTrue};
+ghost use Rattle.std.specs.Prelude.{IsTrue};
 ghost use Rattle.bio.specs.Requests.{bytes_of, is_tracked};
 ghost use Rattle.log_format.specs.Entries.{is_readable};
 
-use bio::{Bio, Bytes, End, SectorSize, check_sized};
+use crate::writes::filled;
+use bio::{Bio, End, SectorSize, check_sized};
 use blockdev::BlockDev;
 use log_format::{Entry, read_super};
 use log_store::LogStore;
 use sector_disk::SectorDisk;
-use std::alloc::{AllocError, Global};
+use std::alloc::Global;
 use std::process::Abort;
-use std::test::Fail;
 use test_devices::{Watched, rows_are_told};
 
 // Rows `sectors steps=status;count of size` for a log on a disk of `sectors` sectors. `w` appends a
@@ -34,30 +34,30 @@ const CALLS: &str = "64 =F0+8
 64 wms=F0+8 w8+8 w16+8 w24+8 f0+0 F0+8";
 
 // Returns a write of 8 sectors.
-fn write(alloc: Global) -> Result<Bio, AllocError>
-    ensures { IfOk result (λ bio. IsTrue (is_tracked bio)) }
+fn write(rt: &impl Abort, alloc: Global) -> Bio
+    ensures { IsTrue (is_tracked result) }
 {
-    Ok(Bio::Write {
+    Bio::Write {
         first: 16,
-        bytes: Bytes::from_vec(vec![in alloc; 0x41; 4096]?),
+        bytes: filled(rt, alloc, 0x41, 4096),
         flush: false,
         fua: false,
         meta: false,
-    })
+    }
 }
 
 // Returns the entry that a step appends, in a log with sectors of size `size`.
-fn entry(rt: &impl Abort, alloc: Global, size: SectorSize, step: u8) -> Result<Entry, Fail>
-    ensures { IfOk result (λ entry. IsTrue (is_readable (bytes_of size) entry)) }
+fn entry(rt: &impl Abort, alloc: Global, size: SectorSize, step: u8) -> Entry
+    ensures { IsTrue (is_readable (bytes_of size) result) }
 {
     if step == b'm' {
         log_format::laws::end_mark_is_readable();
-        return Ok(Entry::end_mark(alloc)?);
+        return Entry::end_mark(alloc).expect(rt, "memory");
     }
     log_format::laws::requests_are_readable();
-    let bio = write(alloc)?;
+    let bio = write(rt, alloc);
     assert!(rt; check_sized(&bio, 1_048_576, size).is_ok());
-    Ok(Entry::of_request(alloc, &bio, size.bytes())?)
+    Entry::of_request(alloc, &bio, size.bytes()).expect(rt, "memory")
 }
 
 // Returns a store with a new log on a device, after these steps.
@@ -66,7 +66,7 @@ fn stored<D: BlockDev + Drop>(
     alloc: Global,
     device: D,
     steps: &str,
-) -> Result<LogStore<D>, Fail> {
+) -> LogStore<D> {
     assert!(rt; device.sectors() >= 8);
     let mut store = LogStore::create_sized(device, SectorSize::B4096)
         .ok()
@@ -77,52 +77,50 @@ fn stored<D: BlockDev + Drop>(
             store.settle().err()
         } else {
             store
-                .append(&entry(rt, alloc, store.sector_size(), step)?)
+                .append(&entry(rt, alloc, store.sector_size(), step))
                 .err()
         };
         assert!(rt; matches!(refused, None | Some(End::Full)));
     }
-    Ok(store)
+    store
 }
 
-// Returns a row's disk and its steps.
-fn split(alloc: Global, row: &str) -> Result<(SectorDisk, &str), Fail> {
-    let (sectors, steps) = row.split_once(' ').unwrap_or_default();
+// Returns a disk whose number of sectors is a row's first word.
+fn disk_of(rt: &impl Abort, alloc: Global, sectors: &str) -> SectorDisk {
     let sectors = sectors.parse::<u64>().unwrap_or(0).clamp(8, 8192);
-    Ok((SectorDisk::new(alloc, sectors)?, steps))
+    SectorDisk::new(alloc, sectors).expect(rt, "memory")
 }
 
 // Makes the log of a row. Returns its status, and its super block after a crash.
-fn log_told(rt: &impl Abort, alloc: Global, row: &str) -> Result<String, Fail> {
-    let (disk, steps) = split(alloc, row)?;
-    let store = stored(rt, alloc, disk, steps)?;
+fn log_told(rt: &impl Abort, alloc: Global, row: &str) -> String {
+    let (sectors, steps) = row.split_once(' ').unwrap_or_default();
+    let store = stored(rt, alloc, disk_of(rt, alloc, sectors), steps);
     let status = store.status();
     let mut disk = store.into_device();
     disk.crash(&[0; 128]);
-    let head = read_super(disk.bytes()?.as_slice())
+    let head = read_super(disk.bytes().expect(rt, "memory").as_slice())
         .ok()
         .expect(rt, "a log");
-    Ok(format!(in alloc; "{status};{} of {}", head.count, head.sectorsize)?)
+    format!(in alloc; "{status};{} of {}", head.count, head.sectorsize).expect(rt, "memory")
 }
 
 #[test]
-fn large_logs_are_kept(rt: HostRuntime) -> Result<(), Fail> {
+fn large_logs_are_kept(rt: HostRuntime) {
     let alloc = rt.alloc();
-    assert!(rt; rows_are_told(&rt, LOGS, |row| log_told(&rt, alloc, row))?);
-    Ok(())
+    assert!(rt; rows_are_told(&rt, LOGS, |row| log_told(&rt, alloc, row)));
 }
 
 // Makes the log of a row, and returns the calls of its device.
-fn calls_told(rt: &impl Abort, alloc: Global, row: &str) -> Result<String, Fail> {
-    let (disk, steps) = split(alloc, row)?;
-    let store = stored(rt, alloc, Watched::new(alloc, disk), steps)?;
+fn calls_told(rt: &impl Abort, alloc: Global, row: &str) -> String {
+    let (sectors, steps) = row.split_once(' ').unwrap_or_default();
+    let device = Watched::new(alloc, disk_of(rt, alloc, sectors));
+    let store = stored(rt, alloc, device, steps);
     let seen = store.into_device().seen;
-    Ok(format!(in alloc; "{}", seen.as_str().trim_end())?)
+    format!(in alloc; "{}", seen.as_str().trim_end()).expect(rt, "memory")
 }
 
 #[test]
-fn large_logs_call_their_device(rt: HostRuntime) -> Result<(), Fail> {
+fn large_logs_call_their_device(rt: HostRuntime) {
     let alloc = rt.alloc();
-    assert!(rt; rows_are_told(&rt, CALLS, |row| calls_told(&rt, alloc, row))?);
-    Ok(())
+    assert!(rt; rows_are_told(&rt, CALLS, |row| calls_told(&rt, alloc, row)));
 }

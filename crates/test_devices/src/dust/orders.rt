@@ -9,7 +9,6 @@ use sector_disk::SectorDisk;
 use std::alloc::Global;
 use std::io::Print;
 use std::process::Abort;
-use std::test::Fail;
 
 // Returns how many writes of a sector fail before one succeeds.
 fn failed_writes<D: Message + Drop>(rt: &impl Abort, device: &mut D, sector: u64) -> u64 {
@@ -47,14 +46,13 @@ fn list_block<D: Message + Drop>(rt: &(impl Abort + Print), device: &mut D, row:
 }
 
 #[test]
-fn texts_that_list_a_block(rt: HostRuntime) -> Result<(), Fail> {
-    let disk = SectorDisk::new(rt.alloc(), 128)?;
+fn texts_that_list_a_block(rt: HostRuntime) {
+    let disk = SectorDisk::new(rt.alloc(), 128).expect(&rt, "memory");
     let mut device = by_sector(rt.alloc(), disk);
     assert_eq!(rt; device.message(1, "enable"), Ok(()));
     for row in ADDED.split('\n') {
         list_block(&rt, &mut device, row);
     }
-    Ok(())
 }
 
 // Texts that aren't messages; each is followed by `|`.
@@ -68,13 +66,12 @@ fn refuse<D: Message + Drop>(rt: &(impl Abort + Print), device: &mut D, text: &s
 }
 
 #[test]
-fn texts_that_ask_for_none(rt: HostRuntime) -> Result<(), Fail> {
-    let disk = SectorDisk::new(rt.alloc(), 128)?;
+fn texts_that_ask_for_none(rt: HostRuntime) {
+    let disk = SectorDisk::new(rt.alloc(), 128).expect(&rt, "memory");
     let mut device = by_sector(rt.alloc(), disk);
     for text in NO_ORDERS.split('|') {
         refuse(&rt, &mut device, text);
     }
-    Ok(())
 }
 
 // Rows `message|answer|state` for a layer of 99 sectors with blocks of 2 sectors, one after
@@ -128,10 +125,10 @@ fn put_message<D: BlockDev + Drop>(
     alloc: Global,
     device: &mut Dust<D>,
     row: &str,
-) -> Result<(), Fail> {
+) {
     let (text, rest) = row.split_once('|').unwrap_or_default();
     let (wanted, letters) = rest.split_once('|').unwrap_or_default();
-    let answer = answer_of(alloc, device, 1, text)?;
+    let answer = answer_of(rt, alloc, device, 1, text);
     assert!(rt; is_told(rt, answer.as_str(), wanted, row));
     let wanted = [
         letters.contains('e'),
@@ -139,17 +136,15 @@ fn put_message<D: BlockDev + Drop>(
         letters.contains('l'),
     ];
     assert!(rt; is_same(rt, &state(rt, device), &wanted, row));
-    Ok(())
 }
 
 #[test]
-fn answers_of_messages(rt: HostRuntime) -> Result<(), Fail> {
-    let disk = SectorDisk::new(rt.alloc(), 99)?;
+fn answers_of_messages(rt: HostRuntime) {
+    let disk = SectorDisk::new(rt.alloc(), 99).expect(&rt, "memory");
     let mut device = over(rt.alloc(), disk);
     for row in ANSWERS.split('\n') {
-        put_message(&rt, rt.alloc(), &mut device, row)?;
+        put_message(&rt, rt.alloc(), &mut device, row);
     }
-    Ok(())
 }
 
 // Rows for a layer with blocks of two sectors. It has as many blocks as begin in it: with one or
@@ -164,11 +159,10 @@ m 1 addbadblock 1|ok
 m 1 addbadblock 2|6 BadMessage";
 
 #[test]
-fn blocks_within_a_layer(rt: HostRuntime) -> Result<(), Fail> {
+fn blocks_within_a_layer(rt: HostRuntime) {
     for (sectors, rows) in [(1, ONE), (2, ONE), (3, TWO), (4, TWO)] {
         assert!(rt; 0 < sectors && sectors <= 4);
-        let disk = SectorDisk::new(rt.alloc(), sectors)?;
-        talk_over(&rt, rt.alloc(), disk, rows)?;
+        let disk = SectorDisk::new(rt.alloc(), sectors).expect(&rt, "memory");
+        talk_over(&rt, rt.alloc(), disk, rows);
     }
-    Ok(())
 }

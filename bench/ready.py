@@ -8,8 +8,7 @@
         Says also where docs/HEADLINE.md isn't what bench/headline.py writes, which places the documents cite that aren't there, which definitions docs/ARCHITECTURE.md
         explains that aren't in the file that it names, which files have no head, which cite what another crate has in proofs/ or specs/inside/, which names a .antt file
         imports and doesn't use (`rt tidy` would drop them), and if release/ is there and isn't of the tree at hand (bench/release.py).
-        Warns of house words in the comments and pages that changed since origin/main (else since the last commit), of sentences of over 25 words in the documents,
-        and of documents of over 40,000 words. Warnings leave the exit status.
+        Warns of house words in the comments and pages that changed since origin/main (else since the last commit). Warnings leave the exit status.
 
 The repository's files stay as they are, but for what --count writes. It needs the kit's `rt` on the PATH.
 """
@@ -21,8 +20,6 @@ root = os.path.dirname(os.path.dirname(os.path.abspath(__file__)))
 # Words that a reader has to translate: what is meant is a count, `is`, `only`, `if`, `reported`, `after`, `with`, `below`, the result, a prefix, a header.
 HOUSE_WORDS = re.compile(r"\b(so many|stands?|stood|standing|alone|just|where|tells?|told|said|hears?|heard|behind|beside|beneath|comes? to|came to|what comes out"
                          r"|hand(?:s|ed)? (?:over|back)|beginnings?|own sectors?|(?:a|no) clause says|one spelling|want of memory|growths?)\b", re.I)
-LONGEST = 25
-MOST_WORDS = 40_000
 
 
 def text_of(path):
@@ -147,28 +144,6 @@ def house_words():
             yield f"{file}: house words, more than before: {', '.join(words)}"
 
 
-def sentences_of(text):
-    """The sentences of a page, without its code, tables and headings."""
-    text = re.sub(r"^```.*?^```$|^<!--.*?-->$", "", text, flags=re.M | re.S)
-    lines = ["" if re.match(r"    |#|\|", line) or " | " in line else re.sub(r"^(?:> |\s*(?:-|\d+\.) )", "\n\n", line) for line in text.split("\n")]
-    for block in re.split(r"\n\s*\n", "\n".join(lines)):
-        yield from re.split(r"(?<=[.!?:])\)?\*{0,2}\s+", " ".join(block.split()))
-
-
-def long_sentences():
-    for page in pages():
-        long = [it for it in sentences_of(text_of(page)) if len(re.findall(r"\S*\w\S*", it)) > LONGEST]
-        if long:
-            worst = max(long, key=lambda it: len(it.split()))
-            yield f"{os.path.relpath(page, root)}: {len(long)} sentences of over {LONGEST} words, the longest: {' '.join(worst.split()[:8])} .."
-
-
-def too_many_words():
-    count = sum(len(text_of(page).split()) for page in pages())
-    if count > MOST_WORDS:
-        yield f"the documents have {count} words, over {MOST_WORDS}"
-
-
 def headline_off():
     said = subprocess.run([sys.executable, f"{root}/bench/headline.py", "--check"], stdout=subprocess.PIPE, text=True).stdout
     return said.split("\n")[:-1]
@@ -198,7 +173,7 @@ def main():
     for crate, name, _ in kept:
         if not any(planted.slug_of(bug) == name for bug, _, _ in bugs[crate]):
             found.append(f"crates/{crate}/must-fail/{name}.edit: no entry in planted.txt")
-    for warning in (*house_words(), *long_sentences(), *too_many_words()):
+    for warning in house_words():
         print(f"warning: {warning}")
     print("\n".join(found) or "ready")
     return 1 if found else 0

@@ -199,22 +199,27 @@ fn tells_a_fault_in_one_write(rt: HostRuntime) {
 }
 
 // Texts that the page of `dmlw help formats` must contain, one in each line.
-const ROWS: &str = "| 0 | done |
-| 1 | refused: a line on standard error says by which number and name;
-| 2 | the command line isn't one of the program's |
-| 3 | logging ended before its time:
-| `w <id> <first> <count> <byte> [flush] [fua] [meta]` | submits a write of that byte
-| 1 to 2,048 sectors, two lower case hexadecimal digits |
-| 1 to 1,048,576 |
-| 2 | Memory |
-| 3, 4, 5 | PastEnd, TooLong, NotWhole |
-| 13, 14, 15 | BadMagic, BadVersion, BadSectorSize |
-| 24 | Busy |
-| 25, 26 | NoSuchMark, NoFlush |
-| 30 | BadLine |
-| 32 | File |
-| 33 | PastEntries |
-| 34 | BadMoment |";
+const ROWS: &str = "    0  Done.
+    1  Refused: standard error has the fault.
+    2  The command line isn't one of the program's.
+    3  Logging ended early: the log is full,
+    w <id> <first> <count> <byte> [flush] [fua] [meta]
+    a request                 1 to 2,048 sectors
+    a disk, a layer, FIRST    1 to 1,048,576 sectors
+     2 Memory
+     3 PastEnd
+     4 TooLong
+     5 NotWhole
+    13 BadMagic
+    14 BadVersion
+    15 BadSectorSize
+    24 Busy
+    25 NoSuchMark
+    26 NoFlush
+    30 BadLine
+    32 File
+    33 PastEntries
+    34 BadMoment";
 
 // Returns a session with an empty file.
 fn session_of_nothing(alloc: Global) -> Session<OneFile<'static>, Vec<u8>, Vec<u8>> {

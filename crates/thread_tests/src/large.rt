@@ -9,8 +9,9 @@ use blockdev::BlockDev;
 use lock_state::Item;
 use log_reader::LogReader;
 use sector_disk::SectorDisk;
-use std::alloc::{AllocError, Global};
+use std::alloc::Global;
 use std::io::Print;
+use std::process::Abort;
 use std::sync::Wait;
 use std::test::*;
 use std::thread::Threads;
@@ -28,25 +29,27 @@ const LATE: u8 = 200;
 
 // Returns the calls of a seat that writes each of its sectors once, and then makes a mark with its
 // number.
-fn writes_and_mark(alloc: Global, seat: u64) -> Result<Table, AllocError>
+fn writes_and_mark(rt: &impl Abort, alloc: Global, seat: u64) -> Table
     requires { seat < 4 }
 {
     let mut calls = Vec::new(alloc);
     for place in 0..OWN {
-        calls.push(Call::Write {
+        let write = Call::Write {
             first: seat * OWN + place,
             byte: seat as u8 + 1,
             fua: false,
-        })?;
+        };
+        calls.push(write).expect(rt, "memory");
     }
-    calls.push(Call::Mark {
+    let mark = Call::Mark {
         byte: seat as u8 + 49,
-    })?;
-    Ok(Table {
+    };
+    calls.push(mark).expect(rt, "memory");
+    Table {
         calls,
         late: Vec::new(alloc),
         after: None,
-    })
+    }
 }
 
 // Returns whether each of four seats had the answers `wanted`.
@@ -109,24 +112,24 @@ fn read_back(alloc: Global, log: SectorDisk) -> u64 {
 // four readers read the status. Returns whether the answers, the receipts, the status and the
 // number of entries in the log are right. No reader may read a status that went back, and each must
 // read the last status.
-fn four_seats<H: Threads + Wait + Clock + Print + Sync + Send + Copy + Drop>(
+fn four_seats<H: Threads + Wait + Clock + Print + Sync + Send + Copy + Drop + Abort>(
     rt: &H,
     alloc: Global,
     sectors: u64,
     status: Status,
     listed: u64,
-) -> Result<bool, AllocError>
+) -> bool
     requires { (0 < sectors) × (sectors ≤ 1048576) }
 {
     let mut tables = Vec::new(alloc);
     for seat in 0..SEATS {
-        tables.push(writes_and_mark(alloc, seat)?)?;
+        tables
+            .push(writes_and_mark(rt, alloc, seat))
+            .expect(rt, "memory");
     }
-    let device = open_disk(rt, alloc, SEATS * OWN)?;
-    let log = open_disk(rt, alloc, sectors)?;
-    let Some(played) = stage(rt, alloc, tables, device, log, SEATS)? else {
-        return Ok(holds(rt, false, "four seats play"));
-    };
+    let device = open_disk(rt, alloc, SEATS * OWN);
+    let log = open_disk(rt, alloc, sectors);
+    let played = stage(rt, alloc, tables, device, log, SEATS);
     let Played {
         tallies,
         let_go: _,
@@ -143,7 +146,7 @@ fn four_seats<H: Threads + Wait + Clock + Print + Sync + Send + Copy + Drop>(
     let are_named = are_named(rt, receipts.as_slice(), closed.placed.as_slice());
     let read = read_back(alloc, closed.log.into_lower());
     let is_read = is_same(rt, &read, &listed, "entries that are read back");
-    Ok(has_status && have_answered && do_rise && are_seen && are_named && is_read)
+    has_status && have_answered && do_rise && are_seen && are_named && is_read
 }
 
 #[test]
@@ -153,7 +156,7 @@ fn four_seats_fill_a_log(rt: HostRuntime) -> Result<(), Fail> {
         sector: 805,
         end: None,
     };
-    assert!(rt; four_seats(&rt, rt.alloc(), 807, status, 405)?);
+    assert!(rt; four_seats(&rt, rt.alloc(), 807, status, 405));
     Ok(())
 }
 
@@ -164,42 +167,43 @@ fn four_seats_find_a_log_full(rt: HostRuntime) -> Result<(), Fail> {
         sector: 804,
         end: Some(End::Full),
     };
-    assert!(rt; four_seats(&rt, rt.alloc(), 806, status, 4)?);
+    assert!(rt; four_seats(&rt, rt.alloc(), 806, status, 4));
     Ok(())
 }
 
 // Returns the calls of a seat that writes each of its sectors and reads it at once, and then
 // flushes. After `ask_close` it makes the calls of `late_calls`.
-fn writes_read_back(alloc: Global, seat: u64) -> Result<Table, AllocError>
+fn writes_read_back(rt: &impl Abort, alloc: Global, seat: u64) -> Table
     requires { seat < 4 }
 {
     let mut calls = Vec::new(alloc);
     for place in 0..OWN {
         let first = seat * OWN + place;
         let byte = place as u8 + 1;
-        calls.push(Call::Write {
+        let write = Call::Write {
             first,
             byte,
             fua: false,
-        })?;
-        calls.push(Call::Read { first, byte })?;
+        };
+        calls.push(write).expect(rt, "memory");
+        calls.push(Call::Read { first, byte }).expect(rt, "memory");
     }
-    calls.push(Call::Flush)?;
-    Ok(Table {
+    calls.push(Call::Flush).expect(rt, "memory");
+    Table {
         calls,
-        late: late_calls(alloc, seat * OWN)?,
+        late: late_calls(rt, alloc, seat * OWN),
         after: None,
-    })
+    }
 }
 
 // Returns the calls of a seat after `ask_close`; `first` is its first sector. It writes this
 // sector, writes the second one with FUA, and discards the third. Then it reads each of the three,
 // and marks.
-fn late_calls(alloc: Global, first: u64) -> Result<Vec<Call>, AllocError>
+fn late_calls(rt: &impl Abort, alloc: Global, first: u64) -> Vec<Call>
     requires { first < 400 }
 {
     let byte = LATE;
-    Ok(vec![in alloc;
+    vec![in alloc;
         Call::Write {
             first,
             byte,
@@ -221,27 +225,23 @@ fn late_calls(alloc: Global, first: u64) -> Result<Vec<Call>, AllocError>
             byte: 0,
         },
         Call::Mark { byte },
-    ]?)
+    ]
+    .expect(rt, "memory")
 }
 
 // Returns whether a sector of a disk is filled with `byte`.
-fn has_byte(
-    disk: &mut SectorDisk,
-    alloc: Global,
-    sector: u64,
-    byte: u8,
-) -> Result<bool, AllocError> {
-    let mut buffer = vec![in alloc; 0; 512]?;
+fn has_byte(rt: &impl Abort, disk: &mut SectorDisk, alloc: Global, sector: u64, byte: u8) -> bool {
+    let mut buffer = vec![in alloc; 0; 512].expect(rt, "memory");
     if sector >= disk.sectors() {
-        return Ok(false);
+        return false;
     }
     if disk
         .read(Ms::new(0), sector, buffer.as_mut_slice())
         .is_err()
     {
-        return Ok(false);
+        return false;
     }
-    Ok(buffer.as_slice().iter().all(|&found| found == byte))
+    buffer.as_slice().iter().all(|&found| found == byte)
 }
 
 // Returns the byte that must fill a seat's sector number `place`. For the first three sectors
@@ -257,30 +257,30 @@ fn byte_of(place: u64, first: [u8; 3]) -> u8 {
 
 // Returns whether each sector of the four seats is filled with its byte; `first` has those of each
 // seat's first three sectors.
-fn have_bytes(disk: &mut SectorDisk, alloc: Global, first: [u8; 3]) -> Result<bool, AllocError> {
+fn have_bytes(rt: &impl Abort, disk: &mut SectorDisk, alloc: Global, first: [u8; 3]) -> bool {
     let mut have = true;
     for sector in 0..SEATS * OWN {
-        have = has_byte(disk, alloc, sector, byte_of(sector % OWN, first))? && have;
+        have = has_byte(rt, disk, alloc, sector, byte_of(sector % OWN, first)) && have;
     }
-    Ok(have)
+    have
 }
 
 // Four seats write, read and flush, and change sectors again after `ask_close`. Returns whether
 // each read found what was written, and each sector of the device has its last value. After a crash
 // each sector must have its flushed value, or that of the late FUA write.
-fn readback<H: Threads + Wait + Clock + Print + Sync + Send + Copy + Drop>(
+fn readback<H: Threads + Wait + Clock + Print + Sync + Send + Copy + Drop + Abort>(
     rt: &H,
     alloc: Global,
-) -> Result<bool, AllocError> {
+) -> bool {
     let mut tables = Vec::new(alloc);
     for seat in 0..SEATS {
-        tables.push(writes_read_back(alloc, seat)?)?;
+        tables
+            .push(writes_read_back(rt, alloc, seat))
+            .expect(rt, "memory");
     }
-    let device = open_disk(rt, alloc, SEATS * OWN)?;
-    let log = open_disk(rt, alloc, 1000)?;
-    let Some(played) = stage(rt, alloc, tables, device, log, 0)? else {
-        return Ok(holds(rt, false, "four seats read back"));
-    };
+    let device = open_disk(rt, alloc, SEATS * OWN);
+    let log = open_disk(rt, alloc, 1000);
+    let played = stage(rt, alloc, tables, device, log, 0);
     let wanted = Tally {
         refused: 1,
         ..tally(OWN + 4, 0, OWN + 3)
@@ -288,16 +288,16 @@ fn readback<H: Threads + Wait + Clock + Print + Sync + Send + Copy + Drop>(
     let have_answered = have_answers(rt, played.tallies.as_slice(), &wanted);
     let closed = played.closed;
     let mut disk = closed.device.into_lower();
-    let has_last = have_bytes(&mut disk, alloc, [LATE, LATE, 0])?;
+    let has_last = have_bytes(rt, &mut disk, alloc, [LATE, LATE, 0]);
     disk.crash(&[]);
-    let has_flushed = have_bytes(&mut disk, alloc, [1, LATE, 3])?;
+    let has_flushed = have_bytes(rt, &mut disk, alloc, [1, LATE, 3]);
     let has_last = holds(rt, has_last, "the last writes stand");
     let has_flushed = holds(rt, has_flushed, "what was flushed stands after a crash");
-    Ok(have_answered && has_last && has_flushed)
+    have_answered && has_last && has_flushed
 }
 
 #[test]
 fn reads_find_what_was_written(rt: HostRuntime) -> Result<(), Fail> {
-    assert!(rt; readback(&rt, rt.alloc())?);
+    assert!(rt; readback(&rt, rt.alloc()));
     Ok(())
 }

@@ -5,15 +5,13 @@
 #[cfg(test)]
 mod boards;
 #[cfg(test)]
-mod closes;
-#[cfg(test)]
 mod gate;
 #[cfg(test)]
 mod histories;
 #[cfg(test)]
 mod large;
 #[cfg(test)]
-mod moments;
+mod one;
 #[cfg(test)]
 mod play;
 #[cfg(test)]

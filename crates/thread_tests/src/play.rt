@@ -10,7 +10,8 @@ use blockdev::BlockDev;
 use board::Names;
 use lock_state::{Receipt, Run, Seat};
 use shared::{Closed, Ending, Shared, Started, StatusSeat, Unnamed, WriterSeat};
-use std::alloc::{AllocError, Global};
+use std::alloc::Global;
+use std::process::Abort;
 use std::sync::Wait;
 use std::thread;
 use std::thread::Threads;
@@ -78,13 +79,12 @@ struct Called<R: Run + Names> {
 }
 
 // Starts the writer and the readers, makes each seat's calls in a thread, calls `ask_close`, and
-// makes the late calls. Returns None if a thread can't be started or `ask_close` is refused. In
-// that case it ends logging, if the writer runs, since the writer would wait for more entries.
+// makes the late calls. A thread that can't be started and a refused `ask_close` stop the test.
 fn run_all<
     D: BlockDev + Drop + Send,
     L: BlockDev + Drop + Send,
     R: Run + Names + Send + Sync,
-    H: Threads + Wait + Clock + Sync,
+    H: Threads + Wait + Clock + Sync + Abort,
 >(
     rt: &H,
     alloc: Global,
@@ -92,31 +92,26 @@ fn run_all<
     writer: &mut WriterSeat<R>,
     works: Vec<Work<R>>,
     watches: Vec<Watch<R>>,
-) -> Option<Called<R>> {
+) -> Called<R> {
     thread::scope(
         thread::scope_env(),
         rt,
-        |scope| -> Option<Called<R>>
+        |scope| -> Called<R>
             requires { IsSend D.row × IsSend L.row × IsSend R.row }
         {
-            if scope
+            scope
                 .spawn(move || recorder.write_loop(rt, writer))
-                .is_err()
-            {
-                return None;
-            }
-            let Ok(lookers) = scope.spawn(move || look_all(rt, recorder, watches)) else {
-                recorder.give_up(rt);
-                return None;
-            };
+                .ok()
+                .expect(rt, "the writer's thread");
+            let lookers = scope
+                .spawn(move || look_all(rt, recorder, watches))
+                .ok()
+                .expect(rt, "the readers' thread");
             let works = call_all(rt, alloc, recorder, works);
-            if recorder.ask_close(rt).is_err() {
-                recorder.give_up(rt);
-                return None;
-            }
+            recorder.ask_close(rt).ok().expect(rt, "a close");
             let works = call_all_late(rt, alloc, recorder, works);
             let watches = lookers.join(rt);
-            Some(Called { works, watches })
+            Called { works, watches }
         },
     )
 }
@@ -177,32 +172,36 @@ fn call_all_late<
 
 // Pairs each seat with a table, before its first call.
 fn works_of<R: Run + Names>(
+    rt: &impl Abort,
     alloc: Global,
     seats: Vec<Seat<R>>,
     tables: Vec<Table>,
-) -> Result<Vec<Work<R>>, AllocError> {
+) -> Vec<Work<R>> {
     let mut works = Vec::new(alloc);
     for (seat, table) in seats.into_iter().zip(tables) {
-        works.push(Work {
-            player: Player {
-                seat,
-                tally: Tally::new(),
-                receipts: Vec::new(alloc),
-            },
-            calls: table.calls,
-            late: table.late,
-            after: table.after,
-            let_go: true,
-        })?;
+        works
+            .push(Work {
+                player: Player {
+                    seat,
+                    tally: Tally::new(),
+                    receipts: Vec::new(alloc),
+                },
+                calls: table.calls,
+                late: table.late,
+                after: table.after,
+                let_go: true,
+            })
+            .expect(rt, "memory");
     }
-    Ok(works)
+    works
 }
 
 // Returns the readers, before their first read.
 fn watches_of<R: Run + Names>(
+    rt: &impl Abort,
     alloc: Global,
     readers: Vec<StatusSeat<R>>,
-) -> Result<Vec<Watch<R>>, AllocError> {
+) -> Vec<Watch<R>> {
     let last = Status {
         entries: 0,
         sector: 0,
@@ -210,13 +209,15 @@ fn watches_of<R: Run + Names>(
     };
     let mut watches = Vec::new(alloc);
     for seat in readers {
-        watches.push(Watch {
-            seat,
-            last,
-            fell: false,
-        })?;
+        watches
+            .push(Watch {
+                seat,
+                last,
+                fell: false,
+            })
+            .expect(rt, "memory");
     }
-    Ok(watches)
+    watches
 }
 
 // What the works leave: seats, receipts and tallies.
@@ -229,7 +230,7 @@ struct Parts<R: Run + Names> {
 }
 
 // Splits the works into their seats, their tallies in the same order, and their receipts.
-fn parts_of<R: Run + Names>(alloc: Global, works: Vec<Work<R>>) -> Result<Parts<R>, AllocError> {
+fn parts_of<R: Run + Names>(rt: &impl Abort, alloc: Global, works: Vec<Work<R>>) -> Parts<R> {
     let mut seats = Vec::new(alloc);
     let mut receipts = Vec::new(alloc);
     let mut tallies = Vec::new(alloc);
@@ -241,52 +242,55 @@ fn parts_of<R: Run + Names>(alloc: Global, works: Vec<Work<R>>) -> Result<Parts<
             tally,
             receipts: mut own,
         } = work.player;
-        tallies.push(tally)?;
-        receipts.append(&mut own)?;
-        seats.push(seat)?;
+        tallies.push(tally).expect(rt, "memory");
+        receipts.append(&mut own).expect(rt, "memory");
+        seats.push(seat).expect(rt, "memory");
     }
-    Ok(Parts {
+    Parts {
         seats,
         receipts,
         tallies,
         let_go,
-    })
+    }
 }
 
 // Returns the id and the number of each receipt.
-fn names_of<R: Run>(alloc: Global, receipts: &[Receipt<R>]) -> Result<Vec<(Id, u64)>, AllocError> {
+fn names_of<R: Run>(rt: &impl Abort, alloc: Global, receipts: &[Receipt<R>]) -> Vec<(Id, u64)> {
     let mut names = Vec::new(alloc);
     for receipt in receipts {
-        names.push((receipt.id(), receipt.number()))?;
+        names
+            .push((receipt.id(), receipt.number()))
+            .expect(rt, "memory");
     }
-    Ok(names)
+    names
 }
 
 // Makes each reader read once more. Returns the status that each read last, and whether no reader
 // read a status that went back.
 fn last_looks<D: BlockDev + Drop, L: BlockDev + Drop, R: Run + Names>(
+    rt: &impl Abort,
     alloc: Global,
     recorder: &Shared<D, L, R>,
     watches: Vec<Watch<R>>,
-) -> Result<(Vec<Status>, bool), AllocError> {
+) -> (Vec<Status>, bool) {
     let mut seen = Vec::new(alloc);
     let mut rises = true;
     for watch in watches {
         let mut watch = watch;
         watch.look(recorder, 1);
         rises = rises && !watch.fell;
-        seen.push(watch.last)?;
+        seen.push(watch.last).expect(rt, "memory");
     }
-    Ok((seen, rises))
+    (seen, rises)
 }
 
-/// Makes the calls of the tables, with a seat for each, and closes the recorder. Returns None if
+/// Makes the calls of the tables, with a seat for each, and closes the recorder. Stops the test if
 /// the recorder or a thread can't be started, or if `ask_close` or the close is refused.
 pub fn play<
     D: BlockDev + Drop + Send,
     L: BlockDev + Drop + Send,
     R: Run + Names + Send + Sync,
-    H: Threads + Wait + Clock + Sync,
+    H: Threads + Wait + Clock + Sync + Abort,
 >(
     rt: &H,
     alloc: Global,
@@ -296,7 +300,7 @@ pub fn play<
     tables: Vec<Table>,
     count: u64,
     readers: u64,
-) -> Result<Option<Played<D, L>>, AllocError>
+) -> Played<D, L>
     requires seats { (0 < count) × (count ≤ 64) }
     requires readers { readers ≤ 64 }
     requires ledger { (unnamed.ledger.name ≡ R.name) × (unnamed.ledger.parts ≡ R.parts)
@@ -308,42 +312,49 @@ pub fn play<
     requires log { R.log ≡ ground_of (L.shown log) }
     requires sector_size { R.sector_bytes ≡ 512 }
 {
-    let Ok(started) = Shared::<D, L, R>::new(alloc, unnamed, device, log, count, readers) else {
-        return Ok(None);
-    };
+    let started = Shared::<D, L, R>::new(alloc, unnamed, device, log, count, readers)
+        .ok()
+        .expect(rt, "a recorder starts");
     let Started {
         recorder,
         seats,
         mut writer,
         readers,
     } = started;
-    let watches = watches_of(alloc, readers)?;
-    let works = works_of(alloc, seats, tables)?;
-    let Some(called) = run_all(rt, alloc, &recorder, &mut writer, works, watches) else {
-        return Ok(None);
-    };
+    let watches = watches_of(rt, alloc, readers);
+    let works = works_of(rt, alloc, seats, tables);
+    let called = run_all(rt, alloc, &recorder, &mut writer, works, watches);
+    end(rt, alloc, recorder, writer, called)
+}
+
+// Closes the recorder, after all calls.
+fn end<D: BlockDev + Drop, L: BlockDev + Drop, R: Run + Names>(
+    rt: &impl Abort,
+    alloc: Global,
+    recorder: Shared<D, L, R>,
+    writer: WriterSeat<R>,
+    called: Called<R>,
+) -> Played<D, L> {
     let Called { works, watches } = called;
+    let (seen, rises) = last_looks(rt, alloc, &recorder, watches);
     let Parts {
         seats,
         receipts,
         tallies,
         let_go,
-    } = parts_of(alloc, works)?;
-    let (seen, rises) = last_looks(alloc, &recorder, watches)?;
-    let kept = names_of(alloc, receipts.as_slice())?;
-    let Ok(
-        Ending {
-            closed,
-            posts: _,
-            released,
-            written: _,
-            found: _,
-        },
-    ) = recorder.close(seats, writer, receipts)
-    else {
-        return Ok(None);
-    };
-    Ok(Some(Played {
+    } = parts_of(rt, alloc, works);
+    let kept = names_of(rt, alloc, receipts.as_slice());
+    let Ending {
+        closed,
+        posts: _,
+        released,
+        written: _,
+        found: _,
+    } = recorder
+        .close(seats, writer, receipts)
+        .ok()
+        .expect(rt, "a close");
+    Played {
         tallies,
         let_go,
         seen,
@@ -351,5 +362,5 @@ pub fn play<
         receipts: kept,
         closed,
         released,
-    }))
+    }
 }

@@ -11,9 +11,10 @@ use lock_state::{DataState, Fresh, LogState, QueueState, Run, Seat, WriterPart, 
 use log_store::LogStore;
 use pending::is_text;
 use sector_disk::SectorDisk;
-use std::alloc::{AllocError, Global};
+use std::alloc::Global;
 use std::io::Print;
 use std::marker::Brand;
+use std::process::Abort;
 use std::sync::ledger::Blank;
 use std::test::*;
 use test_devices::holds;
@@ -25,14 +26,14 @@ const SECTORS: u64 = 64;
 const LOG_SECTORS: u64 = 128;
 
 // Returns a write of one log sector: number `number` of the device's pieces of that size.
-fn write(alloc: Global, size: SectorSize, number: u64, fua: bool) -> Result<Bio, AllocError> {
-    Ok(Bio::Write {
+fn write(rt: &impl Abort, alloc: Global, size: SectorSize, number: u64, fua: bool) -> Bio {
+    Bio::Write {
         first: number.saturating_mul(size.sectors()),
-        bytes: Bytes::from_vec(vec![in alloc; 7; size.bytes() as usize]?),
+        bytes: Bytes::from_vec(vec![in alloc; 7; size.bytes() as usize].expect(rt, "memory")),
         flush: false,
         fua,
         meta: false,
-    })
+    }
 }
 
 // Records a request of a seat, passes it to the device, and records its end. Returns whether all of
@@ -73,35 +74,35 @@ fn turn<R: Run>(queue: &mut QueueState<R>, log: &mut LogState<SectorDisk, R>) ->
 
 // Records a mark of a seat. Returns whether it was recorded.
 fn mark<R: Run>(
+    rt: &impl Abort,
     alloc: Global,
     queue: &mut QueueState<R>,
     seat: &mut Seat<R>,
-) -> Result<bool, AllocError> {
-    let text = Bytes::from_vec(vec![in alloc; 7; 3]?);
+) -> bool {
+    let text = Bytes::from_vec(vec![in alloc; 7; 3].expect(rt, "memory"));
     if !queue.is_recording() || !is_text(text.as_slice()) {
-        return Ok(false);
+        return false;
     }
-    queue.mark(&mut seat.part, &text)?;
-    Ok(true)
+    queue.mark(&mut seat.part, &text).is_ok()
 }
 
 // Notes a call of a seat as passed, if recording has ended. Returns whether it has.
-fn pass<R: Run>(queue: &QueueState<R>, seat: &mut Seat<R>) -> Result<bool, AllocError> {
+fn pass<R: Run>(queue: &QueueState<R>, seat: &mut Seat<R>) -> bool {
     if queue.is_recording() {
-        return Ok(false);
+        return false;
     }
-    queue.pass(&mut seat.part)?;
-    Ok(true)
+    queue.pass(&mut seat.part).is_ok()
 }
 
 // Returns whether the device's calls agree with the history.
 fn is_served<R: Run>(
+    rt: &impl Abort,
     alloc: Global,
     queue: &QueueState<R>,
     data_state: &DataState<SectorDisk, R>,
-) -> Result<bool, AllocError> {
-    let mut notes = queue.notes(alloc)?;
-    Ok(queue.is_served(data_state.done(), notes.as_mut_slice()))
+) -> bool {
+    let mut notes = queue.notes(alloc).expect(rt, "memory");
+    queue.is_served(data_state.done(), notes.as_mut_slice())
 }
 
 // Places the remaining items of a closed recorder. Returns whether this succeeded, and whether
@@ -123,48 +124,50 @@ pub fn writes_rest<R: Run>(
 
 // Makes requests of two seats in turn, and a mark. Returns whether all of this succeeded.
 fn calls<R: Run>(
+    rt: &impl Abort,
     alloc: Global,
     queue: &mut QueueState<R>,
     data_state: &mut DataState<SectorDisk, R>,
     one: &mut Seat<R>,
     other: &mut Seat<R>,
     size: SectorSize,
-) -> Result<bool, AllocError>
+) -> bool
     requires sectors { R.sectors ≡ 64 }
     requires size { bytes_of size ≡ R.sector_bytes }
 {
     let mut is_done = true;
     for number in 0..4 {
-        let bio = write(alloc, size, number, number == 2)?;
+        let bio = write(rt, alloc, size, number, number == 2);
         is_done = call(queue, data_state, one, size, &bio) && is_done;
         is_done = call(queue, data_state, other, size, &Bio::Flush) && is_done;
     }
-    Ok(mark(alloc, queue, one)? && is_done)
+    mark(rt, alloc, queue, one) && is_done
 }
 
 // Returns whether the lists of both seats and the device's calls agree with the history.
 fn agree<R: Run>(
+    rt: &impl Abort,
     alloc: Global,
     queue: &QueueState<R>,
     data_state: &DataState<SectorDisk, R>,
     one: &Seat<R>,
     other: &Seat<R>,
-) -> Result<bool, AllocError> {
+) -> bool {
     let has_both = queue.has_own(one, None) && queue.has_own(other, None);
-    Ok(has_both && is_served(alloc, queue, data_state)?)
+    has_both && is_served(rt, alloc, queue, data_state)
 }
 
 // Records the requests of two seats. Returns whether the seats' lists, their passed calls and the
 // placed items agree with the history.
 fn two_seats_record<R: Run>(
-    rt: &impl Print,
+    rt: &(impl Print + Abort),
     alloc: Global,
     blank: Blank,
     fresh: (Fresh, Fresh, Fresh),
     size: SectorSize,
     store: LogStore<SectorDisk>,
     device: SectorDisk,
-) -> Result<bool, AllocError>
+) -> bool
     requires ledger { (blank.name ≡ R.name) × (blank.parts ≡ R.parts) × (blank.parts ≡ 2) }
     requires holders { (fresh.0 ≡ R.table) × (fresh.1 ≡ R.stops) × (fresh.2 ≡ R.ends) }
     requires size { bytes_of size ≡ R.sector_bytes }
@@ -177,49 +180,56 @@ fn two_seats_record<R: Run>(
     let (table, stops, ends) = fresh;
     let mut log = LogState::new(alloc, store, ends);
     let mut data_state = DataState::<SectorDisk, R>::new(alloc, device);
-    let (mut queue, mut seats, _) = QueueState::<R>::start(alloc, blank, table, stops, size, 2)?;
-    let (Some(mut one), Some(mut other)) = (seats.pop(), seats.pop()) else {
-        return Ok(false);
-    };
+    let (mut queue, mut seats, _) = QueueState::<R>::start(
+        alloc, blank, table, stops, size, 2,
+    ).expect(rt, "memory");
+    let mut one = seats.pop().expect(rt, "a seat");
+    let mut other = seats.pop().expect(rt, "a seat");
     let are_made = calls(
+        rt,
         alloc,
         &mut queue,
         &mut data_state,
         &mut one,
         &mut other,
         size,
-    )?;
+    );
     let is_closed = turn(&mut queue, &mut log) && queue.close().is_ok();
-    let is_passed = pass(&queue, &mut other)?;
-    let do_agree = agree(alloc, &queue, &data_state, &one, &other)?;
+    let is_passed = pass(&queue, &mut other);
+    let do_agree = agree(rt, alloc, &queue, &data_state, &one, &other);
     let is_whole = writes_rest(&mut queue, &mut log, 10);
-    Ok(
-        holds(rt, are_made, "the calls")
-            && holds(rt, is_closed && is_passed, "the close")
-            && holds(rt, do_agree, "the seats and the device")
-            && holds(rt, is_whole, "the log"),
-    )
+    holds(rt, are_made, "the calls")
+        && holds(rt, is_closed && is_passed, "the close")
+        && holds(rt, do_agree, "the seats and the device")
+        && holds(rt, is_whole, "the log")
+}
+
+// Returns three new keepers without a name.
+pub fn three(rt: &impl Abort, alloc: Global) -> (Fresh, Fresh, Fresh) {
+    let table = Fresh::new(alloc).expect(rt, "memory");
+    let stops = Fresh::new(alloc).expect(rt, "memory");
+    let ends = Fresh::new(alloc).expect(rt, "memory");
+    (table, stops, ends)
 }
 
 // Makes a new recorder with two seats, and returns what `two_seats_record` returns.
-fn two_seats(rt: &impl Print, alloc: Global, size: SectorSize) -> Result<bool, AllocError> {
+fn two_seats(rt: &(impl Print + Abort), alloc: Global, size: SectorSize) -> bool {
     let blank = Blank::new(2);
-    let fresh = (Fresh::new(alloc)?, Fresh::new(alloc)?, Fresh::new(alloc)?);
-    let device = SectorDisk::new(alloc, SECTORS)?;
-    let Ok(store) = LogStore::create_sized(SectorDisk::new(alloc, LOG_SECTORS)?, size) else {
-        return Ok(false);
-    };
+    let fresh = three(rt, alloc);
+    let device = SectorDisk::new(alloc, SECTORS).expect(rt, "memory");
+    let disk = SectorDisk::new(alloc, LOG_SECTORS).expect(rt, "memory");
+    let store = LogStore::create_sized(disk, size).ok().expect(rt, "a log");
     two_seats_record::<Brand>(rt, alloc, blank, fresh, size, store, device)
 }
 
 #[test]
 fn two_seats_and_a_writer(rt: HostRuntime) -> Result<(), Fail> {
-    assert!(rt; two_seats(&rt, rt.alloc(), SectorSize::B512)?);
+    assert!(rt; two_seats(&rt, rt.alloc(), SectorSize::B512));
     Ok(())
 }
 
 #[test]
 fn two_seats_with_large_log_sectors(rt: HostRuntime) -> Result<(), Fail> {
-    assert!(rt; two_seats(&rt, rt.alloc(), SectorSize::B4096)?);
+    assert!(rt; two_seats(&rt, rt.alloc(), SectorSize::B4096));
     Ok(())
 }

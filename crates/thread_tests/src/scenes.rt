@@ -9,9 +9,10 @@ use bio::{End, Status};
 use blockdev::BlockDev;
 use sector_disk::SectorDisk;
 use shared::Unnamed;
-use std::alloc::{AllocError, Global};
+use std::alloc::Global;
 use std::io::Print;
 use std::marker::Brand;
+use std::process::Abort;
 use std::sync::Wait;
 use std::test::*;
 use std::thread::Threads;
@@ -35,45 +36,37 @@ pub fn tally(done: u64, logged: u64, found: u64) -> Tally {
 }
 
 // Returns a table with one call. The seat waits for the sign `after`, if there is one.
-fn alone(alloc: Global, call: Call, after: Option<Sign>) -> Result<Table, AllocError> {
-    Ok(Table {
-        calls: vec![in alloc; call; 1]?,
+fn alone(rt: &impl Abort, alloc: Global, call: Call, after: Option<Sign>) -> Table {
+    Table {
+        calls: vec![in alloc; call; 1].expect(rt, "memory"),
         late: Vec::new(alloc),
         after,
-    })
+    }
 }
 
 /// Returns a disk under a gate that holds no call.
-pub fn open_disk<H: Clock + Copy + Drop>(
+pub fn open_disk<H: Clock + Copy + Drop + Abort>(
     rt: &H,
     alloc: Global,
     sectors: u64,
-) -> Result<Gate<SectorDisk, H>, AllocError>
+) -> Gate<SectorDisk, H>
     requires { (0 < sectors) × (sectors ≤ 1048576) }
 {
-    Ok(Gate::open(SectorDisk::new(alloc, sectors)?, *rt, Sign::new(alloc)?))
+    let disk = SectorDisk::new(alloc, sectors).expect(rt, "memory");
+    Gate::open(disk, *rt, Sign::new(alloc).expect(rt, "memory"))
 }
 
 /// Makes the calls of the tables on these devices, with `readers` readers.
 pub fn stage<
     D: BlockDev + Drop + Send,
     L: BlockDev + Drop + Send,
-    H: Threads + Wait + Clock + Sync,
->(
-    rt: &H,
-    alloc: Global,
-    tables: Vec<Table>,
-    device: D,
-    log: L,
-    readers: u64,
-) -> Result<Option<Played<D, L>>, AllocError>
+    H: Threads + Wait + Clock + Sync + Abort,
+>(rt: &H, alloc: Global, tables: Vec<Table>, device: D, log: L, readers: u64) -> Played<D, L>
     requires { readers ≤ 64 }
 {
     let count = tables.len() as u64;
-    if count == 0 || 64 < count {
-        return Ok(None);
-    }
-    let unnamed = Unnamed::new(alloc, count)?;
+    assert!(rt; 0 < count && count <= 64);
+    let unnamed = Unnamed::new(alloc, count).expect(rt, "memory");
     play::<D, L, Brand, H>(rt, alloc, unnamed, device, log, tables, count, readers)
 }
 
@@ -100,29 +93,34 @@ struct Scene {
 }
 
 // Returns the tables of both seats. The second seat waits until a call is held.
-fn two_tables(alloc: Global, scene: &Scene, sign: Sign) -> Result<Vec<Table>, AllocError> {
+fn two_tables(rt: &impl Abort, alloc: Global, scene: &Scene, sign: Sign) -> Vec<Table> {
     let mut tables = Vec::new(alloc);
-    tables.push(Table {
-        calls: after_writes(alloc, scene.before, scene.calls.0)?,
-        late: Vec::new(alloc),
-        after: None,
-    })?;
-    tables.push(alone(alloc, scene.calls.1, Some(sign))?)?;
-    Ok(tables)
+    tables
+        .push(Table {
+            calls: after_writes(rt, alloc, scene.before, scene.calls.0),
+            late: Vec::new(alloc),
+            after: None,
+        })
+        .expect(rt, "memory");
+    tables
+        .push(alone(rt, alloc, scene.calls.1, Some(sign)))
+        .expect(rt, "memory");
+    tables
 }
 
 // Returns this many plain writes, and then the call.
-fn after_writes(alloc: Global, before: u64, call: Call) -> Result<Vec<Call>, AllocError> {
+fn after_writes(rt: &impl Abort, alloc: Global, before: u64, call: Call) -> Vec<Call> {
     let mut calls = Vec::new(alloc);
     for _ in 0..before {
-        calls.push(Call::Write {
+        let write = Call::Write {
             first: 1,
             byte: 1,
             fua: false,
-        })?;
+        };
+        calls.push(write).expect(rt, "memory");
     }
-    calls.push(call)?;
-    Ok(calls)
+    calls.push(call).expect(rt, "memory");
+    calls
 }
 
 // Returns whether each of two seats had the answers `wanted`.
@@ -136,24 +134,27 @@ fn are_answered(rt: &impl Print, found: &[Tally], wanted: (Tally, Tally)) -> boo
 
 // Plays a scene. Returns whether the call was still held when the second seat's call was answered.
 // The answers and the status must be as expected too.
-fn gated<H: Threads + Wait + Clock + Print + Sync + Send + Copy + Drop>(
+fn gated<H: Threads + Wait + Clock + Print + Sync + Send + Copy + Drop + Abort>(
     rt: &H,
     alloc: Global,
     scene: Scene,
-) -> Result<bool, AllocError> {
-    let sign = Sign::new(alloc)?;
-    let other = sign.again()?;
-    let tables = two_tables(alloc, &scene, sign)?;
-    let disk = SectorDisk::new(alloc, FEW)?;
+) -> bool {
+    let sign = Sign::new(alloc).expect(rt, "memory");
+    let other = sign.again().expect(rt, "memory");
+    let tables = two_tables(rt, alloc, &scene, sign);
+    let disk = SectorDisk::new(alloc, FEW).expect(rt, "memory");
     let holding = Gate::holding(disk, *rt, other, scene.sector, scene.passes);
-    let open = open_disk(rt, alloc, FEW)?;
+    let open = open_disk(rt, alloc, FEW);
     let (device, log) = match scene.held {
         Held::Device => (holding, open),
         Held::Log => (open, holding),
     };
-    let Some(played) = stage(rt, alloc, tables, device, log, 0)? else {
-        return Ok(holds(rt, false, "two seats play"));
-    };
+    let played = stage(rt, alloc, tables, device, log, 0);
+    is_as_wanted(rt, &played, &scene)
+}
+
+// Returns whether the answers and the status are as expected.
+fn is_as_wanted<D: Drop, L: Drop>(rt: &impl Print, played: &Played<D, L>, scene: &Scene) -> bool {
     let is_let_go = holds(
         rt,
         played.let_go,
@@ -167,7 +168,7 @@ fn gated<H: Threads + Wait + Clock + Print + Sync + Send + Copy + Drop>(
         "why waiters are let go",
     );
     let are_tallies = are_answered(rt, played.tallies.as_slice(), scene.tallies);
-    Ok(are_tallies && is_let_go && is_status && is_end)
+    are_tallies && is_let_go && is_status && is_end
 }
 
 // Returns the status of a log that hasn't ended, with `entries` entries up to sector `sector`.
@@ -199,7 +200,7 @@ fn a_write_is_answered_while_the_log_is_written(rt: HostRuntime) -> Result<(), F
         tallies: (tally(1, 0, 0), tally(1, 0, 0)),
         status: goes_on(3, 4),
     };
-    assert!(rt; gated(&rt, rt.alloc(), scene)?);
+    assert!(rt; gated(&rt, rt.alloc(), scene));
     Ok(())
 }
 
@@ -219,7 +220,7 @@ fn a_taken_entry_is_written_after_a_stop(rt: HostRuntime) -> Result<(), Fail> {
             ..goes_on(1, 1)
         },
     };
-    assert!(rt; gated(&rt, rt.alloc(), scene)?);
+    assert!(rt; gated(&rt, rt.alloc(), scene));
     Ok(())
 }
 
@@ -239,7 +240,7 @@ fn taken_entries_are_written_after_a_stop(rt: HostRuntime) -> Result<(), Fail> {
             ..goes_on(3, 5)
         },
     };
-    assert!(rt; gated(&rt, rt.alloc(), scene)?);
+    assert!(rt; gated(&rt, rt.alloc(), scene));
     Ok(())
 }
 
@@ -271,7 +272,7 @@ fn a_write_is_let_go_after_a_stop(rt: HostRuntime) -> Result<(), Fail> {
             ..goes_on(0, 0)
         },
     };
-    assert!(rt; gated(&rt, rt.alloc(), scene)?);
+    assert!(rt; gated(&rt, rt.alloc(), scene));
     Ok(())
 }
 
@@ -301,7 +302,7 @@ fn a_close_is_busy_while_a_request_is_open(rt: HostRuntime) -> Result<(), Fail> 
         ),
         status: goes_on(2, 3),
     };
-    assert!(rt; gated(&rt, rt.alloc(), scene)?);
+    assert!(rt; gated(&rt, rt.alloc(), scene));
     Ok(())
 }
 
@@ -325,7 +326,7 @@ fn a_write_is_answered_while_a_mark_is_made_sure(rt: HostRuntime) -> Result<(), 
         tallies: (tally(0, 1, 0), tally(1, 0, 0)),
         status: goes_on(3, 4),
     };
-    assert!(rt; gated(&rt, rt.alloc(), scene)?);
+    assert!(rt; gated(&rt, rt.alloc(), scene));
     Ok(())
 }
 
@@ -353,7 +354,7 @@ fn a_write_is_answered_while_a_fua_write_is_made_sure(rt: HostRuntime) -> Result
         tallies: (tally(0, 1, 0), tally(1, 0, 0)),
         status: goes_on(3, 5),
     };
-    assert!(rt; gated(&rt, rt.alloc(), scene)?);
+    assert!(rt; gated(&rt, rt.alloc(), scene));
     Ok(())
 }
 
@@ -376,35 +377,33 @@ fn a_mark_is_answered_while_the_device_writes(rt: HostRuntime) -> Result<(), Fai
         tallies: (tally(1, 0, 0), tally(0, 1, 0)),
         status: goes_on(3, 4),
     };
-    assert!(rt; gated(&rt, rt.alloc(), scene)?);
+    assert!(rt; gated(&rt, rt.alloc(), scene));
     Ok(())
 }
 
 // A seat makes one call, with a log of `sectors` sectors. Returns whether the answer and the status
 // are as expected.
-fn small_log<H: Threads + Wait + Clock + Print + Sync + Send + Copy + Drop>(
+fn small_log<H: Threads + Wait + Clock + Print + Sync + Send + Copy + Drop + Abort>(
     rt: &H,
     alloc: Global,
     sectors: u64,
     call: Call,
     answer: Tally,
     status: Status,
-) -> Result<bool, AllocError>
+) -> bool
     requires { (0 < sectors) × (sectors ≤ 1048576) }
 {
     let mut tables = Vec::new(alloc);
-    tables.push(alone(alloc, call, None)?)?;
-    let device = open_disk(rt, alloc, 16)?;
-    let log = open_disk(rt, alloc, sectors)?;
-    let Some(played) = stage(rt, alloc, tables, device, log, 0)? else {
-        return Ok(holds(rt, false, "one seat plays"));
-    };
+    tables
+        .push(alone(rt, alloc, call, None))
+        .expect(rt, "memory");
+    let device = open_disk(rt, alloc, 16);
+    let log = open_disk(rt, alloc, sectors);
+    let played = stage(rt, alloc, tables, device, log, 0);
     let is_status = is_same(rt, &played.closed.status, &status, "a small log's status");
     let is_told = is_same(rt, &played.released, &status.end, "why a waiter is let go");
-    let [found] = played.tallies.as_slice() else {
-        return Ok(holds(rt, false, "one tally"));
-    };
-    Ok(is_same(rt, found, &answer, "one seat's answer") && is_status && is_told)
+    let found = played.tallies.first().expect(rt, "one tally");
+    is_same(rt, found, &answer, "one seat's answer") && is_status && is_told
 }
 
 // A log of two sectors has no room for a mark.
@@ -420,7 +419,7 @@ fn one_seat_finds_no_room_for_a_mark(rt: HostRuntime) -> Result<(), Fail> {
         sector: 0,
         end: Some(End::Full),
     };
-    assert!(rt; small_log(&rt, rt.alloc(), 2, mark, not_logged, status)?);
+    assert!(rt; small_log(&rt, rt.alloc(), 2, mark, not_logged, status));
     Ok(())
 }
 
@@ -436,78 +435,73 @@ fn one_seat_finds_room_for_a_write_alone(rt: HostRuntime) -> Result<(), Fail> {
         sector: 2,
         end: Some(End::Full),
     };
-    assert!(rt; small_log(&rt, rt.alloc(), 4, write, tally(0, 1, 0), status)?);
+    assert!(rt; small_log(&rt, rt.alloc(), 4, write, tally(0, 1, 0), status));
     Ok(())
 }
 
 // Returns calls of a seat whose last one is a mark with this id. The calls before it are plain
 // writes and, if the id is odd, a mark that is logged. A write takes two ids.
-fn calls_up_to(alloc: Global, id: u64) -> Result<Vec<Call>, AllocError> {
+fn calls_up_to(rt: &impl Abort, alloc: Global, id: u64) -> Vec<Call> {
     let mut calls = Vec::new(alloc);
     if id % 2 == 1 {
-        calls.push(Call::Mark { byte: 1 })?;
+        calls.push(Call::Mark { byte: 1 }).expect(rt, "memory");
     }
     for _ in 0..id / 2 {
-        calls.push(Call::Write {
+        let write = Call::Write {
             first: 1,
             byte: 1,
             fua: false,
-        })?;
+        };
+        calls.push(write).expect(rt, "memory");
     }
-    calls.push(Call::Mark { byte: 2 })?;
-    Ok(calls)
+    calls.push(Call::Mark { byte: 2 }).expect(rt, "memory");
+    calls
 }
 
 // A seat waits for a mark with this id. The log has no room for the mark, so it ends, and the seat
 // is released.
-fn is_released<H: Threads + Wait + Clock + Print + Sync + Send + Copy + Drop>(
+fn is_released<H: Threads + Wait + Clock + Print + Sync + Send + Copy + Drop + Abort>(
     rt: &H,
     alloc: Global,
     id: u64,
-) -> Result<bool, AllocError> {
+) -> bool {
     let logged = id % 2;
     let mut tables = Vec::new(alloc);
-    tables.push(Table {
-        calls: calls_up_to(alloc, id)?,
+    let table = Table {
+        calls: calls_up_to(rt, alloc, id),
         late: Vec::new(alloc),
         after: None,
-    })?;
-    let device = open_disk(rt, alloc, FEW)?;
-    let log = open_disk(rt, alloc, 2 + logged)?;
-    let Some(played) = stage(rt, alloc, tables, device, log, 0)? else {
-        return Ok(holds(rt, false, "one seat plays"));
     };
-    let [found] = played.tallies.as_slice() else {
-        return Ok(holds(rt, false, "one tally"));
-    };
+    tables.push(table).expect(rt, "memory");
+    let device = open_disk(rt, alloc, FEW);
+    let log = open_disk(rt, alloc, 2 + logged);
+    let played = stage(rt, alloc, tables, device, log, 0);
+    let found = played.tallies.first().expect(rt, "one tally");
     let wanted = Tally {
         not_logged: 1,
         ..tally(id / 2, logged, 0)
     };
-    Ok(is_same(rt, found, &wanted, "the answers of a released seat"))
+    is_same(rt, found, &wanted, "the answers of a released seat")
 }
 
 #[test]
 fn a_mark_with_any_id_is_released(rt: HostRuntime) -> Result<(), Fail> {
     for id in 0..64 {
-        assert!(rt; is_released(&rt, rt.alloc(), id)?);
+        assert!(rt; is_released(&rt, rt.alloc(), id));
     }
     Ok(())
 }
 
 // A seat makes a mark. The log's device passes only the write that creates the log. So the log
 // ends, logging stops, and the waiting seat is released.
-fn failing_log<H: Threads + Wait + Clock + Print + Sync>(
-    rt: &H,
-    alloc: Global,
-) -> Result<bool, AllocError> {
+fn failing_log<H: Threads + Wait + Clock + Print + Sync + Abort>(rt: &H, alloc: Global) -> bool {
     let mut tables = Vec::new(alloc);
-    tables.push(alone(alloc, Call::Mark { byte: 120 }, None)?)?;
-    let device = SectorDisk::new(alloc, FEW)?;
-    let log = Failing::in_changes(SectorDisk::new(alloc, FEW)?, 1);
-    let Some(played) = stage(rt, alloc, tables, device, log, 1)? else {
-        return Ok(holds(rt, false, "one seat plays"));
-    };
+    tables
+        .push(alone(rt, alloc, Call::Mark { byte: 120 }, None))
+        .expect(rt, "memory");
+    let device = SectorDisk::new(alloc, FEW).expect(rt, "memory");
+    let log = Failing::in_changes(SectorDisk::new(alloc, FEW).expect(rt, "memory"), 1);
+    let played = stage(rt, alloc, tables, device, log, 1);
     let end = Some(End::Device);
     let status = Status {
         end,
@@ -521,70 +515,66 @@ fn failing_log<H: Threads + Wait + Clock + Print + Sync>(
     let is_stop = is_same(rt, &played.closed.stop, &end, "why logging stopped");
     let is_told = is_same(rt, &played.released, &end, "why a waiter is let go");
     let is_status = is_same(rt, &played.closed.status, &status, "a failed log's status");
-    let ([found], [seen]) = (played.tallies.as_slice(), played.seen.as_slice()) else {
-        return Ok(holds(rt, false, "one tally, and one reader"));
-    };
+    let found = played.tallies.first().expect(rt, "one tally");
+    let seen = played.seen.first().expect(rt, "one reader");
     let is_seen = is_same(rt, seen, &status, "the status that was seen last");
     let is_answered = is_same(rt, found, &not_logged, "one seat's answer");
-    Ok(is_log && is_stop && is_told && is_status && is_seen && is_answered)
+    is_log && is_stop && is_told && is_status && is_seen && is_answered
 }
 
 #[test]
 fn a_log_whose_device_fails_ends_by_that(rt: HostRuntime) -> Result<(), Fail> {
-    assert!(rt; failing_log(&rt, rt.alloc())?);
+    assert!(rt; failing_log(&rt, rt.alloc()));
     Ok(())
 }
 
 // Returns a write, a FUA write, a read, a discard and a flush.
-fn device_calls(alloc: Global) -> Result<Vec<Call>, AllocError> {
+fn device_calls(rt: &impl Abort, alloc: Global) -> Vec<Call> {
     let mut calls = Vec::new(alloc);
     for fua in [false, true] {
-        calls.push(Call::Write {
+        let write = Call::Write {
             first: 1,
             byte: 7,
             fua,
-        })?;
+        };
+        calls.push(write).expect(rt, "memory");
     }
-    calls.push(Call::Read { first: 1, byte: 7 })?;
-    calls.push(Call::Discard { first: 1 })?;
-    calls.push(Call::Flush)?;
-    Ok(calls)
+    calls
+        .push(Call::Read { first: 1, byte: 7 })
+        .expect(rt, "memory");
+    calls.push(Call::Discard { first: 1 }).expect(rt, "memory");
+    calls.push(Call::Flush).expect(rt, "memory");
+    calls
 }
 
 // Makes a seat's calls, and its late calls, on a device that fails each call. Returns whether each
 // answer is this failure, and none is lack of memory.
-fn failing_device<H: Threads + Wait + Clock + Print + Sync>(
-    rt: &H,
-    alloc: Global,
-) -> Result<bool, AllocError> {
+fn failing_device<H: Threads + Wait + Clock + Print + Sync + Abort>(rt: &H, alloc: Global) -> bool {
     let mut tables = Vec::new(alloc);
-    tables.push(Table {
-        calls: device_calls(alloc)?,
-        late: device_calls(alloc)?,
+    let table = Table {
+        calls: device_calls(rt, alloc),
+        late: device_calls(rt, alloc),
         after: None,
-    })?;
-    let device = Failing::in_calls(SectorDisk::new(alloc, FEW)?, 0);
-    let log = SectorDisk::new(alloc, FEW)?;
-    let Some(played) = stage(rt, alloc, tables, device, log, 0)? else {
-        return Ok(holds(rt, false, "one seat plays"));
     };
-    let [found] = played.tallies.as_slice() else {
-        return Ok(holds(rt, false, "one tally"));
-    };
+    tables.push(table).expect(rt, "memory");
+    let device = Failing::in_calls(SectorDisk::new(alloc, FEW).expect(rt, "memory"), 0);
+    let log = SectorDisk::new(alloc, FEW).expect(rt, "memory");
+    let played = stage(rt, alloc, tables, device, log, 0);
+    let found = played.tallies.first().expect(rt, "one tally");
     let failed = Tally {
         failed: 10,
         ..tally(0, 0, 0)
     };
-    Ok(is_same(
+    is_same(
         rt,
         found,
         &failed,
         "the answers of a seat whose device fails",
-    ))
+    )
 }
 
 #[test]
 fn a_fault_of_the_device_is_answered(rt: HostRuntime) -> Result<(), Fail> {
-    assert!(rt; failing_device(&rt, rt.alloc())?);
+    assert!(rt; failing_device(&rt, rt.alloc()));
     Ok(())
 }

@@ -1,5 +1,5 @@
 use Rattle.thread_tests.specs.Disks.{disk_ground}
-use Rattle.thread_tests.proofs.closes.two_recorders_find_each_others_calls.Given as goal
+use Rattle.thread_tests.proofs.one.exchanged.Given as goal
 
 abbrev pub ghosts-foreign_seats-B-Ledger : goal.ghosts-foreign_seats-B-Ledger
 ghosts-foreign_seats-B-Ledger g a =

@@ -72,7 +72,7 @@ def main():
         tests = f"{crates}/thread_tests"
         edit(f"{tests}/src/gate.rt", delayed)
         edit(f"{tests}/src/play.rt", hasty)
-        for name in ("closes", "scenes", "large"):
+        for name in ("one", "scenes", "large"):
             edit(f"{tests}/src/{name}.rt", lambda text: looped(text, rounds))
         begun = time.monotonic()
         words = ["rt", "try", "--test", "--steps", "1", "--seconds", "3600"]

@@ -6,7 +6,7 @@
         file, which edits have no entry in their crate's planted.txt, and if the page of the formats that the program prints (crates/dmlw/src/formats.rt) isn't
         docs/FORMATS.md. --count writes that page.
         Says also where docs/HEADLINE.md isn't what bench/headline.py writes, which places the documents cite that aren't there, which definitions docs/ARCHITECTURE.md
-        explains that aren't in the file that it names, which files have no head, which cite what another crate has in proofs/ or specs/inside/, which names a .antt file
+        explains that aren't in the file that it names, which tests, transcripts and edits docs/lab/PLANTED.md names that don't exist, which files have no head, which cite what another crate has in proofs/ or specs/inside/, which names a .antt file
         imports and doesn't use (`rt tidy` would drop them), and if release/ is there and isn't of the tree at hand (bench/release.py).
         Warns of house words in the comments and pages that changed since origin/main (else since the last commit). Warnings leave the exit status.
 
@@ -111,6 +111,43 @@ def words_off():
                     yield f"docs/ARCHITECTURE.md: {name} isn't in {files} of {', '.join(crates)}"
 
 
+def living():
+    """The names of all tests, and the file names of all transcripts."""
+    names = set(os.listdir(f"{root}/crates/transcripts/data"))
+    for file in glob.glob(f"{root}/crates/*/src/**/*.rt", recursive=True):
+        names.update(re.findall(r"#\[test\]\s*(?:#\[[^\n]*\]\s*|//[^\n]*\s*)*(?:pub )?fn (\w+)", text_of(file)))
+    return names
+
+
+def planted_off():
+    """Tests and transcripts that docs/lab/PLANTED.md names and that don't exist, and edits that it names and that aren't in must-fail/."""
+    page = text_of(f"{root}/docs/lab/PLANTED.md")
+    names = living()
+    # (a list of names follows the word: `a`, `b` and `c`)
+    lists = r"(?:tests?|transcripts?)\s+((?:`[^`]+`(?:,\s+and\s+|,\s+|\s+and\s+|\s+or\s+)?)+)"
+    named = re.findall(r"`([^`]+)`", " ".join(re.findall(lists, page)))
+    # (each name with an underscore in the column of what refuses a bug is one too, and in the list of what `rt try` fails)
+    rows = [line.split(" | ")[-1] for line in page.split("## What only tests refuse")[1].split("## What `rt plant`")[0].split("\n") if line.startswith("| ")]
+    fails = page.split("these tests fail:")[1].split("\n\n")[1]
+    named += re.findall(r"`([a-z0-9]+(?:_[a-z0-9]+)+|[\w-]+\.t)`", " ".join(rows))
+    named += re.findall(r":\s+`(\w+)`", fails)
+    for name in sorted(set(named)):
+        if re.fullmatch(r"\w+|[\w-]+\.t", name) and name not in names:
+            yield f"docs/lab/PLANTED.md: no test {name}"
+    never = page.split("## The bodies that must never pass")[1].split("### ")[0]
+    for line in never.split("\n"):
+        row = line.strip("| ").split(" | ")
+        if not line.startswith("| ") or len(row) != 2 or row[1] == "Refused in":
+            continue
+        # (a row may name edits of several crates, and bugs that are only planted)
+        for crates, edits in re.findall(r"((?:`\w+`(?: and )?)+): ([^;`|]+)", row[1]):
+            for crate in re.findall(r"\w+(?=`)", crates):
+                for edit in [] if "(planted)" in edits else edits.split(", "):
+                    slug = planted.slug_of(edit.strip())
+                    if not os.path.exists(f"{root}/crates/{crate}/must-fail/{slug}.edit"):
+                        yield f"docs/lab/PLANTED.md: no edit {slug} of {crate}"
+
+
 def pages():
     """The documents: all but the page of planted bugs, which is data."""
     found = [*glob.glob(f"{root}/*.md"), *glob.glob(f"{root}/docs/**/*.md", recursive=True), *glob.glob(f"{root}/crates/*/README.md")]
@@ -169,7 +206,7 @@ def main():
     bugs = {crate: list(planted.entries_of(crate)) for crate in crates}
     kept = [(edit.split("/")[-3], os.path.basename(edit)[:-5], text_of(edit).split("\n")) for edit in sorted(glob.glob(f"{root}/crates/*/must-fail/*.edit"))]
     more = [(crate, planted.slug_of(name), edit) for crate in crates for name, _, edit in bugs[crate] if edit]
-    found = [*not_laid_out(), *edits_off(kept + more), *cited(), *words_off(), *headline_off(), *sources_off(), *unused_names(), *formats_off(), *release.off()]
+    found = [*not_laid_out(), *edits_off(kept + more), *cited(), *planted_off(), *words_off(), *headline_off(), *sources_off(), *unused_names(), *formats_off(), *release.off()]
     for crate, name, _ in kept:
         if not any(planted.slug_of(bug) == name for bug, _, _ in bugs[crate]):
             found.append(f"crates/{crate}/must-fail/{name}.edit: no entry in planted.txt")

@@ -61,6 +61,13 @@ def files(room):
     ran = run("record", script, log)
     trial("a refused script leaves the older log", ran.returncode == 1 and log.read_bytes() == b"older", ran)
     script.write_bytes(FIRST)
+    for length in (242, 243, 255):
+        long = room / ("l" * length)
+        for older in (b"", b"older"):
+            long.write_bytes(older) if older else None
+            ran = run("record", script, long)
+            trial(f"a log's name may have {length} bytes" + (", over an older log" if older else ""), ran.returncode == 0 and long.read_bytes() == whole, ran)
+        long.unlink()
     trial("nothing is left beside", not beside(room), beside(room))
     script.write_bytes(b"data 16\nlog 1048576\nclose\n")
     run("record", script, log)

@@ -59,15 +59,9 @@ make_part() {
         iflag=skip_bytes,count_bytes oflag=seek_bytes conv=notrunc 2>"$folder/dd" || { cat "$folder/dd" && return 1; }
 }
 
-# Replays the first entries of the part on the kept state. A file that is written by its name is forced to the disk, which takes no time in memory; elsewhere it is written
-# through a descriptor.
+# Replays the first entries of the part on the kept state.
 replay() {
-    if [ "$way" = named ]; then
-        "$dmlw" --explain replay "$folder/part" "$state" "$2" "entries:$1" >/dev/null
-    else
-        rm -f "$2"
-        "$dmlw" --explain replay "$folder/part" "$state" /dev/fd/9 "entries:$1" 9>"$2" >/dev/null
-    fi
+    "$dmlw" --explain replay "$folder/part" "$state" "$2" "entries:$1" >/dev/null
 }
 
 # Makes an image. That of a part's last state is kept, and the check gets a copy.
@@ -89,8 +83,8 @@ reason() {
 }
 
 work() {
-    folder=$1 dmlw=$2 log=$3 first=$4 size=$5 magic=$6 sizes=$7 way=$8
-    shift 8
+    folder=$1 dmlw=$2 log=$3 first=$4 size=$5 magic=$6 sizes=$7
+    shift 7
     trap 'exit 143' HUP INT TERM
     state=$first
     made=yes
@@ -222,8 +216,6 @@ if [ -z "${TMPDIR-}" ] && in_memory; then
 else
     room=$(mktemp -d) || exit 3
 fi
-way=open
-[ "$(stat -f -c %T "$room" 2>/dev/null)" != tmpfs ] || way=named
 
 # --- The steps.
 
@@ -331,7 +323,7 @@ open_pipe() {
 begin_worker() {
     worker=$1
     shift
-    set -- /bin/sh "$self" --work "$room/$worker" "$dmlw" "$log" "$first" "$size" "$magic" "$sizes" $way "$@"
+    set -- /bin/sh "$self" --work "$room/$worker" "$dmlw" "$log" "$first" "$size" "$magic" "$sizes" "$@"
     if command -v setsid >/dev/null; then setsid "$@" >&7 6<&- 7>&- & else "$@" >&7 6<&- 7>&- & fi
     pids="$pids $!"
 }

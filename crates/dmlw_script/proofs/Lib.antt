@@ -10,6 +10,7 @@ pub mod CanonicalTextLaws
 pub mod ScriptLaws
 pub mod HeadLaws
 pub mod ReaderLaws
+pub mod EarlyLines
 pub mod RecorderLaws
 pub mod RecorderFaults
 pub mod RunLaws

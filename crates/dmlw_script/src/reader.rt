@@ -1,6 +1,6 @@
 //! Reads the text of a recorder's script. `read_script` returns the script, or the first line at
 //! fault.
-ghost use Rattle.std.specs.Prelude.{◌≡◌, ◌<◌, ◌∷◌, [], None, IfErr, IfOk, MatchOption, OnOk};
+ghost use Rattle.std.specs.Prelude.{◌≡◌, ◌<◌, ◌∷◌, [], Err, None, IfErr, IfOk, MatchOption, OnOk};
 ghost use Rattle.std.specs.Prelude.{length, option_copied, option_map};
 ghost use Rattle.dmlw_script.specs.LineMeaning.{as_meaning};
 ghost use Rattle.dmlw_script.specs.LineMeaning as parsed_lines;
@@ -40,7 +40,7 @@ impl Reader {
     ghost use Rattle.dmlw_script.specs.inside.Readers.{body_line, finish_step, has_begun};
     ghost use Rattle.dmlw_script.specs.inside.Readers.{line_step, nothing, progress_of};
     ghost use Rattle.dmlw_script.specs.inside.Readers.{parsed_step, step_if_parsed, with_head};
-    ghost use Rattle.dmlw_script.specs.inside.Readers.{Finishes, IsReader};
+    ghost use Rattle.dmlw_script.specs.inside.Readers.{Finishes, IsEarly, IsReader};
     ghost use Rattle.dmlw_script.specs.inside.Heads.{head_step};
     ghost use Rattle.dmlw_script.specs.Plans.{IsPlan};
 
@@ -106,14 +106,29 @@ impl Reader {
         self.read_parsed(parsed)
     }
 
+    // Checks that the head has both disks, and that no crash ended the script. A line that takes
+    // memory for its words takes it only after this test.
+    fn check_head(&self) -> Result<(), Refusal>
+        ensures whole { IfOk result (λ _. self.now.head.part ≡ Part.Whole) }
+        ensures refused { IfErr result (IsEarly (progress_of self.now)) }
+    {
+        match self.head.part {
+            Part::Whole => Ok(()),
+            Part::Nothing | Part::Data | Part::Ended => Err(Refusal::BadLine),
+        }
+    }
+
     // Reads a crash with the picks in these words.
+    #[tactic(auto, using(crate::proofs::EarlyLines::crash_early))]
     fn read_crash(&mut self, words: Option<&[u8]>) -> Result<(), LineError>
         requires { IsReader self.old }
         ensures reader { OnOk result (IsReader self.new) }
         ensures step { Follows result (progress_of self.new)
             (step_if_parsed (progress_of self.old)
             (option_map parsed_lines.Crash (the_picks (option_copied words.entry)))) }
+        ensures memory { result ≡ Err LineError.Memory → self.old.head.part ≡ Part.Whole }
     {
+        self.check_head()?;
         let picks = picks_of(self.alloc, words)?;
         self.end(picks)
     }
@@ -134,12 +149,15 @@ impl Reader {
     }
 
     // Reads a mark with this text; None stands for a line with no space after `mark`.
+    #[tactic(auto, using(crate::proofs::EarlyLines::mark_early))]
     fn read_mark(&mut self, text: Option<&[u8]>) -> Result<(), LineError>
         requires { IsReader self.old }
         ensures reader { OnOk result (IsReader self.new) }
         ensures step { Follows result (progress_of self.new)
             (step_if_parsed (progress_of self.old) (mark_of (option_copied text.entry))) }
+        ensures memory { result ≡ Err LineError.Memory → self.old.head.part ≡ Part.Whole }
     {
+        self.check_head()?;
         match text {
             Some(text) if is_line_text(text) => {
                 let text = shared_text(self.alloc, text)?;
@@ -150,12 +168,15 @@ impl Reader {
     }
 
     // Reads a message with these words: the name of a disk, the number of a layer, and the text.
+    #[tactic(auto, using(crate::proofs::EarlyLines::message_early))]
     fn read_message(&mut self, words: Option<&[u8]>) -> Result<(), LineError>
         requires { IsReader self.old }
         ensures reader { OnOk result (IsReader self.new) }
         ensures step { Follows result (progress_of self.new)
             (step_if_parsed (progress_of self.old) (the_message (option_copied words.entry))) }
+        ensures memory { result ≡ Err LineError.Memory → self.old.head.part ≡ Part.Whole }
     {
+        self.check_head()?;
         let (over, layer, text) = message_of(words).ok_or(Refusal::BadLine)?;
         let shared = shared_text(self.alloc, text)?;
         self.read_parsed(Line::Body(BodyLine::Step(Step::Message {

@@ -6,7 +6,7 @@ ghost use Rattle.bio.specs.declared.event.CoreEvent.{CoreEvent};
 ghost use Rattle.headline.specs.Headline.{HoldsLogOf};
 ghost use Rattle.pending.specs.CompletionList.{BelongsTo, completion_list, dm_log_writes};
 ghost use Rattle.pending.specs.CompletionList.{last_moment};
-ghost use Rattle.recorder.specs.PlainCrash.{LeavesPlainLog};
+ghost use Rattle.recorder.specs.PlainCrash.{LeavesAcknowledged};
 ghost use Rattle.recorder.specs.Calls.{core_of, recorder_view};
 ghost use Rattle.recorder.specs.declared.recorder.Recorder.{Recorder};
 
@@ -30,9 +30,9 @@ pub fn each_count_belongs_to_a_moment()
 /// such a log. By the recorder's clause `crash`, all acknowledged entries are among them.
 pub fn crashed_logs_are_held<L: BlockDev + Drop, D: BlockDev>()
     ensures { (old new : Recorder L L.BlockDev) (left : Content) (log : D)
-        → (plain : LeavesPlainLog (recorder_view old) (recorder_view new) left)
+        → (is : LeavesAcknowledged (recorder_view old) (recorder_view new) left)
         → (D.shown log).size ≡ (recorder_view new).store.device.size
         → AgreeBelow (D.shown log).size left (D.shown log).content →
-        HoldsLogOf (core_of new).sector_bytes (core_of new).events plain.ids plain.count
+        HoldsLogOf (core_of new).sector_bytes (core_of new).events is.plain.ids is.plain.count
         (D.shown log) }
 {}

@@ -88,18 +88,18 @@ moved_else : (owner : ℕ → ℕ) (number to n : ℕ) → n ≢ number → move
 unfolding moved
 moved_else owner number to n apart = grind (arith, ne_eqb)
 
-pub enrol_keeps : (passes : List Knows) (id : ℕ) (all : List (Option ℕ)) → IsKept passes
-    → get_elem? passes id ≡ some (keeper_of all)
-    → IsKept (set passes id (both_of (all ++ None ∷ []) (length all) None))
-enrol_keeps passes id all kept there =
+pub enrol_keeps : (passes : List Knows) (id : ℕ) (all : List (Option ℕ)) (new : Option ℕ)
+    → IsKept passes → get_elem? passes id ≡ some (keeper_of all)
+    → IsKept (set passes id (both_of (all ++ new ∷ []) (length all) new))
+enrol_keeps passes id all new kept there =
     let mine = (kept.fits id (keeper_of all) there).kept refl in
     let owner = moved kept.owner (length all) id in record {
       place = kept.place;
       owner = owner;
-      all = all ++ None ∷ [];
+      all = all ++ new ∷ [];
       fits =
-          fits_set kept.place owner (all ++ None ∷ []) passes id
-          (both_of (all ++ None ∷ []) (length all) None)
+          fits_set kept.place owner (all ++ new ∷ []) passes id
+          (both_of (all ++ new ∷ []) (length all) new)
           (λ j pass apart e.
           let was = kept.fits j pass e in record {
             kept = λ keeps. absurd (apart ((was.kept keeps).0 ∙ sym mine.0));
@@ -110,12 +110,12 @@ enrol_keeps passes id all kept there =
                 let within = slice_get_within all pass.number pass.held stands in (
                   moved_else kept.owner (length all) id pass.number (λ same. omega arith)
                       ∙ (was.held holds).0,
-                  get_front all (None ∷ []) pass.number pass.held stands,
+                  get_front all (new ∷ []) pass.number pass.held stands,
                 );
           })
           (record {
             kept = λ k. (mine.0, refl);
-            held = λ h. (moved_here kept.owner (length all) id, get_pushed all None);
+            held = λ h. (moved_here kept.owner (length all) id, get_pushed all new);
           });
     }
 
@@ -228,15 +228,15 @@ abbrev Held : State (Unit {0}) Knows → Type 0
 Held state = IsKept state.views
 
 pub enrols : (slots id word : ℕ) (f : ℕ → ℕ) (me : Me (Unit {0}) Knows) (all : List (Option ℕ))
-    → me ≡ (keeper_of all, [])
+    (new : Option ℕ) → me ≡ (keeper_of all, [])
     → Allows Held slots id me word f
-    (λ _ after. after ≡ (both_of (me.0.all ++ None ∷ []) (length me.0.all) None, []))
-enrols slots id word f me all is =
+    (λ _ after. after ≡ (both_of (me.0.all ++ new ∷ []) (length me.0.all) new, []))
+enrols slots id word f me all new is =
     rw is (λ s kept sizes there small. (
-      both_of (all ++ None ∷ []) (length all) None,
+      both_of (all ++ new ∷ []) (length all) new,
       keeps,
       tt,
-      enrol_keeps s.views id all kept there,
+      enrol_keeps s.views id all new kept there,
       refl,
     ))
 
@@ -293,11 +293,11 @@ pub lent_is : (mine part : Me (Unit {0}) Knows) (number : ℕ) (held : Option �
     → part ≡ (holder_of number held, [])
 lent_is mine part number held is e = grind arith
 
-pub enrolled_is : (before after : Me (Unit {0}) Knows) (all : List (Option ℕ))
+pub enrolled_is : (before after : Me (Unit {0}) Knows) (all : List (Option ℕ)) (new : Option ℕ)
     → before ≡ (keeper_of all, [])
-    → after ≡ (both_of (before.0.all ++ None ∷ []) (length before.0.all) None, [])
-    → after ≡ (both_of (all ++ None ∷ []) (length all) None, [])
-enrolled_is before after all is told = grind arith
+    → after ≡ (both_of (before.0.all ++ new ∷ []) (length before.0.all) new, [])
+    → after ≡ (both_of (all ++ new ∷ []) (length all) new, [])
+enrolled_is before after all new is told = grind arith
 
 pub shown_begun : (cause : End) (held : List (Option ℕ)) (number : ℕ) → IsShown (Some cause) held
     → IsShown (Some cause) (slice_set held number (Some (end_number cause)))

@@ -67,10 +67,13 @@ beside pass part =
 abbrev pub Agree : Knows → Type 0
 Agree pass = slice_get pass.all pass.number ≡ Some pass.held
 
+-- The keeper gets one more holder, which holds `held`.
+abbrev pub Adds : Knows → Option ℕ → Me (Unit {0}) Knows → Type 0
+Adds pass held after = after ≡ (both_of (pass.all ++ held ∷ []) (length pass.all) held, [])
+
 -- The keeper gets one more holder, which holds nothing.
 abbrev pub Enrols : Step (Unit {0}) → Me (Unit {0}) Knows → ℕ → Me (Unit {0}) Knows → Type 0
-Enrols step before found after =
-    after ≡ (both_of (before.0.all ++ None ∷ []) (length before.0.all) None, [])
+Enrols step before found after = Adds before.0 None after
 
 -- The keeper and the holder agree before the step. After it the holder holds `held`, and the keeper
 -- knows this.

@@ -4,4 +4,5 @@ pub mod Comparison
 pub mod FirstStop
 pub mod History
 pub mod PlacedItems
+pub mod Receipts
 pub mod HolderRules

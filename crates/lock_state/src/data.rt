@@ -1,14 +1,16 @@
 // The recorded device, and the requests that were passed to it.
 ghost use Rattle.std.specs.Prelude.{◌≡◌, ◌⊎◌, ℕ, ◌≤◌, ◌/◌, [], ◌∷◌, ◌++◌, length, Ok, Err};
-ghost use Rattle.std.specs.Prelude.{OnOk, IfErr, true, false};
+ghost use Rattle.std.specs.Prelude.{OnOk, IfErr, Some, true, false};
 ghost use Rattle.bio.specs.Requests.{check_answer, is_tracked};
 ghost use Rattle.bio.specs.Possible.{values_of};
 ghost use Rattle.bio.specs.declared.outcome.DevError.TheVariants.{Memory};
 ghost use Rattle.blockdev.specs.View.{DoesInTurn, Flushes, IsByteRange, Writes};
 ghost use Rattle.bio.specs.Content.{Patched, gather, put, writes};
 ghost use Rattle.lock_state.specs.Calls.{Data, Holds, IsRead, calls_of, done_call};
+ghost use Rattle.lock_state.specs.History.{called};
 
 use crate::note::Done;
+use crate::part::SeatPart;
 use crate::run::Run;
 use bio::{Bio, DevError, Id, Ms};
 use blockdev::BlockDev;
@@ -47,17 +49,20 @@ impl<D: BlockDev + Drop, R: Run> DataState<D, R> {
         }
     }
 
-    /// Passes a request to the device, and notes it. A write with flush is passed as a flush, and
-    /// then as a write if the flush succeeds. If memory for the note runs out, the device isn't
-    /// called and nothing changes.
-    pub fn apply(&mut self, now: Ms, id: Option<Id>, bio: &Bio) -> Result<(), DevError>
+    /// Passes the seat's request to the device, and notes it. The call for this request must be due,
+    /// and isn't due any more then, whatever the result. A write with flush is passed as a flush, and
+    /// then as a write if the flush succeeds. If memory for the note runs out, the device isn't called
+    /// and only the seat changes.
+    pub fn apply(&mut self, now: Ms, mine: &mut SeatPart<R>, bio: &Bio) -> Result<(), DevError>
+        requires due { mine.old.due ≡ Some bio.now }
         requires tracked { is_tracked bio.now ≡ true }
         requires checked { check_answer bio.now R.sectors ≡ Ok tt }
+        ensures called { mine.new ≡ called mine.old result }
 
         // If the result is Ok, all device calls of the request (`calls_of`) succeeded, and the
         // request is noted as succeeded.
         ensures done { OnOk result
-            (self.new.calls ≡ self.old.calls ++ done_call id bio.now true ∷ []) }
+            (self.new.calls ≡ self.old.calls ++ done_call mine.old.under_way bio.now true ∷ []) }
         ensures does { OnOk result
             (DoesInTurn D.does now (calls_of bio.now) self.old.device (Ok tt) self.new.device) }
 
@@ -69,6 +74,28 @@ impl<D: BlockDev + Drop, R: Run> DataState<D, R> {
 
         // If the result is an error, a device call of the request ended with this error, and the
         // request is noted as failed. Or memory for the note ran out, and nothing changed.
+        ensures failed { IfErr result (λ error. ((error ≡ Memory) × (self.new ≡ self.old))
+            ⊎ ((self.new.calls ≡ self.old.calls ++ done_call mine.old.under_way bio.now false ∷ [])
+            × DoesInTurn D.does now (calls_of bio.now) self.old.device
+            (Err error) self.new.device)) }
+    {
+        let result = self.call(now, mine.under_way, bio);
+        mine.due = None;
+        mine.made = result;
+        result
+    }
+
+    // Passes a request to the device, and notes it, as `apply`.
+    fn call(&mut self, now: Ms, id: Option<Id>, bio: &Bio) -> Result<(), DevError>
+        requires tracked { is_tracked bio.now ≡ true }
+        requires checked { check_answer bio.now R.sectors ≡ Ok tt }
+        ensures done { OnOk result
+            (self.new.calls ≡ self.old.calls ++ done_call id bio.now true ∷ []) }
+        ensures does { OnOk result
+            (DoesInTurn D.does now (calls_of bio.now) self.old.device (Ok tt) self.new.device) }
+        ensures content { OnOk result ((D.shown self.new.device).lies ≡ 0 → (sector : ℕ) →
+            (D.shown self.new.device).content sector
+            ≡ put (values_of bio.now) (D.shown self.old.device).content sector) }
         ensures failed { IfErr result (λ error. ((error ≡ Memory) × (self.new ≡ self.old))
             ⊎ ((self.new.calls ≡ self.old.calls ++ done_call id bio.now false ∷ [])
             × DoesInTurn D.does now (calls_of bio.now) self.old.device

@@ -12,8 +12,9 @@ ghost use Rattle.lock_state.specs.HolderRules.{Grip, keeper_of, holder_of};
 
 mod rule;
 
-use crate::holders::rule::{Begin, Board, Compare, Enrol, Finish, Knows, Part};
+use crate::holders::rule::{Begin, Board, Compare, Enrol, Finish, Hand, Knows, Part};
 use atomic_table::Seat;
+pub use rule::Numbered;
 use std::alloc::{AllocError, Global};
 use std::marker::{Brand, Model, PhantomData};
 
@@ -129,6 +130,23 @@ impl<W: Whose> Keeper<W> {
             whose: _,
         } = self;
         board.shared.store::<Enrol>(pass, 0, 0);
+        Holder {
+            pass: board.shared.split_seat::<Part>(pass),
+            whose: PhantomData,
+        }
+    }
+
+    /// Adds a holder with the next number, which holds the number of `A`. Only contracts see it.
+    pub fn enrol_at<A: Numbered>(&mut self) -> Holder<W>
+        ensures holder { result ≡ record { number = length self.old; held = Some A.number } }
+        ensures keeper { self.new ≡ self.old ++ Some A.number ∷ [] }
+    {
+        let Keeper {
+            board,
+            pass,
+            whose: _,
+        } = self;
+        board.shared.store::<Hand<A>>(pass, 0, 0);
         Holder {
             pass: board.shared.split_seat::<Part>(pass),
             whose: PhantomData,

@@ -10,12 +10,12 @@ pub use closing::drain;
 pub use compare::{are_causes, are_named, are_passed, is_list_of, names};
 pub use data::DataState;
 pub use entry_of::is_entry_of;
-pub use holders::{Fresh, Holder, Keeper, Whose};
+pub use holders::{Fresh, Holder, Keeper, Numbered, Whose};
 pub use log::{LogParts, LogState, Receipt};
 pub use note::{Done, Item, Own, PassedCall, Told, Unplaced, Unrecorded};
 pub use part::{Seat, SeatPart, WriterPart};
 pub use queue::{QueueParts, QueueState};
-pub use run::{Ends, Run, Stops};
+pub use run::{Ends, Reads, Run, Stops};
 pub use served::{Seen, is_served};
 pub use stop::{FirstStop, Shown, StopPart};
 

@@ -1,19 +1,22 @@
 // The part of a seat: what it notes about its calls.
-ghost use Rattle.std.specs.Prelude.{◌≡◌, ◌==◌, None, is_none, length, true, false};
+ghost use Rattle.std.specs.Prelude.{◌≡◌, ◌==◌, ◌≢◌, MatchBool, None, Some, is_none, length, true, false};
 ghost use Rattle.lock_state.specs.History.{new_part, with_reported_cause, with_calls};
 ghost use Rattle.lock_state.specs.PlacedItems.{awaited_in, settles_hand};
 
+use crate::compare::same_bio;
 use crate::holders::Holder;
 use crate::note::{Item, Own, PassedCall, Told};
 use crate::run::Run;
-use bio::{End, Id};
+use bio::{Bio, DevError, End, Id};
 use std::alloc::Global;
 use std::marker::{Model, PhantomData};
 use std::mem::swap;
 use std::sync::ledger::Share;
 
 /// The part of a seat: its number, its recorded events with their indices, and its request that is
-/// under way. It also has what its passed calls found, and the causes that were reported to it.
+/// under way. It also has what its passed calls found, and the causes that were reported to it. It
+/// has the request for which the device wasn't called yet, and how the last call ended. So each
+/// request is passed to the device at most once, and it ends as its call did.
 #[derive(Drop)]
 pub struct SeatPart<R: Run> {
     pub(crate) number: u64,
@@ -21,6 +24,8 @@ pub struct SeatPart<R: Run> {
     pub(crate) passed: Vec<PassedCall>,
     pub(crate) told: Told,
     pub(crate) under_way: Option<Id>,
+    pub(crate) due: Option<Bio>,
+    pub(crate) made: Result<(), DevError>,
     pub(crate) share: Share<R>,
     pub(crate) holder: Holder<R>,
 }
@@ -37,6 +42,8 @@ impl<R: Run> Model for SeatPart<R> {
       passed = s.passed.items;
       told = s.told;
       under_way = s.under_way;
+      due = s.due;
+      made = s.made;
     } };
 
     ghost invariant = { λ s. (s.share.amount ≡ length s.own.items) × (s.share.parts ≡ 1)
@@ -61,6 +68,8 @@ impl<R: Run> SeatPart<R> {
                 memory: false,
             },
             under_way: None,
+            due: None,
+            made: Ok(()),
             share,
             holder,
         }
@@ -71,6 +80,16 @@ impl<R: Run> SeatPart<R> {
         ensures { result ≡ self.now.under_way }
     {
         self.under_way
+    }
+
+    /// Returns whether the device has to be called for this request.
+    pub fn is_due(&self, bio: &Bio) -> bool
+        ensures { MatchBool result (self.now.due ≡ Some bio.now) (self.now.due ≢ Some bio.now) }
+    {
+        match &self.due {
+            Some(due) => same_bio(due, bio),
+            None => false,
+        }
     }
 
     // Exchanges the events and passed calls of two seats, if both have equally many events.

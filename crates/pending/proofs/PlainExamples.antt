@@ -2,7 +2,7 @@
 use Rattle.std.proofs.Common.{◌≡◌, ℕ, zero, suc, ◌+◌, ◌<◌, Bool, true, false, Some, List, [], ◌∷◌}
 use Rattle.std.proofs.Common.{◌++◌, get_or, length, replicate, take, refl, ap, subst, ◌∙◌, inl, inr}
 use Rattle.std.proofs.Common.{arith}
-use Rattle.std.specs.Prelude.{◌⊎◌}
+use Rattle.std.specs.Prelude.{◌⊎◌, slice_get}
 use Rattle.byteorder.specs.Endian.{little_bytes}
 use Rattle.bio.specs.declared.event.CoreEvent.{CoreEvent}
 use Rattle.bio.specs.declared.event.CoreEvent.TheVariants.{Submit, Complete, Stop, Close}
@@ -10,12 +10,14 @@ use Rattle.refusals.specs.declared.run_error.End.TheVariants.{Full}
 use Rattle.bio.specs.declared.request.Bio.{Bio}
 use Rattle.bio.specs.declared.request.Bio.TheVariants.{Write, Flush}
 use Rattle.bio.specs.Content.{Content, over, sector_of}
+use Rattle.log_format.specs.Encode.{field_bytes, super_bytes}
 use Rattle.log_format.specs.Replay.{replay}
 use Rattle.pending.specs.CompletionList.{entries_at}
 use Rattle.pending.specs.Plain.{AClose, AMark, AtClose, AtEnd, AtFlush, AtFua, Belongs, Chain}
 use Rattle.pending.specs.Plain.{CouldHold, Covers, Direct, Durable, Ends, Flushed, GoesOn, HasLog}
-use Rattle.pending.specs.Plain.{IsCompletionList, Kept, Later, Need, Overlap, Puts, Queued, Queues}
-use Rattle.pending.specs.Plain.{Replays, Submits, Through, bytes_of, entries_bytes, entry}
+use Rattle.pending.specs.Plain.{IsCompletionList, Kept, Later, LeavesPlainLog, Need, Overlap, Puts}
+use Rattle.pending.specs.Plain.{Queued, Queues, Replays, Submits, Through, bytes_of, entries_bytes}
+use Rattle.pending.specs.Plain.{entry}
 use Rattle.pending.proofs.PlainHeld.{plain-durable, plain-kept, plain-replay, replay-plain}
 use Rattle.pending.proofs.PlainMoments.{belongs-plain, last-plain, list-is, plain-list}
 
@@ -319,3 +321,34 @@ replays-first : Replays linked (0 ∷ 2 ∷ []) zeroes (λ sector. full 65) → 
 replays-first it =
     let now = plain-replay 512 linked (0 ∷ 2 ∷ []) zeroes (λ sector. full 65) refl refl it 5 in
     let byte = same-byte 65 66 (now ∙ replays-last) in omega arith
+
+-- LeavesPlainLog: a super block that counts no entries is a log of no events, but not if an entry
+-- was settled
+abbrev empty_log : Content
+empty_log sector = super_bytes 0 512
+
+none_queued : (id end place : ℕ) → Queues [] id end place → ⊥
+none_queued id end place (AMark text is) = cc
+none_queued id end place (AClose is) = cc
+none_queued id end place (AtEnd _ bio ok is ends kind) = cc
+none_queued id end place (Later _ _ bio ok is ends kind after need first) = cc
+
+none_listed : IsCompletionList [] []
+none_listed = grind (arith, none_queued)
+
+nothing_held : (first after : Content) → Replays [] [] first after → CouldHold [] first after
+nothing_held first after replays sector = grind arith
+
+empty_left : (size : ℕ) → 0 < size → LeavesPlainLog 512 size 0 [] empty_log
+unfolding super_bytes field_bytes
+empty_left size some = grind (arith, none_listed, nothing_held)
+
+settled_lost : (size : ℕ) → LeavesPlainLog 512 size 1 [] empty_log → ⊥
+settled_lost size left =
+    let none = none_of left.ids left.list.only in omega (arith, left.least, left.most)
+  where
+    none_of : (ids : List ℕ) → ((n id : ℕ) → slice_get ids n ≡ Some id
+        → (end place : ℕ) × Queued [] id end place) → length ids ≡ 0
+    none_of [] only = refl
+    none_of (id ∷ ids) only =
+        absurd (let found = only 0 id refl in none_queued id found.0 found.1 found.2.0)

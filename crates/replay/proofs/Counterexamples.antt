@@ -1,6 +1,6 @@
 -- For each clause about a replay, its reads or a copy: an example that the clause refuses.
 use Rattle.std.proofs.Common.{false, None, Some, Result, slice_index_or, refl, ap, ◌≡◌, ℕ, ◌+◌}
-use Rattle.std.proofs.Common.{true, sym, ◌∙◌, inl, inr, arith, Ok, Err, List}
+use Rattle.std.proofs.Common.{true, sym, ◌∙◌, ◌≤◌, inl, inr, arith, Ok, Err, List}
 use Rattle.std.proofs.Common.{[], ◌∷◌, ◌++◌, length, replicate}
 use Rattle.refusals.specs.declared.run_error.End.TheVariants as ends
 use Rattle.bio.specs.Content.{Content}
@@ -8,7 +8,7 @@ use Rattle.bio.specs.Content as contents
 use Rattle.bio.specs.declared.outcome.DevError.{DevError}
 use Rattle.bio.specs.declared.outcome.DevError.TheVariants.{Io}
 use Rattle.bio.specs.declared.outcome.DevError.TheVariants as devices
-use Rattle.blockdev.specs.View.{Call, DoesInTurn, View, Writes}
+use Rattle.blockdev.specs.View.{Call, DoesInTurn, Reads, View, Writes}
 use Rattle.log_format.specs.declared.entry.Entry.{Entry}
 use Rattle.log_format.specs.Entries.{end_mark, no_flags}
 use Rattle.log_format.specs.Replay.{replay}
@@ -17,7 +17,7 @@ use Rattle.log_store.specs.Store.{Store, entries_of}
 use Rattle.log_reader.specs.declared.fault.LogFault.TheVariants.{CutShort}
 use Rattle.log_reader.specs.declared.fault.ReadDeviceError.TheVariants as reads
 use Rattle.log_reader.specs.Reader.{Reader}
-use Rattle.replay.specs.Calls.{IsCalled, ReadsToStop, entry_calls}
+use Rattle.replay.specs.Calls.{CopyReads, IsCalled, ReadsToStop, entry_calls}
 use Rattle.replay.specs.Copies.{EndsSince, IsCopied, IsUnaligned}
 use Rattle.replay.specs.Copies.{RefusesNoMore as CopyRefusesNoMore, Replays, SettledBy, SettlesOnly}
 use Rattle.replay.specs.Copies.{StopsBy}
@@ -139,8 +139,8 @@ counts old call now (Ok end) new = new ≡ old + 1
 counts old call now (Err error) new = ⊥
 
 -- there was memory for an entry that has a fault, and for one that has none there may be none
-refused_memory : ReadsToStop counts ⊥ 0 1 (replays.Log reads.Memory) → ⊥
-refused_memory (inl (most, done)) = by_calls 0 done.calls done.turn
+refused_memory : ReadsToStop counts 1 ⊥ 0 1 (replays.Log reads.Memory) → ⊥
+refused_memory (inl done) = by_calls 0 done.calls done.turn
   where
     by_calls : (old : ℕ) (calls : List Call) → DoesInTurn counts 0 calls old (Err devices.Memory) 1
         → ⊥
@@ -298,3 +298,21 @@ no_calls old call now result new = ⊥
 untold_memory : StopsCalls no_calls 0 [] [] None 5 5 (copies.Store ends.Memory) → ⊥
 untold_memory (inl had) = let ended = had.0 in cc
 untold_memory (inr (error, is, turn)) = turn
+
+-- a copy of one entry that read its log once read it at most once; one that read it twice didn't
+copy_read : CopyReads counts 1 reader 0 1 (Ok 1)
+copy_read =
+    record {
+      calls = Reads 0 [] [] ∷ [];
+      are = (tt, tt);
+      few = omega arith;
+      turn = (1, (0, refl), refl);
+    }
+
+copy_read_twice : CopyReads counts 1 reader 0 2 (Ok 1) → ⊥
+copy_read_twice done = by_calls done.calls done.few done.turn
+  where
+    by_calls : (calls : List Call) → length calls ≤ 1 → DoesInTurn counts 0 calls 0 (Ok tt) 2 → ⊥
+    by_calls [] few turn = omega (arith, turn)
+    by_calls (call ∷ []) few (mid, (end, is), turn) = omega (arith, is, turn)
+    by_calls (call ∷ next ∷ calls) few turn = omega (arith, few)

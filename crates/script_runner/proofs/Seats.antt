@@ -205,15 +205,7 @@ fails submission old new same = record {
 pub refused : (text : List ℕ) (old new : Player) → new ≡ old → Makes (Mark text) old Refused new
 refused text old new same = record {
   came = came_to Refused None;
-  made = (
-    marks.Refused refusals.Memory,
-    (
-      grind (arith, same),
-      λ bad. let no : refusals.Memory ≡ refusals.BadText = bad in
-          cc,
-    ),
-    refl,
-  );
+  made = (marks.Refused refusals.Memory, grind (arith, same), refl);
   told = refl;
   kept = grind (arith, same);
   number = grind (arith, same);

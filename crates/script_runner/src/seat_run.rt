@@ -4,13 +4,15 @@ ghost use Rattle.std.specs.Prelude.{◌≡◌, ◌<◌, IfErr, IfOk, length, map
 ghost use Rattle.lock_state.specs.PlacedItems.{ground_of};
 ghost use Rattle.script_runner.specs.SeatRuns.{FailsRun, IsClosed, IsRun, IsUnclosed, joined};
 ghost use Rattle.dmlw_script.specs.RunPlans.{IsRunPlan};
-ghost use Rattle.layer_table.specs.Layers.{disk_of, stack_shown};
+ghost use Rattle.layer_table.specs.Layers.{disk_of, stack_does, stack_shown};
 ghost use Rattle.refusals.specs.declared.run_error.RunError.TheVariants.{LoggingEnded};
 ghost use Rattle.script_runner.specs.DiskRun.{IsStackOf};
 ghost use Rattle.sector_disk.specs.DiskView.{shown_of};
 ghost use Rattle.bio.specs.Content.{gather};
 ghost use Rattle.script_runner.specs.inside.{AreNewPlayers, FitsRecorder};
 ghost use Rattle.shared.specs.Close.{AreNewSeats};
+ghost use Rattle.shared.specs.PlainCrash.{IsCreated};
+ghost use Rattle.layer_table.specs.declared.stack.Stack.{Stack};
 
 use crate::playing::new_stack;
 use crate::recording::Lies;
@@ -80,12 +82,14 @@ fn run_on<R: Run + Names + Send + Sync, H: Threads + Wait + Sync>(
     requires some { 0 < script.now.seats }
     requires script { IsRunPlan script.now }
     requires table { (unnamed.table ≡ R.table) × (unnamed.stops ≡ R.stops)
-        × (unnamed.ends ≡ R.ends) }
+        × (unnamed.ends ≡ R.ends) × (unnamed.reads ≡ R.reads) }
     requires board { unnamed.board ≡ R.board }
     requires fits { FitsRecorder R.sector_bytes R.sectors script.now }
     requires device { IsStackOf script.now.data_disk device }
     requires log { IsStackOf script.now.log_disk log }
     requires ground { R.log ≡ ground_of (stack_shown log) }
+    requires begins { (made : Stack) → IsCreated stack_does R.sector_bytes log made
+        → R.begins (stack_shown made).moment }
     ensures ran { IfOk result (λ ran.
         IsRun script.now ran.tallies.items ran.status ran.lies
         (gather (shown_of ran.disk).content 0 (shown_of ran.disk).size)) }
@@ -119,12 +123,14 @@ fn start<R: Run + Names>(
     requires ledger { (unnamed.ledger.name ≡ R.name) × (unnamed.ledger.parts ≡ R.parts)
         × (unnamed.ledger.parts ≡ script.now.seats) }
     requires table { (unnamed.table ≡ R.table) × (unnamed.stops ≡ R.stops)
-        × (unnamed.ends ≡ R.ends) }
+        × (unnamed.ends ≡ R.ends) × (unnamed.reads ≡ R.reads) }
     requires board { unnamed.board ≡ R.board }
     requires fits { FitsRecorder R.sector_bytes R.sectors script.now }
     requires device { IsStackOf script.now.data_disk device }
     requires log { IsStackOf script.now.log_disk log }
     requires ground { R.log ≡ ground_of (stack_shown log) }
+    requires begins { (made : Stack) → IsCreated stack_does R.sector_bytes log made
+        → R.begins (stack_shown made).moment }
     ensures seats { IfOk result (λ started. AreNewSeats script.now.seats started.seats.items) }
     ensures faults { IfErr result (FailsRun script.now) }
 {

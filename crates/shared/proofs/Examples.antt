@@ -1,13 +1,15 @@
 -- Worked answers: some match what the call adds, and some don't.
 use Rattle.std.proofs.Common.{Global, Option, arith, None, Vec, Ok, Some, inl, inr, length, refl}
-use Rattle.std.proofs.Common.{sym, take, true≢false, ◌≡◌, ◌<◌, ℕ, zero, suc, Bool, true, false}
+use Rattle.std.proofs.Common.{sym, take, true≢false, ◌≡◌, ◌<◌, ℕ, zero, suc, true, false}
 use Rattle.std.proofs.Common.{List, [], ap, ◌∷◌}
 use Rattle.std.proofs.Math.Nat.{suc-ne-zero}
-use Rattle.std.specs.Prelude.{slice_get}
+use Rattle.std.specs.Prelude.{Result, slice_get}
 use Rattle.refusals.specs.declared.run_error.End.{End}
 use Rattle.refusals.specs.declared.run_error.End.TheVariants.{Device, Full}
 use Rattle.bio.specs.Content.{Content}
 use Rattle.bio.specs.declared.event.CoreEvent.TheVariants as events
+use Rattle.bio.specs.declared.outcome.DevError.{DevError}
+use Rattle.bio.specs.declared.outcome.DevError.TheVariants.{Io}
 use Rattle.bio.specs.declared.outcome.Status.{Status}
 use Rattle.bio.specs.declared.request.Bio.{Bio}
 use Rattle.bio.specs.declared.request.Bio.TheVariants as bios
@@ -20,15 +22,15 @@ use Rattle.lock_state.specs.Comparison.{LeftUnplaced, IsTakenPrefix, Fails, IsSe
 use Rattle.lock_state.specs.Comparison.{SeatMatches, Each, Receipt}
 use Rattle.lock_state.specs.declared.note.Done.{Done as DoneCall}
 use Rattle.lock_state.specs.declared.note.Item.{Item}
-use Rattle.lock_state.specs.History.{Part, Queue, begun, ended, ended_by, new_part, noted}
-use Rattle.lock_state.specs.History.{after_taking, finished, in_hand, recorded_by}
+use Rattle.lock_state.specs.History.{Part, Queue, begun, called, ended, ended_by, new_part, noted}
+use Rattle.lock_state.specs.History.{after_taking, finished, in_hand, passed_at, recorded_by}
 use Rattle.lock_state.specs.PlacedItems.{Log}
 use Rattle.shared.specs.Answers.{Answered, Enters, Finds, FindsNext, MarkEnters, Marked, Takes}
 use Rattle.shared.specs.Close.{Agrees, AreNewReaders, AreNewSeats, Differs, IfBusy, IsReceipt}
 use Rattle.shared.specs.Close.{LeavesLog}
-use Rattle.shared.specs.declared.answer.Answer.TheVariants.{Done, Done as done, Read}
+use Rattle.shared.specs.declared.answer.Answer.TheVariants.{Done, Done as done, Failed, Read}
 use Rattle.shared.specs.declared.answer.MarkAnswer.TheVariants as marks
-use Rattle.shared.specs.declared.answer.MarkRefusal.TheVariants.{BadText}
+use Rattle.shared.specs.declared.answer.MarkRefusal.TheVariants.{AfterClose, BadText}
 use Rattle.shared.specs.declared.calls.Entered.TheVariants.{Recorded, Unrecorded}
 use Rattle.shared.specs.declared.closing.Unclosed.TheVariants.{Busy}
 use Rattle.shared.specs.declared.marks.EnteredMark.TheVariants as entered
@@ -42,27 +44,40 @@ plain = bios.Write 1 [] false false false
 abbrev fua : Bio
 fua = bios.Write 1 [] false true false
 
--- a seat whose first request was recorded, and ended
-abbrev after : Bio → Bool → Part
-after bio ok = ended (begun (new_part 0) 0 bio) 1 0 ok
+-- a seat whose first request was recorded, and ended as the device's call for it did
+abbrev after : Bio → Result (Unit {0}) DevError → Part
+after bio made = ended (called (begun (new_part 0) 0 bio) made) 1 0
 
 -- a plain write that ended well is answered so
-plain_done : Answered (new_part 0) plain Done (after plain true)
+plain_done : Answered (new_part 0) plain Done (after plain (Ok tt))
 plain_done = (refl, inl (refl, (0, (1, refl))))
 
 -- but a write with FUA isn't
-fua_not_done : Answered (new_part 0) fua Done (after fua true) → ⊥
+fua_not_done : Answered (new_part 0) fua Done (after fua (Ok tt)) → ⊥
 fua_not_done answered = grind arith
 
+-- nor is one for which the device wasn't called
+uncalled_not_done : Answered (new_part 0) plain Done (ended (begun (new_part 0) 0 plain) 1 0) → ⊥
+uncalled_not_done answered = grind arith
+
+-- and one that the device did after a stop isn't told as failed
+done_not_failed : Answered (new_part 0) fua (Failed Io)
+    (called (passed_at (new_part 0) 0 (Some Full)) (Ok tt)) → ⊥
+done_not_failed answered = grind arith
+
 -- a mark is answered so where it stands in the list
-mark_logged : Marked (new_part 0) (1 ∷ []) (marks.Logged (record { id = 3; number = 0 }))
+mark_logged : Marked (new_part 0) (1 ∷ []) (marks.Logged (record { id = 3; number = 0; reading = 0 }))
     (noted (new_part 0) 3 (events.Mark (1 ∷ [])))
 mark_logged = refl
 
 -- and not where its seat's list didn't grow
-mark_missing : Marked (new_part 0) (1 ∷ []) (marks.Logged (record { id = 3; number = 0 }))
+mark_missing : Marked (new_part 0) (1 ∷ []) (marks.Logged (record { id = 3; number = 0; reading = 0 }))
     (new_part 0) → ⊥
 mark_missing answered = grind arith
+
+-- and one that isn't noted isn't told as one after the close
+close_unnoted : Marked (new_part 0) (1 ∷ []) (marks.Refused AfterClose) (new_part 0) → ⊥
+close_unnoted answered = grind arith
 
 -- a queue of no events, one whose logging ended, and one that was closed
 abbrev fresh : Queue
@@ -149,7 +164,7 @@ abbrev both_placed : Log
 both_placed = record { placed = two; settled = 2; end = None; released = None; room = 0 }
 
 abbrev told_of : ℕ → Receipt
-told_of n = record { id = n; number = n }
+told_of n = record { id = n; number = n; reading = 0 }
 
 -- the second one is found there, and so nobody waits for it
 second_found : Finds both_placed 1 0 (Some (Ok (told_of 1)))
@@ -251,7 +266,7 @@ read_short : (bytes : Vec ℕ Global)
 read_short bytes answered none = let long = answered.1 in absurd (omega arith)
 
 good_text : (old new : Part) → Marked old (1 ∷ []) (marks.Refused BadText) new → ⊥
-good_text old new answered = answered.1 refl
+good_text old new answered = answered
 
 -- a seat's list, a receipt or a call that isn't the history's
 -- own, placed items that weren't taken, and a log that is short
@@ -283,7 +298,7 @@ module _ (queue : Queue) (placed : List Item) (settled : ℕ) (end : Option End)
     differs (inr (inr (inr (inr calls)))) = other_calls calls
 
 -- a receipt of an entry that isn't settled, and of another entry
-receipt_unsettled : IsReceipt (sized_state 512) 0 (record { id = 0; number = 0 }) → ⊥
+receipt_unsettled : IsReceipt (sized_state 512) 0 (record { id = 0; number = 0; reading = 0 }) → ⊥
 receipt_unsettled is = let within = is.within in absurd (omega arith)
 
 receipt_entry : (core : CoreState) (settled : ℕ) (receipt : Receipt)

@@ -1,4 +1,5 @@
 -- The lemmas of `shared`. The proof of each function is in the folder of its source file.
 pub mod ClosedLog
+pub mod PlainCrash
 pub mod PostedStatus
 mod Examples

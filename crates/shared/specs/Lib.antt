@@ -2,3 +2,4 @@
 pub mod Answers
 pub mod Posts
 pub mod Close
+pub mod PlainCrash

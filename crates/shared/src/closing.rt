@@ -11,13 +11,16 @@ ghost use Rattle.lock_state.specs.Comparison.{LegalHistory, IsTakenPrefix, Each,
 ghost use Rattle.lock_state.specs.Comparison.{HasNoRoom, LeftUnplaced, StopsWithLog};
 ghost use Rattle.lock_state.specs.FirstStop.{HasStopCause};
 ghost use Rattle.lock_state.specs.History.{KeepsCause, Part, first_cause, named, recorded_count};
-ghost use Rattle.lock_state.specs.PlacedItems.{HasCause, LeavesPrefix, KeepsGround, Stay};
-ghost use Rattle.lock_state.specs.PlacedItems.{entries_in};
+ghost use Rattle.lock_state.specs.PlacedItems.{HasCause, LeavesPrefix, LeavesSince, KeepsGround};
+ghost use Rattle.lock_state.specs.PlacedItems.{Stay, entries_in};
+ghost use Rattle.lock_state.specs.Receipts.{KeepsReceipt};
 ghost use Rattle.shared.specs.Close.{Agrees, Differs, IfBusy, IfForeign, IsReceipt, LeavesLog};
+ghost use Rattle.shared.specs.PlainCrash.{CrashesLeavePlainLogs, KeepsPlainReceipt};
 ghost use Rattle.shared.specs.Posts.{ArePosted, IsCurrent, IsLatest, StatusHasCause, end_before};
 
 use crate::desk::Desk;
 use crate::log_desk::LogDesk;
+use crate::plain::placed_logs_are_plain;
 use crate::posts::Posts;
 use crate::shared::{Shared, WriterSeat};
 use bio::{End, Status};
@@ -140,6 +143,12 @@ impl<D: BlockDev + Drop, L: BlockDev + Drop, R: Run + Names> Shared<D, L, R> {
             → (L.shown c.closed.log).crash left →
             LeavesLog R.sector_bytes
             (L.shown c.closed.log).size c.closed.settled c.closed.core.state c.closed.end left) }
+        ensures any_moment { IfOk result (λ c. (L.shown c.closed.log).lies ≡ 0 →
+            CrashesLeavePlainLogs R.begins R.sector_bytes (L.shown c.closed.log)
+            c.closed.core.state.events) }
+        ensures told { IfOk result (λ c. (L.shown c.closed.log).lies ≡ 0 →
+            Each (KeepsPlainReceipt R.sector_bytes (L.shown c.closed.log)
+            c.closed.core.state.events) receipts.items) }
         ensures log { IfOk result (λ c. (L.shown c.closed.log).lies ≡ 0 →
             LeavesLog R.sector_bytes
             (L.shown c.closed.log).size c.closed.settled c.closed.core.state c.closed.end
@@ -236,6 +245,8 @@ impl<D: BlockDev + Drop, L: BlockDev + Drop, R: Run + Names> Shared<D, L, R> {
             (o.seats.items ≡ seats.items) × (o.writer ≡ writer)
             × (o.receipts.items ≡ receipts.items))) }
     {
+        // For the prover: a crash leaves a log whose prefixes replay to what could be held.
+        placed_logs_are_plain();
         let Held {
             desk,
             mut log,
@@ -257,6 +268,7 @@ impl<D: BlockDev + Drop, L: BlockDev + Drop, R: Run + Names> Shared<D, L, R> {
             mut notes,
         } = desk;
         let mut seats = seats;
+        let mut receipts = receipts;
         queue.audit(&mut seats);
         let notes = notes.as_mut_slice();
         log.confirm_causes(&mut queue);
@@ -272,7 +284,7 @@ impl<D: BlockDev + Drop, L: BlockDev + Drop, R: Run + Names> Shared<D, L, R> {
             receipts.as_slice(),
         );
         if agrees {
-            let closed = finish(queue, log, device);
+            let closed = finish(queue, log, device, &mut receipts);
             return Ok(Ending {
                 closed,
                 posts,
@@ -282,7 +294,7 @@ impl<D: BlockDev + Drop, L: BlockDev + Drop, R: Run + Names> Shared<D, L, R> {
             });
         }
         Err(Unclosed::Foreign(Mismatch {
-            closed: take_apart(queue, log, device),
+            closed: take_apart(queue, log, device, &mut receipts),
             posts,
             released,
             seats,
@@ -387,6 +399,7 @@ fn finish<D: BlockDev + Drop, L: BlockDev + Drop, R: Run>(
     queue: QueueState<R>,
     log: LogState<L, R>,
     device: DataState<D, R>,
+    receipts: &mut Vec<Receipt<R>>,
 ) -> Closed<D, L>
     requires closed { has_no_close queue.core.events ≡ false }
     requires begins { IsTakenPrefix queue.core log.placed }
@@ -413,6 +426,11 @@ fn finish<D: BlockDev + Drop, L: BlockDev + Drop, R: Run>(
         → (L.shown result.log).crash left →
         LeavesLog R.sector_bytes
         (L.shown result.log).size result.settled result.core.state result.end left }
+    ensures since { (L.shown result.log).lies ≡ 0 → LeavesSince
+        R.begins R.sector_bytes (L.shown result.log) (entries_in result.placed.items) }
+    ensures receipts { receipts.new.items ≡ receipts.old.items }
+    ensures told { (L.shown result.log).lies ≡ 0 → Each (KeepsReceipt R.sector_bytes
+        (L.shown result.log) (entries_in result.placed.items)) receipts.old.items }
     ensures ground { KeepsGround R.log (L.shown result.log) }
     ensures status { result.status
         ≡ status_of R.sector_bytes (entries_in result.placed.items) result.end }
@@ -428,7 +446,7 @@ fn finish<D: BlockDev + Drop, L: BlockDev + Drop, R: Run>(
     let mut queue = queue;
     let mut log = log;
     drain(&mut queue, &mut log);
-    take_apart(queue, log, device)
+    take_apart(queue, log, device, receipts)
 }
 
 // Returns the cause of the first Stop, or if there is none, of the log's end.
@@ -443,6 +461,7 @@ fn take_apart<D: BlockDev + Drop, L: BlockDev + Drop, R: Run>(
     queue: QueueState<R>,
     log: LogState<L, R>,
     device: DataState<D, R>,
+    receipts: &mut Vec<Receipt<R>>,
 ) -> Closed<D, L>
     ensures queue { (record { core = result.core.state; by = result.by.items; stop = result.stop })
         ≡ queue }
@@ -456,6 +475,11 @@ fn take_apart<D: BlockDev + Drop, L: BlockDev + Drop, R: Run>(
         → (L.shown result.log).crash left →
         LeavesPrefix R.sector_bytes (L.shown result.log).size result.settled
         (entries_in result.placed.items) left }
+    ensures since { (L.shown result.log).lies ≡ 0 → LeavesSince
+        R.begins R.sector_bytes (L.shown result.log) (entries_in result.placed.items) }
+    ensures receipts { receipts.new.items ≡ receipts.old.items }
+    ensures told { (L.shown result.log).lies ≡ 0 → Each (KeepsReceipt R.sector_bytes
+        (L.shown result.log) (entries_in result.placed.items)) receipts.old.items }
     ensures ground { KeepsGround R.log (L.shown result.log) }
     ensures status { result.status
         ≡ status_of R.sector_bytes (entries_in result.placed.items) result.end }
@@ -470,7 +494,7 @@ fn take_apart<D: BlockDev + Drop, L: BlockDev + Drop, R: Run>(
 {
     let taken = queue.taken_count() as u64;
     let queue = queue.into_parts();
-    let log = log.into_parts();
+    let log = log.into_parts(receipts.as_mut_slice());
     let (device, done) = device.into_parts();
     let store_end = log.status.end;
     let end = first_of(queue.stop, store_end);

@@ -5,9 +5,10 @@ use lock_state::Fresh;
 use std::alloc::{AllocError, Global};
 use std::sync::ledger::Blank;
 
-/// The ledger of a recorder's seats, three tables, and the board of its status. On the first table,
+/// The ledger of a recorder's seats, four tables, and the board of its status. On the first table,
 /// the queue and the seats agree. On the second and third, the queue and the log agree about the
-/// first stop and about the log's end. These name the recorder: a seat of another recorder has
+/// first stop and about the log's end. On the fourth, the log and the receipts agree about when each
+/// receipt was made. These name the recorder: a seat of another recorder has
 /// another type.
 #[derive(Drop)]
 pub struct Unnamed {
@@ -19,6 +20,8 @@ pub struct Unnamed {
     pub stops: Fresh,
     /// The table on which the queue and the log agree about the log's end.
     pub ends: Fresh,
+    /// The table on which the log and the receipts agree about when each receipt was made.
+    pub reads: Fresh,
     /// The board of the log's status.
     pub board: board::Blank,
 }
@@ -34,6 +37,7 @@ impl Unnamed {
             table: Fresh::new(alloc)?,
             stops: Fresh::new(alloc)?,
             ends: Fresh::new(alloc)?,
+            reads: Fresh::new(alloc)?,
             board: board::Blank::new(alloc)?,
         })
     }

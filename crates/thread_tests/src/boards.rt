@@ -4,9 +4,10 @@ ghost use Rattle.std.specs.Prelude.{◌≡◌};
 use bio::{End, Status};
 use board::{Blank, Board, Names, StatusSeat, WriterSeat};
 use lock_state::{Fresh, Whose};
-use std::alloc::{AllocError, Global};
+use std::alloc::Global;
 use std::io::Print;
 use std::marker::Brand;
+use std::process::Abort;
 use std::test::*;
 use test_devices::is_same;
 
@@ -85,7 +86,7 @@ struct Reader<N: Names> {
 }
 
 // Makes `count` readers, and then posts a status. Returns whether each of them reads it.
-fn are_reading<N: Names>(alloc: Global, blank: Blank, count: usize) -> Result<bool, AllocError>
+fn are_reading<N: Names>(rt: &impl Abort, alloc: Global, blank: Blank, count: usize) -> bool
     requires { blank ≡ N.board }
 {
     let (board, mut writer) = blank.named::<N>();
@@ -93,7 +94,7 @@ fn are_reading<N: Names>(alloc: Global, blank: Blank, count: usize) -> Result<bo
     let mut readers = Vec::new(alloc);
     for _ in 0..count {
         let seat = board.reader(&mut writer);
-        readers.push(Reader { seat, last })?;
+        readers.push(Reader { seat, last }).expect(rt, "memory");
     }
     let status = Status {
         entries: 3,
@@ -104,7 +105,7 @@ fn are_reading<N: Names>(alloc: Global, blank: Blank, count: usize) -> Result<bo
     for reader in readers.iter_mut() {
         reader.last = board.read(&mut reader.seat);
     }
-    Ok(readers.iter().all(|reader| reader.last == status))
+    readers.iter().all(|reader| reader.last == status)
 }
 
 #[test]
@@ -117,7 +118,7 @@ fn a_reader_reads_what_was_posted_last(rt: HostRuntime) -> Result<(), Fail> {
 #[test]
 fn sixty_four_readers_read_the_same(rt: HostRuntime) -> Result<(), Fail> {
     let blank = Blank::new(rt.alloc())?;
-    assert!(rt; are_reading::<Brand>(rt.alloc(), blank, 64)?);
+    assert!(rt; are_reading::<Brand>(&rt, rt.alloc(), blank, 64));
     Ok(())
 }
 

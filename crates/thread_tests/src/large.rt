@@ -108,6 +108,29 @@ fn read_back(alloc: Global, log: SectorDisk) -> u64 {
     count
 }
 
+// Returns the calls of four seats, each of which writes its sectors and makes a mark.
+fn marking_tables(rt: &impl Abort, alloc: Global) -> Vec<Table> {
+    let mut tables = Vec::new(alloc);
+    for seat in 0..SEATS {
+        tables
+            .push(writes_and_mark(rt, alloc, seat))
+            .expect(rt, "memory");
+    }
+    tables
+}
+
+// Returns whether the answers, the receipts and the status of four seats are right, and what the
+// readers read.
+fn is_as_wanted<D: Drop, L: Drop>(rt: &impl Print, played: &Played<D, L>, status: &Status) -> bool {
+    let closed = &played.closed;
+    let has_status = is_same(rt, &closed.status, status, "four seats' status");
+    let have_answered = have_answers(rt, played.tallies.as_slice(), &tally(OWN, 1, 0));
+    let do_rise = holds(rt, played.rises, "no status goes back");
+    let are_seen = have_seen(rt, played.seen.as_slice(), status);
+    let are_named = are_named(rt, played.receipts.as_slice(), closed.placed.as_slice());
+    has_status && have_answered && do_rise && are_seen && are_named
+}
+
 // Four seats write a hundred sectors each and then make a mark, with a log of `sectors` sectors;
 // four readers read the status. Returns whether the answers, the receipts, the status and the
 // number of entries in the log are right. No reader may read a status that went back, and each must
@@ -121,32 +144,14 @@ fn four_seats<H: Threads + Wait + Clock + Print + Sync + Send + Copy + Drop + Ab
 ) -> bool
     requires { (0 < sectors) × (sectors ≤ 1048576) }
 {
-    let mut tables = Vec::new(alloc);
-    for seat in 0..SEATS {
-        tables
-            .push(writes_and_mark(rt, alloc, seat))
-            .expect(rt, "memory");
-    }
+    let tables = marking_tables(rt, alloc);
     let device = open_disk(rt, alloc, SEATS * OWN);
     let log = open_disk(rt, alloc, sectors);
     let played = stage(rt, alloc, tables, device, log, SEATS);
-    let Played {
-        tallies,
-        let_go: _,
-        seen,
-        rises,
-        receipts,
-        closed,
-        released: _,
-    } = played;
-    let has_status = is_same(rt, &closed.status, &status, "four seats' status");
-    let have_answered = have_answers(rt, tallies.as_slice(), &tally(OWN, 1, 0));
-    let do_rise = holds(rt, rises, "no status goes back");
-    let are_seen = have_seen(rt, seen.as_slice(), &status);
-    let are_named = are_named(rt, receipts.as_slice(), closed.placed.as_slice());
+    let is_right = is_as_wanted(rt, &played, &status);
+    let closed = played.closed;
     let read = read_back(alloc, closed.log.into_lower());
-    let is_read = is_same(rt, &read, &listed, "entries that are read back");
-    has_status && have_answered && do_rise && are_seen && are_named && is_read
+    is_same(rt, &read, &listed, "entries that are read back") && is_right
 }
 
 #[test]
@@ -265,6 +270,27 @@ fn have_bytes(rt: &impl Abort, disk: &mut SectorDisk, alloc: Global, first: [u8;
     have
 }
 
+// Returns the calls of four seats, each of which writes its sectors and reads them.
+fn reading_tables(rt: &impl Abort, alloc: Global) -> Vec<Table> {
+    let mut tables = Vec::new(alloc);
+    for seat in 0..SEATS {
+        tables
+            .push(writes_read_back(rt, alloc, seat))
+            .expect(rt, "memory");
+    }
+    tables
+}
+
+// Returns whether each sector has its last value, and after a crash its flushed value, or that of
+// the late FUA write.
+fn are_kept(rt: &(impl Print + Abort), alloc: Global, disk: &mut SectorDisk) -> bool {
+    let has_last = have_bytes(rt, disk, alloc, [LATE, LATE, 0]);
+    disk.crash(&[]);
+    let has_flushed = have_bytes(rt, disk, alloc, [1, LATE, 3]);
+    let has_last = holds(rt, has_last, "the last writes stand");
+    holds(rt, has_flushed, "what was flushed stands after a crash") && has_last
+}
+
 // Four seats write, read and flush, and change sectors again after `ask_close`. Returns whether
 // each read found what was written, and each sector of the device has its last value. After a crash
 // each sector must have its flushed value, or that of the late FUA write.
@@ -272,12 +298,7 @@ fn readback<H: Threads + Wait + Clock + Print + Sync + Send + Copy + Drop + Abor
     rt: &H,
     alloc: Global,
 ) -> bool {
-    let mut tables = Vec::new(alloc);
-    for seat in 0..SEATS {
-        tables
-            .push(writes_read_back(rt, alloc, seat))
-            .expect(rt, "memory");
-    }
+    let tables = reading_tables(rt, alloc);
     let device = open_disk(rt, alloc, SEATS * OWN);
     let log = open_disk(rt, alloc, 1000);
     let played = stage(rt, alloc, tables, device, log, 0);
@@ -288,12 +309,7 @@ fn readback<H: Threads + Wait + Clock + Print + Sync + Send + Copy + Drop + Abor
     let have_answered = have_answers(rt, played.tallies.as_slice(), &wanted);
     let closed = played.closed;
     let mut disk = closed.device.into_lower();
-    let has_last = have_bytes(rt, &mut disk, alloc, [LATE, LATE, 0]);
-    disk.crash(&[]);
-    let has_flushed = have_bytes(rt, &mut disk, alloc, [1, LATE, 3]);
-    let has_last = holds(rt, has_last, "the last writes stand");
-    let has_flushed = holds(rt, has_flushed, "what was flushed stands after a crash");
-    have_answered && has_last && has_flushed
+    are_kept(rt, alloc, &mut disk) && have_answered
 }
 
 #[test]

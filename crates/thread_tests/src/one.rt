@@ -1,6 +1,6 @@
 //! Tests of a recorder with one seat: its calls, their time at the device, a close before
 //! `ask_close`, and a close that writes the whole log itself. Two recorders exchange their seats.
-ghost use Rattle.std.specs.Prelude.{◌≡◌};
+ghost use Rattle.std.specs.Prelude.{◌≡◌, ℕ};
 ghost use Rattle.thread_tests.specs.Disks.{disk_ground};
 
 use bio::{Bio, Bytes, DevError, End, Ms, Status};
@@ -36,25 +36,26 @@ const MOMENT: u64 = 5;
 // the log has ended. A close that is Ok shows a colon, the status, and how many items are placed, are
 // settled, and were placed by the writer. Then comes `n` if logging hadn't ended and no waiter was
 // released, `p` if that status was posted last (only the writer posts), and `t` if the device's last
-// call began at `MOMENT`.
+// call began at `MOMENT`. At the end is the last digit of how many calls the device did.
 const ROWS: &str = "\
-w|aa=dbdd:23220nt
-swfxrals=00dddfd.46:46444npt
+w|aa=dbdd:23220nt1
+swfxrals=00dddfd.46:46444npt4
 guwm=.mdmbb
-waum=dddx:23220nt
-fa=dd:22220nt
-da=dd:22220nt
-ra=od:11110nt
-aw=dd:11110nt
-af=dd:11110nt
-ad=dd:11110nt
-ar=do:11110nt";
+waum=dddx:23220nt2
+fa=dd:22220nt1
+da=dd:22220nt1
+ra=od:11110nt1
+aw=dd:11110nt1
+af=dd:11110nt1
+ad=dd:11110nt1
+ar=do:11110nt1";
 
-// A device that notes the time of its last call.
+// A device that notes the time of its last call, and counts its calls.
 #[derive(Drop)]
 struct Timed<D: BlockDev + Drop> {
     lower: D,
     last: Ms,
+    calls: u64,
 }
 
 impl<D: BlockDev + Drop> Timed<D> {
@@ -64,7 +65,16 @@ impl<D: BlockDev + Drop> Timed<D> {
         Timed {
             lower,
             last: Ms::new(0),
+            calls: 0,
         }
+    }
+
+    // Notes a call.
+    fn note(&mut self, now: Ms)
+        ensures { self.new.lower ≡ self.old.lower }
+    {
+        self.last = now;
+        self.calls = self.calls.saturating_add(1);
     }
 }
 
@@ -78,22 +88,22 @@ impl<D: BlockDev + Drop> BlockDev for Timed<D> {
     }
 
     fn read(&mut self, now: Ms, first: u64, buffer: &mut [u8]) -> Result<Ms, DevError> {
-        self.last = now;
+        self.note(now);
         self.lower.read(now, first, buffer)
     }
 
     fn write(&mut self, now: Ms, first: u64, bytes: &[u8], fua: bool) -> Result<Ms, DevError> {
-        self.last = now;
+        self.note(now);
         self.lower.write(now, first, bytes, fua)
     }
 
     fn discard(&mut self, now: Ms, first: u64, count: u64) -> Result<Ms, DevError> {
-        self.last = now;
+        self.note(now);
         self.lower.discard(now, first, count)
     }
 
     fn flush(&mut self, now: Ms) -> Result<Ms, DevError> {
-        self.last = now;
+        self.note(now);
         self.lower.flush(now)
     }
 
@@ -120,9 +130,10 @@ fn start<R: Run + Names, H: Abort>(
     requires ledger { (unnamed.ledger.name ≡ R.name) × (unnamed.ledger.parts ≡ R.parts)
         × (unnamed.ledger.parts ≡ 1) }
     requires table { (unnamed.table ≡ R.table) × (unnamed.stops ≡ R.stops)
-        × (unnamed.ends ≡ R.ends) }
+        × (unnamed.ends ≡ R.ends) × (unnamed.reads ≡ R.reads) }
     requires board { unnamed.board ≡ R.board }
     requires sectors { (R.sectors ≡ 16) × (R.log ≡ disk_ground 16) }
+    requires begins { (reading : ℕ) → R.begins reading }
     requires sector_size { R.sector_bytes ≡ 512 }
 {
     let device = Timed::new(SectorDisk::new(alloc, SECTORS).expect(rt, "memory"));
@@ -273,8 +284,8 @@ fn show<R: Run + Names>(
     }
 }
 
-// Adds whether the log's status was posted last, and whether the device's last call began at
-// `MOMENT`. The statuses that the reader read are a prefix of the posted ones.
+// Adds whether the log's status was posted last, whether the device's last call began at `MOMENT`, and
+// how many calls the device did. The statuses that the reader read are a prefix of the posted ones.
 fn show_posts<R: Run + Names>(
     rt: &impl Abort,
     ending: &mut Ending<Device, SectorDisk, R>,
@@ -290,6 +301,8 @@ fn show_posts<R: Run + Names>(
     if ending.closed.device.last == Ms::new(MOMENT) {
         said.push('t').expect(rt, "memory");
     }
+    said.push(digit(ending.closed.device.calls))
+        .expect(rt, "memory");
 }
 
 // Closes a recorder, and adds what the close shows. Returns the recorder if the close is busy.
@@ -353,9 +366,10 @@ fn play<R: Run + Names, H: Wait + Abort>(
     requires ledger { (unnamed.ledger.name ≡ R.name) × (unnamed.ledger.parts ≡ R.parts)
         × (unnamed.ledger.parts ≡ 1) }
     requires table { (unnamed.table ≡ R.table) × (unnamed.stops ≡ R.stops)
-        × (unnamed.ends ≡ R.ends) }
+        × (unnamed.ends ≡ R.ends) × (unnamed.reads ≡ R.reads) }
     requires board { unnamed.board ≡ R.board }
     requires sectors { (R.sectors ≡ 16) × (R.log ≡ disk_ground 16) }
+    requires begins { (reading : ℕ) → R.begins reading }
     requires sector_size { R.sector_bytes ≡ 512 }
 {
     let started = Some(start::<R, H>(rt, alloc, unnamed));
@@ -401,14 +415,16 @@ fn foreign_seats<B: Run + Names, C: Run + Names, H: Wait + Abort>(
     requires ledger { (unnamed.ledger.name ≡ B.name) × (unnamed.ledger.parts ≡ B.parts)
         × (unnamed.ledger.parts ≡ 1) }
     requires table { (unnamed.table ≡ B.table) × (unnamed.stops ≡ B.stops) × (unnamed.ends ≡ B.ends)
-        × (unnamed.board ≡ B.board) }
+        × (unnamed.reads ≡ B.reads) × (unnamed.board ≡ B.board) }
     requires sectors { (B.sectors ≡ 16) × (C.sectors ≡ 16) }
     requires logs { (B.log ≡ disk_ground 16) × (C.log ≡ disk_ground 16) }
+    requires begins { (reading : ℕ) → B.begins reading }
     requires sector_size { (B.sector_bytes ≡ 512) × (C.sector_bytes ≡ 512) }
     requires other_ledger { (other.ledger.name ≡ C.name) × (other.ledger.parts ≡ C.parts)
         × (other.ledger.parts ≡ 1) }
+    requires other_begins { (reading : ℕ) → C.begins reading }
     requires other_table { (other.table ≡ C.table) × (other.stops ≡ C.stops) × (other.ends ≡ C.ends)
-        × (other.board ≡ C.board) }
+        × (other.reads ≡ C.reads) × (other.board ≡ C.board) }
 {
     let mut one = start::<B, H>(rt, alloc, unnamed);
     let mut another = start::<C, H>(rt, alloc, other);

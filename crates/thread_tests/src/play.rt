@@ -1,5 +1,5 @@
 //! Runs a recorder with a thread for each seat, for the readers and for the writer, and closes it.
-ghost use Rattle.std.specs.Prelude.{◌≡◌, ◌<◌, ◌≤◌};
+ghost use Rattle.std.specs.Prelude.{◌≡◌, ℕ, ◌<◌, ◌≤◌};
 ghost use Rattle.std.specs.Thread.{IsSend};
 ghost use Rattle.lock_state.specs.PlacedItems.{ground_of};
 
@@ -107,9 +107,9 @@ fn run_all<
                 .spawn(move || look_all(rt, recorder, watches))
                 .ok()
                 .expect(rt, "the readers' thread");
-            let works = call_all(rt, alloc, recorder, works);
+            let works = call_all(rt, alloc, recorder, works, false);
             recorder.ask_close(rt).ok().expect(rt, "a close");
-            let works = call_all_late(rt, alloc, recorder, works);
+            let works = call_all(rt, alloc, recorder, works, true);
             let watches = lookers.join(rt);
             Called { works, watches }
         },
@@ -134,38 +134,26 @@ fn look_all<
     watches
 }
 
-// Makes each seat's calls, each seat in its own thread.
+// Makes each seat's calls, or its late calls if `late`, each seat in its own thread.
 fn call_all<
     D: BlockDev + Drop + Send,
     L: BlockDev + Drop + Send,
     R: Run + Names + Send + Sync,
     H: Threads + Wait + Clock + Sync,
->(rt: &H, alloc: Global, recorder: &Shared<D, L, R>, works: Vec<Work<R>>) -> Vec<Work<R>> {
+>(
+    rt: &H,
+    alloc: Global,
+    recorder: &Shared<D, L, R>,
+    works: Vec<Work<R>>,
+    late: bool,
+) -> Vec<Work<R>> {
     let mut works = works;
     let threads = works.len().saturating_add(1);
     thread::for_each_mut(
         rt,
         works.as_mut_slice(),
         threads,
-        &|_, work: &mut Work<R>| { work.run(rt, alloc, recorder) },
-    );
-    works
-}
-
-// Makes each seat's late calls, each seat in its own thread.
-fn call_all_late<
-    D: BlockDev + Drop + Send,
-    L: BlockDev + Drop + Send,
-    R: Run + Names + Send + Sync,
-    H: Threads + Wait + Clock + Sync,
->(rt: &H, alloc: Global, recorder: &Shared<D, L, R>, works: Vec<Work<R>>) -> Vec<Work<R>> {
-    let mut works = works;
-    let threads = works.len().saturating_add(1);
-    thread::for_each_mut(
-        rt,
-        works.as_mut_slice(),
-        threads,
-        &|_, work: &mut Work<R>| { work.run_late(rt, alloc, recorder) },
+        &|_, work: &mut Work<R>| { work.run(rt, alloc, recorder, late) },
     );
     works
 }
@@ -306,10 +294,11 @@ pub fn play<
     requires ledger { (unnamed.ledger.name ≡ R.name) × (unnamed.ledger.parts ≡ R.parts)
         × (unnamed.ledger.parts ≡ count) }
     requires table { (unnamed.table ≡ R.table) × (unnamed.stops ≡ R.stops)
-        × (unnamed.ends ≡ R.ends) }
+        × (unnamed.ends ≡ R.ends) × (unnamed.reads ≡ R.reads) }
     requires board { unnamed.board ≡ R.board }
     requires sectors { (D.shown device).size ≡ R.sectors }
     requires log { R.log ≡ ground_of (L.shown log) }
+    requires begins { (reading : ℕ) → R.begins reading }
     requires sector_size { R.sector_bytes ≡ 512 }
 {
     let started = Shared::<D, L, R>::new(alloc, unnamed, device, log, count, readers)

@@ -36,9 +36,10 @@ fn write(rt: &impl Abort, alloc: Global, size: SectorSize, number: u64, fua: boo
     }
 }
 
-// Records a request of a seat, passes it to the device, and records its end. Returns whether all of
-// this succeeded.
+// Records a request of a seat, passes it to the device, and records its end. Returns whether the
+// device succeeded.
 fn call<R: Run>(
+    rt: &impl Abort,
     queue: &mut QueueState<R>,
     data_state: &mut DataState<SectorDisk, R>,
     seat: &mut Seat<R>,
@@ -48,19 +49,13 @@ fn call<R: Run>(
     requires sectors { R.sectors ≡ 64 }
     requires size { bytes_of size ≡ R.sector_bytes }
 {
-    if !queue.is_recording() || !bio.is_tracked() || check(bio, SECTORS).is_err() {
-        return false;
-    }
-    if let Ok(()) = check_sized(bio, SECTORS, size) {
-        let part = &mut seat.part;
-        let Ok(id) = queue.submit(part, bio) else {
-            return false;
-        };
-        let is_done = data_state.apply(Ms::new(0), Some(id), bio).is_ok();
-        queue.complete(part, is_done);
-        return is_done;
-    }
-    false
+    assert!(rt; queue.is_recording() && bio.is_tracked());
+    assert!(rt; check(bio, SECTORS).is_ok() && check_sized(bio, SECTORS, size).is_ok());
+    let part = &mut seat.part;
+    let _id = queue.submit(part, bio).ok().expect(rt, "room");
+    let is_done = data_state.apply(Ms::new(0), part, bio).is_ok();
+    queue.complete(part);
+    is_done
 }
 
 // Takes the next item and places it. Returns whether there was an item.
@@ -80,9 +75,7 @@ fn mark<R: Run>(
     seat: &mut Seat<R>,
 ) -> bool {
     let text = Bytes::from_vec(vec![in alloc; 7; 3].expect(rt, "memory"));
-    if !queue.is_recording() || !is_text(text.as_slice()) {
-        return false;
-    }
+    assert!(rt; queue.is_recording() && is_text(text.as_slice()));
     queue.mark(&mut seat.part, &text).is_ok()
 }
 
@@ -105,19 +98,16 @@ fn is_served<R: Run>(
     queue.is_served(data_state.done(), notes.as_mut_slice())
 }
 
-// Places the remaining items of a closed recorder. Returns whether this succeeded, and whether
-// `count` items are placed and settled then.
+// Places the remaining items of a closed recorder. Returns whether `count` items are placed and
+// settled then.
 pub fn writes_rest<R: Run>(
+    rt: &impl Abort,
     queue: &mut QueueState<R>,
     log: &mut LogState<SectorDisk, R>,
     count: usize,
 ) -> bool {
-    if !queue.is_closed()
-        || !queue.has_taken(log.placed())
-        || queue.has_more(log.placed(), log.end())
-    {
-        return false;
-    }
+    assert!(rt; queue.is_closed() && queue.has_taken(log.placed()));
+    assert!(rt; !queue.has_more(log.placed(), log.end()));
     drain(queue, log);
     log.placed().len() == count && log.settled() == count as u64 && queue.has_taken(log.placed())
 }
@@ -138,8 +128,8 @@ fn calls<R: Run>(
     let mut is_done = true;
     for number in 0..4 {
         let bio = write(rt, alloc, size, number, number == 2);
-        is_done = call(queue, data_state, one, size, &bio) && is_done;
-        is_done = call(queue, data_state, other, size, &Bio::Flush) && is_done;
+        is_done = call(rt, queue, data_state, one, size, &bio) && is_done;
+        is_done = call(rt, queue, data_state, other, size, &Bio::Flush) && is_done;
     }
     mark(rt, alloc, queue, one) && is_done
 }
@@ -159,63 +149,85 @@ fn agree<R: Run>(
 
 // Records the requests of two seats. Returns whether the seats' lists, their passed calls and the
 // placed items agree with the history.
-fn two_seats_record<R: Run>(
+fn is_recorded<R: Run>(
     rt: &(impl Print + Abort),
     alloc: Global,
-    blank: Blank,
-    fresh: (Fresh, Fresh, Fresh),
+    queue: &mut QueueState<R>,
+    log: &mut LogState<SectorDisk, R>,
+    data_state: &mut DataState<SectorDisk, R>,
+    one: &mut Seat<R>,
+    other: &mut Seat<R>,
     size: SectorSize,
-    store: LogStore<SectorDisk>,
-    device: SectorDisk,
 ) -> bool
-    requires ledger { (blank.name ≡ R.name) × (blank.parts ≡ R.parts) × (blank.parts ≡ 2) }
-    requires holders { (fresh.0 ≡ R.table) × (fresh.1 ≡ R.stops) × (fresh.2 ≡ R.ends) }
-    requires size { bytes_of size ≡ R.sector_bytes }
     requires sectors { R.sectors ≡ 64 }
-    requires store { ((store_of store).sector_bytes ≡ R.sector_bytes)
-        × (R.log ≡ ground_of (store_of store).device) }
-    requires empty { ((store_of store).placed ≡ 0) × ((store_of store).end ≡ None) }
-    requires device { (shown_of device).size ≡ 64 }
+    requires size { bytes_of size ≡ R.sector_bytes }
 {
-    let (table, stops, ends) = fresh;
-    let mut log = LogState::new(alloc, store, ends);
-    let mut data_state = DataState::<SectorDisk, R>::new(alloc, device);
-    let (mut queue, mut seats, _) = QueueState::<R>::start(
-        alloc, blank, table, stops, size, 2,
-    ).expect(rt, "memory");
-    let mut one = seats.pop().expect(rt, "a seat");
-    let mut other = seats.pop().expect(rt, "a seat");
-    let are_made = calls(
-        rt,
-        alloc,
-        &mut queue,
-        &mut data_state,
-        &mut one,
-        &mut other,
-        size,
-    );
-    let is_closed = turn(&mut queue, &mut log) && queue.close().is_ok();
-    let is_passed = pass(&queue, &mut other);
-    let do_agree = agree(rt, alloc, &queue, &data_state, &one, &other);
-    let is_whole = writes_rest(&mut queue, &mut log, 10);
+    let are_made = calls(rt, alloc, queue, data_state, one, other, size);
+    let is_closed = turn(queue, log) && queue.close().is_ok();
+    let is_passed = pass(queue, other);
+    let do_agree = agree(rt, alloc, queue, data_state, one, other);
+    let is_whole = writes_rest(rt, queue, log, 10);
     holds(rt, are_made, "the calls")
         && holds(rt, is_closed && is_passed, "the close")
         && holds(rt, do_agree, "the seats and the device")
         && holds(rt, is_whole, "the log")
 }
 
-// Returns three new keepers without a name.
-pub fn three(rt: &impl Abort, alloc: Global) -> (Fresh, Fresh, Fresh) {
+// Starts a recorder with two seats, and returns what `is_recorded` returns.
+fn two_seats_record<R: Run>(
+    rt: &(impl Print + Abort),
+    alloc: Global,
+    blank: Blank,
+    fresh: (Fresh, Fresh, Fresh, Fresh),
+    size: SectorSize,
+    store: LogStore<SectorDisk>,
+    device: SectorDisk,
+) -> bool
+    requires ledger { (blank.name ≡ R.name) × (blank.parts ≡ R.parts) × (blank.parts ≡ 2) }
+    requires holders { (fresh.0 ≡ R.table) × (fresh.1 ≡ R.stops) × (fresh.2 ≡ R.ends)
+        × (fresh.3 ≡ R.reads) }
+    requires size { bytes_of size ≡ R.sector_bytes }
+    requires sectors { R.sectors ≡ 64 }
+    requires store { ((store_of store).sector_bytes ≡ R.sector_bytes)
+        × (R.log ≡ ground_of (store_of store).device) }
+    requires empty { ((store_of store).placed ≡ 0) × ((store_of store).next ≡ 1)
+        × ((store_of store).end ≡ None) }
+    requires begins { R.begins (store_of store).device.moment }
+    requires device { (shown_of device).size ≡ 64 }
+{
+    let (table, stops, ends, reads) = fresh;
+    let mut log = LogState::new(alloc, store, ends, reads);
+    let mut data_state = DataState::<SectorDisk, R>::new(alloc, device);
+    let (mut queue, mut seats, _) = QueueState::<R>::start(
+        alloc, blank, table, stops, size, 2,
+    ).expect(rt, "memory");
+    let mut one = seats.pop().expect(rt, "a seat");
+    let mut other = seats.pop().expect(rt, "a seat");
+    is_recorded(
+        rt,
+        alloc,
+        &mut queue,
+        &mut log,
+        &mut data_state,
+        &mut one,
+        &mut other,
+        size,
+    )
+}
+
+// Returns four new keepers without a name.
+pub fn four(rt: &impl Abort, alloc: Global) -> (Fresh, Fresh, Fresh, Fresh) {
     let table = Fresh::new(alloc).expect(rt, "memory");
     let stops = Fresh::new(alloc).expect(rt, "memory");
     let ends = Fresh::new(alloc).expect(rt, "memory");
-    (table, stops, ends)
+    let reads = Fresh::new(alloc).expect(rt, "memory");
+    (table, stops, ends, reads)
 }
 
 // Makes a new recorder with two seats, and returns what `two_seats_record` returns.
 fn two_seats(rt: &(impl Print + Abort), alloc: Global, size: SectorSize) -> bool {
     let blank = Blank::new(2);
-    let fresh = three(rt, alloc);
+    let fresh = four(rt, alloc);
     let device = SectorDisk::new(alloc, SECTORS).expect(rt, "memory");
     let disk = SectorDisk::new(alloc, LOG_SECTORS).expect(rt, "memory");
     let store = LogStore::create_sized(disk, size).ok().expect(rt, "a log");

@@ -82,13 +82,19 @@ pub struct Work<R: Run + Names> {
 }
 
 impl<R: Run + Names> Work<R> {
-    /// Makes the calls in order.
+    /// Makes the calls in order, or the late calls if `late`.
     pub fn run<D: BlockDev + Drop, L: BlockDev + Drop, H: Wait + Clock>(
         &mut self,
         rt: &H,
         alloc: Global,
         recorder: &Shared<D, L, R>,
+        late: bool,
     ) {
+        if late {
+            self.player
+                .make_all(rt, alloc, recorder, self.late.as_slice());
+            return;
+        }
         if let Some(sign) = &self.after {
             sign.wait(rt);
         }
@@ -97,17 +103,6 @@ impl<R: Run + Names> Work<R> {
         if let Some(sign) = &self.after {
             self.let_go = sign.let_go();
         }
-    }
-
-    /// Makes the late calls in order.
-    pub fn run_late<D: BlockDev + Drop, L: BlockDev + Drop, H: Wait>(
-        &mut self,
-        rt: &H,
-        alloc: Global,
-        recorder: &Shared<D, L, R>,
-    ) {
-        self.player
-            .make_all(rt, alloc, recorder, self.late.as_slice());
     }
 }
 

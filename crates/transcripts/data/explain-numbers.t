@@ -148,6 +148,17 @@ A message to a layer of another target, past the last block, and to layer 0.
   $ write script
   > data 16
   > log 32
+  > data-layer 0 15 dust disk 0 1024
+  > message data 1 addbadblock 7
+  > message data 1 addbadblock 8
+  $ dmlw --explain record script log
+  ! dmlw: line 5: 6 BadMessage
+  !   line 5 of script: message data 1 addbadblock 8
+  !   the layer has no block 8: it has 8, counted from 0
+  [1]
+  $ write script
+  > data 16
+  > log 32
   > data-layer 0 16 dust disk 0 512
   > message data 0 enable
   $ dmlw --explain record script log

@@ -284,6 +284,13 @@ What --explain adds behind a fault.
   !   image: the first entry that can't be read is entry 1, counted from 0, at log sector 3, of 512 bytes; `entries:1` replays all before it
   [1]
   $ remove image
+  $ image image 4096 0:=7268737766736a00 8:1,2,512,0 512:0,3,4,0 1024:0,0,8,481
+  $ dmlw --explain status image
+  ! dmlw: 16 BadMark
+  !   image: a mark has sectors, or its text doesn't fit in its log sector: the entry is damaged
+  !   image: the first entry that can't be read is entry 1, counted from 0, at log sector 2, of 512 bytes; `entries:1` replays all before it
+  [1]
+  $ remove image
   $ image image 4096 0:=7268737766736a00 8:1,99,512,0
   $ dmlw --explain status image
   ! dmlw: 21 CutShort

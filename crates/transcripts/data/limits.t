@@ -332,3 +332,47 @@ A script with 64 seats. Each seat writes, writes with FUA and marks.
   seat 62: 1 done 2 logged 0 failed 0 not logged 0 refused
   seat 63: 1 done 2 logged 0 failed 0 not logged 0 refused
   193 321
+
+Requests of one seat, of more sectors than half of the most.
+
+  $ write script
+  > data 2048
+  > log 8192
+  > seats 1
+  > s0 w 0 1025 41
+  > s0 w 0 2048 42 fua
+  > s0 d 0 2048
+  > s0 f
+  $ dmlw run script log
+  seat 0: 3 done 1 logged 0 failed 0 not logged 0 refused
+  5 3078
+
+One seat with 65,536 requests.
+
+  $ write script
+  > data 16
+  > log 70000
+  > seats 1
+  $ more script 65536
+  > s0 d 0 1
+  $ dmlw run script log
+  seat 0: 65536 done 0 logged 0 failed 0 not logged 0 refused
+  65537 65537
+
+A dust layer with 4,097 bad blocks: the last of these fails, and the block behind it doesn't.
+
+  $ write script
+  > data 8192
+  > log 32
+  > data-layer 0 8192 dust disk 0 512
+  $ more script 4097
+  > message data 1 addbadblock %
+  $ more script 1
+  > message data 1 enable
+  > r 4096 1
+  > r 4097 1
+  > close
+  $ dmlw record script log
+  read 4096+1 failed
+  read 4097+1 ok 00
+  1 1

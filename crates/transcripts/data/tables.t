@@ -338,6 +338,15 @@ The other tests of a line:
   $ write script
   > data 16
   > log 32
+  > log-layer 0 32 flakey disk 0 1 y 1 drop_writes
+  $ dmlw --explain record script log
+  ! dmlw: line 3: 11 BadNumber
+  !   line 3 of script: log-layer 0 32 flakey disk 0 1 y 1 drop_writes
+  !   the word `y` isn't a decimal number below 2^64: 0 <length> flakey <dev> <offset> <up> <down> [0 | 1 <feature>]
+  [1]
+  $ write script
+  > data 16
+  > log 32
   > log-layer 1 32 linear disk 0
   $ dmlw --explain record script log
   ! dmlw: line 3: 12 OutOfRange

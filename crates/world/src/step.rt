@@ -7,6 +7,7 @@ use bio::Id;
 use refusals::Refusal;
 use std::alloc::AllocError;
 use std::fmt;
+use thiserror::Error;
 
 /// A step of a device with a cache. An id is the index of the request's submission in the event
 /// list; sectors are counted from 0. The text of a step is `submit <id>`, `land <id> <sector>`,
@@ -66,11 +67,13 @@ impl fmt::Display for Ended {
 }
 
 /// Why a step isn't taken.
-#[derive(Clone, Copy, Debug, PartialEq, Eq)]
+#[derive(Clone, Copy, Debug, PartialEq, Eq, Error)]
 pub enum StepError {
     /// The device can't take this step.
+    #[error("the device can't take this step")]
     BadStep,
     /// An allocation failed.
+    #[error("no memory")]
     Memory,
 }
 

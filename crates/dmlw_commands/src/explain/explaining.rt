@@ -309,7 +309,7 @@ fn write_line_of<F: Files, W: Write>(
     ensures unwritten { F.writes files.new ≡ F.writes files.old }
 {
     let text = read_text(alloc, script, files).map_err(|_| fmt::Error)?;
-    write_line(grammar, script, &text, number, refusal, to)
+    write_line(alloc, grammar, script, &text, number, refusal, to)
 }
 
 // Writes the explanation of a command that only reads a log, with this result.

@@ -11,12 +11,14 @@ use crate::explain::script_text::{
     submission_of, submitted_by, word_at,
 };
 use refusals::{Refusal, number_of};
+use std::alloc::Global;
 use std::fmt;
 use std::fmt::Write;
 
 /// Writes line `number` of a script, at which a command was refused, why it was refused, and
 /// advice.
 pub(crate) fn write_line<W: Write>(
+    alloc: Global,
     grammar: Grammar,
     script: &str,
     text: &[u8],
@@ -36,7 +38,7 @@ pub(crate) fn write_line<W: Write>(
         Refusal::BadId => write_id(text, line, to),
         Refusal::PastEnd => write_past_end(grammar, text, line, to),
         Refusal::TooLong => write_too_long(grammar, line, to),
-        Refusal::Busy => write_busy(text, line, to),
+        Refusal::Busy => write_busy(alloc, text, line, to),
         Refusal::UnknownTarget => write_unknown_target(line.text, to),
         Refusal::WrongCount => write_wrong_count(line.text, to),
         Refusal::BadNumber => write_bad_number(line.text, to),
@@ -162,7 +164,7 @@ fn write_too_long<W: Write>(grammar: Grammar, line: Numbered, to: &mut W) -> fmt
 }
 
 // Writes how many requests are still open at a close, and the id of the first of them.
-fn write_busy<W: Write>(text: &[u8], line: Numbered, to: &mut W) -> fmt::Result {
+fn write_busy<W: Write>(alloc: Global, text: &[u8], line: Numbered, to: &mut W) -> fmt::Result {
     let count = open_requests(text, line.number);
     let open = Counted {
         count,
@@ -170,7 +172,7 @@ fn write_busy<W: Write>(text: &[u8], line: Numbered, to: &mut W) -> fmt::Result 
         many: "requests are",
     };
     write!(to, "  {open} still open here")?;
-    if let Some(id) = first_open(text, line.number) {
+    if let Some(id) = first_open(alloc, text, line.number) {
         let id = Shown(id);
         let which = if count == 1 { "" } else { " the first of them" };
         write!(to, ",{which} `{id}`")?;

@@ -2,6 +2,8 @@
 //! of one line uses this to look at the other lines.
 use dmlw_script::recorder_forms;
 use refusals::number_of;
+use std::alloc::{AllocError, Global};
+use std::collections::BTreeSet;
 
 /// The two kinds of script.
 #[derive(Clone, Copy, PartialEq, Eq)]
@@ -66,11 +68,8 @@ pub(crate) fn begins_with(line: &[u8], word: &[u8]) -> bool {
 pub(crate) fn line_of<'a>(text: &'a [u8], before: u64, word: &[u8]) -> Option<Numbered<'a>> {
     let mut found = None;
     let mut number: u64 = 0;
-    for line in text.split(is_line_end) {
+    for line in text.split(is_line_end).take(lines_before(before)) {
         number = number.saturating_add(1);
-        if number >= before {
-            return found;
-        }
         if begins_with(line, word) {
             found = Some(Numbered { number, text: line });
         }
@@ -81,12 +80,7 @@ pub(crate) fn line_of<'a>(text: &'a [u8], before: u64, word: &[u8]) -> Option<Nu
 /// Counts the lines before line `before` that begin with `word`.
 pub(crate) fn count_of(text: &[u8], before: u64, word: &[u8]) -> u64 {
     let mut count: u64 = 0;
-    let mut number: u64 = 0;
-    for line in text.split(is_line_end) {
-        number = number.saturating_add(1);
-        if number >= before {
-            return count;
-        }
+    for line in text.split(is_line_end).take(lines_before(before)) {
         if begins_with(line, word) {
             count = count.saturating_add(1);
         }
@@ -103,12 +97,7 @@ pub(crate) fn nth_of<'a>(
     wanted: u64,
 ) -> Option<&'a [u8]> {
     let mut count: u64 = 0;
-    let mut number: u64 = 0;
-    for line in text.split(is_line_end) {
-        number = number.saturating_add(1);
-        if number >= before {
-            return None;
-        }
+    for line in text.split(is_line_end).take(lines_before(before)) {
         if begins_with(line, word) {
             count = count.saturating_add(1);
             if count == wanted {
@@ -123,11 +112,8 @@ pub(crate) fn nth_of<'a>(
 /// and not a line of the head.
 pub(crate) fn first_of_body(text: &[u8], before: u64) -> Option<Numbered<'_>> {
     let mut number: u64 = 0;
-    for line in text.split(is_line_end) {
+    for line in text.split(is_line_end).take(lines_before(before)) {
         number = number.saturating_add(1);
-        if number >= before {
-            return None;
-        }
         if !is_of_head(line) {
             return Some(Numbered { number, text: line });
         }
@@ -150,11 +136,8 @@ fn is_of_head(line: &[u8]) -> bool {
 /// Returns the line before line `before` that submits the request `id`.
 pub(crate) fn submission_of<'a>(text: &'a [u8], before: u64, id: &[u8]) -> Option<Numbered<'a>> {
     let mut number: u64 = 0;
-    for line in text.split(is_line_end) {
+    for line in text.split(is_line_end).take(lines_before(before)) {
         number = number.saturating_add(1);
-        if number >= before {
-            return None;
-        }
         if submitted_by(line) == Some(id) {
             return Some(Numbered { number, text: line });
         }
@@ -165,11 +148,8 @@ pub(crate) fn submission_of<'a>(text: &'a [u8], before: u64, id: &[u8]) -> Optio
 /// Returns the line before line `before` that ends the request `id`.
 pub(crate) fn end_of<'a>(text: &'a [u8], before: u64, id: &[u8]) -> Option<Numbered<'a>> {
     let mut number: u64 = 0;
-    for line in text.split(is_line_end) {
+    for line in text.split(is_line_end).take(lines_before(before)) {
         number = number.saturating_add(1);
-        if number >= before {
-            return None;
-        }
         if begins_with(line, b"c") && word_at(line, 1) == Some(id) {
             return Some(Numbered { number, text: line });
         }
@@ -181,12 +161,7 @@ pub(crate) fn end_of<'a>(text: &'a [u8], before: u64, id: &[u8]) -> Option<Numbe
 /// readable up to this line.
 pub(crate) fn open_requests(text: &[u8], before: u64) -> u64 {
     let mut open: u64 = 0;
-    let mut number: u64 = 0;
-    for line in text.split(is_line_end) {
-        number = number.saturating_add(1);
-        if number >= before {
-            return open;
-        }
+    for line in text.split(is_line_end).take(lines_before(before)) {
         if submitted_by(line).is_some() {
             open = open.saturating_add(1);
         } else if begins_with(line, b"c") {
@@ -196,21 +171,38 @@ pub(crate) fn open_requests(text: &[u8], before: u64) -> u64 {
     open
 }
 
-/// Returns the id of the first request that is submitted but not ended before line `before`.
-pub(crate) fn first_open(text: &[u8], before: u64) -> Option<&[u8]> {
-    let mut number: u64 = 0;
-    for line in text.split(is_line_end) {
-        number = number.saturating_add(1);
-        if number >= before {
-            return None;
-        }
+/// Returns the id of the first request that is submitted but not ended before line `before`. Returns
+/// None if there is none, or if an allocation fails.
+pub(crate) fn first_open<'a>(alloc: Global, text: &'a [u8], before: u64) -> Option<&'a [u8]> {
+    let ended = ended_before(alloc, text, before).ok()?;
+    for line in text.split(is_line_end).take(lines_before(before)) {
         if let Some(id) = submitted_by(line) {
-            if end_of(text, before, id).is_none() {
+            if !ended.contains(&id) {
                 return Some(id);
             }
         }
     }
     None
+}
+
+// Returns the ids of the requests that are ended before line `before`.
+fn ended_before<'a>(
+    alloc: Global,
+    text: &'a [u8],
+    before: u64,
+) -> Result<BTreeSet<&'a [u8]>, AllocError> {
+    let mut ended = BTreeSet::new(alloc);
+    for line in text.split(is_line_end).take(lines_before(before)) {
+        if begins_with(line, b"c") {
+            ended.insert(word_at(line, 1).unwrap_or_default())?;
+        }
+    }
+    Ok(ended)
+}
+
+// Returns how many lines stand before line `before`.
+fn lines_before(before: u64) -> usize {
+    before.saturating_sub(1) as usize
 }
 
 /// Returns the id of the request that a line of a recorder's script submits, if it submits one.

@@ -65,6 +65,12 @@ crash_line (heads.Whole data_disk log_disk log_size) p picks =
     Ok (record p { head = heads.Ended data_disk log_disk log_size picks })
 crash_line _ p picks = Err BadLine
 
+-- The refusal is `BadLine`. The head of `p` isn't whole, so no line of the body and no crash follows.
+pub record IsEarly (p : Progress) (refusal : Refusal) : Type 0 where
+  pub bad_line : refusal ≡ BadLine
+  pub no_body : (line : BodyLine) → body_line p.head p line ≡ Err BadLine
+  pub no_crash : (picks : List ℕ) → crash_line p.head p picks ≡ Err BadLine
+
 -- `p` after one more line with this meaning
 abbrev pub parsed_step : Progress → LineMeaning → Result Progress Refusal
 parsed_step p (parsed_lines.Head line) = with_head p (head_step p.head (has_begun p.body.body) line)

@@ -3,6 +3,7 @@
 use atomic_table::{Join, Play, Split, Table, TableRule};
 use std::alloc::Global;
 use std::collections::LinkedList;
+use std::marker::{Brand, PhantomData};
 
 // What a pass knows. A keeper's pass knows what each holder holds. A holder's pass knows its own
 // number and what it holds. No value of this type is made.
@@ -37,6 +38,29 @@ impl Play<(), Knows> for Enrol {
     ghost use Rattle.lock_state.specs.HolderRules.{Enrols};
 
     ghost then = { Enrols };
+}
+
+/// A number that only contracts see. A caller names it by `Brand`.
+pub trait Numbered {
+    ghost use Rattle.std.specs.Prelude.{ℕ};
+
+    ghost number: { ℕ };
+}
+
+impl Numbered for Brand {
+    ghost number = { 0 };
+}
+
+// The step in which the keeper gets one more holder, which holds the number of `A`.
+pub struct Hand<A: Numbered> {
+    of: PhantomData<A>,
+}
+
+impl<A: Numbered> Play<(), Knows> for Hand<A> {
+    ghost use Rattle.std.specs.Prelude.{Some};
+    ghost use Rattle.lock_state.specs.HolderRules.{Adds};
+
+    ghost then = { λ step before found after. Adds before.0 (Some A.number) after };
 }
 
 // The step in which a holder begins to hold a number.

@@ -21,15 +21,16 @@ pub fn run<H: Threads + Wait + Sync>(
 ) -> Result<(), AllocError> {
     let before = report.differ();
     check_requests(rt, alloc, report)?;
+    check_open(rt, alloc, report)?;
     check_entries(rt, alloc, report)?;
     check_recorder(alloc, report)?;
     let differ = report.differ().saturating_sub(before);
-    let line = format!(in alloc; "limits: 3 runs, {differ} differ")?;
+    let line = format!(in alloc; "limits: 4 runs, {differ} differ")?;
     report.line(line.as_str())
 }
 
 // The texts of a case: its script, what the script prints or the log lists, a replay and what it
-// prints, and another command line or output.
+// prints, another command line or output, and a path and its steps.
 #[derive(Drop)]
 struct Texts {
     script: String,
@@ -37,6 +38,8 @@ struct Texts {
     replay: String,
     replayed: String,
     other: String,
+    path: String,
+    steps: String,
 }
 
 impl Texts {
@@ -48,6 +51,8 @@ impl Texts {
             replay: String::new(alloc),
             replayed: String::new(alloc),
             other: String::new(alloc),
+            path: String::new(alloc),
+            steps: String::new(alloc),
         }
     }
 }
@@ -79,7 +84,8 @@ fn check_lines<H: Threads + Wait + Sync>(
     check(rt, alloc, case, &wanted, folder, report)
 }
 
-// Checks 70,000 writes that are all submitted before the first of them completes.
+// Checks 70,000 writes of one sector that are all submitted before the first of them completes, and
+// the 210,002 steps to the content that they leave.
 fn check_requests<H: Threads + Wait + Sync>(
     rt: &H,
     alloc: Global,
@@ -102,44 +108,97 @@ fn check_events<H: Threads + Wait + Sync>(
         ("record script log", texts.told.as_str()),
         (texts.replay.as_str(), texts.replayed.as_str()),
         (texts.other.as_str(), "yes\n"),
+        (texts.path.as_str(), texts.steps.as_str()),
     ];
     check_lines(rt, alloc, "140,000 events", &lines, &mut folder, report)
 }
 
 // Appends the texts of 70,000 writes.
 fn push_requests(texts: &mut Texts) -> Result<(), AllocError> {
-    push_script(&mut texts.script)?;
-    push_recorded(&mut texts.told)?;
+    push_script(REQUESTS, &mut texts.script)?;
+    push_results(REQUESTS, &mut texts.told)?;
+    let sectors = REQUESTS.saturating_mul(2).saturating_add(1);
+    writeln!(texts.told, "{} {sectors}", REQUESTS.saturating_add(1))?;
     write!(texts.replay, "replay log zeroes out entries:{REQUESTS}")?;
     writeln!(texts.replayed, "replayed {REQUESTS}")?;
-    write!(
-        texts.other,
-        "judge script {} out",
-        REQUESTS.saturating_mul(2)
-    )
+    let events = REQUESTS.saturating_mul(2);
+    write!(texts.other, "judge script {events} out")?;
+    write!(texts.path, "path script {events} out")?;
+    push_path(&mut texts.steps)
 }
 
-// Appends a script with 70,000 writes.
-fn push_script(script: &mut String) -> Result<(), AllocError> {
+// Appends a script with 70,000 writes, of which the first `ended` are ended before the close.
+fn push_script(ended: u64, script: &mut String) -> Result<(), AllocError> {
     let sectors = REQUESTS.saturating_mul(2).saturating_add(3);
     writeln!(script, "data 16\nlog {sectors}")?;
     for number in 0..REQUESTS {
         writeln!(script, "w a{number} 5 1 41")?;
     }
-    for number in 0..REQUESTS {
+    for number in 0..ended {
         writeln!(script, "c a{number}")?;
     }
     script.push_str("close\n")?;
     Ok(())
 }
 
-// Appends what `record` prints for this script.
-fn push_recorded(told: &mut String) -> Result<(), AllocError> {
-    for number in 0..REQUESTS {
+// Appends what `record` prints for the ends of these writes.
+fn push_results(ended: u64, told: &mut String) -> Result<(), AllocError> {
+    for number in 0..ended {
         writeln!(told, "a{number} ok")?;
     }
-    let sectors = REQUESTS.saturating_mul(2).saturating_add(1);
-    writeln!(told, "{} {sectors}", REQUESTS.saturating_add(1))
+    Ok(())
+}
+
+// Closes a recorder while the last of 70,000 writes is open. The explanation names this write.
+fn check_open<H: Threads + Wait + Sync>(
+    rt: &H,
+    alloc: Global,
+    report: &mut Report,
+) -> Result<(), AllocError> {
+    let ended = REQUESTS.saturating_sub(1);
+    let mut texts = Texts::new(alloc);
+    push_script(ended, &mut texts.script)?;
+    push_results(ended, &mut texts.told)?;
+    push_busy(ended, &mut texts.other)?;
+    let mut folder = folder_of(alloc, texts.script.as_str())?;
+    let wanted = [Wanted {
+        line: "--explain record script log",
+        out: texts.told.as_str(),
+        err: texts.other.as_str(),
+    }];
+    check(
+        rt,
+        alloc,
+        "one of 70,000 requests is open",
+        &wanted,
+        &mut folder,
+        report,
+    )
+}
+
+// Appends what `--explain` prints for that close, if the write with this number is the open one.
+fn push_busy(open: u64, told: &mut String) -> Result<(), AllocError> {
+    let line = REQUESTS.saturating_add(open).saturating_add(3);
+    writeln!(told, "dmlw: line {line}: 24 Busy")?;
+    writeln!(told, "  line {line} of script: close")?;
+    writeln!(
+        told,
+        "  1 request is still open here, `a{open}`: end each by a line `c <id>` before the `close`"
+    )
+}
+
+// Appends the steps of the path to the content that these writes leave. Each value lands as soon as
+// its write is submitted; but the last one lands after all other ends, and only it becomes durable.
+fn push_path(steps: &mut String) -> Result<(), AllocError> {
+    let last = REQUESTS.saturating_sub(1);
+    for number in 0..last {
+        writeln!(steps, "submit {number}\nland {number} 5")?;
+    }
+    writeln!(steps, "submit {last}")?;
+    for number in 0..last {
+        writeln!(steps, "end {number} ok")?;
+    }
+    writeln!(steps, "land {last} 5\ndestage 5\nend {last} ok\npower")
 }
 
 // Lists a log of 400,000 flushes, asks for its status, and replays it.

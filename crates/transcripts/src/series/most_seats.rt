@@ -1,5 +1,5 @@
 // A test of a shared recorder with the most seats and readers: 64 each.
-ghost use Rattle.std.specs.Prelude.{◌≡◌};
+ghost use Rattle.std.specs.Prelude.{◌≡◌, ℕ};
 ghost use Rattle.lock_state.specs.PlacedItems.{ground_of};
 ghost use Rattle.sector_disk.specs.DiskView.{shown_of};
 
@@ -55,9 +55,11 @@ fn start_most<R: Run + Names>(
     requires table { unnamed.table ≡ R.table }
     requires stops { unnamed.stops ≡ R.stops }
     requires ends { unnamed.ends ≡ R.ends }
+    requires reads { unnamed.reads ≡ R.reads }
     requires board { unnamed.board ≡ R.board }
     requires sectors { (shown_of device).size ≡ R.sectors }
     requires log { R.log ≡ ground_of (shown_of log) }
+    requires begins { (reading : ℕ) → R.begins reading }
     requires sector_size { R.sector_bytes ≡ 512 }
 {
     let Ok(started) = Shared::<SectorDisk, SectorDisk, R>::new(

@@ -15,6 +15,8 @@ ghosts-play-R-Run g a = record {
   log = disk_ground 16;
   stops = a.unnamed.stops;
   ends = a.unnamed.ends;
+  reads = a.unnamed.reads;
+  begins = λ reading. Unit {0};
 }
 
 abbrev pub ghosts-play-R-Names : goal.ghosts-play-R-Names

@@ -15,6 +15,8 @@ ghosts-foreign_seats-B-Run g a = record {
   log = disk_ground 16;
   stops = a.unnamed.stops;
   ends = a.unnamed.ends;
+  reads = a.unnamed.reads;
+  begins = λ reading. Unit {0};
 }
 
 abbrev pub ghosts-foreign_seats-B-Names : goal.ghosts-foreign_seats-B-Names
@@ -34,6 +36,8 @@ ghosts-foreign_seats-C-Run g a = record {
   log = disk_ground 16;
   stops = a.other.stops;
   ends = a.other.ends;
+  reads = a.other.reads;
+  begins = λ reading. Unit {0};
 }
 
 abbrev pub ghosts-foreign_seats-C-Names : goal.ghosts-foreign_seats-C-Names

@@ -17,4 +17,6 @@ ghosts-two_seats_record-R-Run g a =
       log = ground_of (store_of a.store).device;
       stops = a.fresh.1;
       ends = a.fresh.2;
+      reads = a.fresh.3;
+      begins = λ reading. Unit {0};
     }

@@ -14,6 +14,8 @@ ghosts-play-R-Run g a = record {
   log = ground_of (g.L.BlockDev.shown a.log);
   stops = a.unnamed.stops;
   ends = a.unnamed.ends;
+  reads = a.unnamed.reads;
+  begins = λ reading. Unit {0};
 }
 
 abbrev pub ghosts-play-R-Names : goal.ghosts-play-R-Names

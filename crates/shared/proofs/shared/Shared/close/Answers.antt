@@ -1,10 +1,11 @@
-use Rattle.std.proofs.Common.{◌≡◌, ℕ, List, Option, length, ◌∙◌, ap, refl, subst, sym}
+use Rattle.std.proofs.Common.{◌≡◌, ℕ, ◌+◌, List, Option, length, ◌∙◌, ap, refl, subst, sym}
 use Rattle.refusals.specs.declared.run_error.End.{End}
 use Rattle.lock_state.specs.Comparison.{Each}
 use Rattle.lock_state.specs.History.{Queue, named}
 use Rattle.lock_state.specs.PlacedItems.{Log, with_room}
 use Rattle.lock_state.specs.declared.note.Item.{Item}
 use Rattle.shared.proofs.ClosedLog.{agrees_of, differs_apart, differs_of, receipts_there, stop_same}
+use Rattle.shared.proofs.PlainCrash.{plain_at}
 use Rattle.shared.proofs.PostedStatus.{current_of, ended_of, found_of, none_of_both, posted_stays}
 use Rattle.shared.proofs.PostedStatus.{told_within}
 use Rattle.shared.specs.Posts.{ArePosted, IsCurrent, IsLatest, IsOfPrefix, StatusHasCause}
@@ -37,6 +38,33 @@ pub returns-then-agrees-clause-log : goal.returns-then-agrees-clause-log
 returns-then-agrees-clause-log g c lies =
     c.finish-closed.ensures.crash lies _
     (g.met.L.BlockDev.lawful c.finish-closed.result.log).current
+
+pub returns-then-agrees-clause-any_moment : goal.returns-then-agrees-clause-any_moment
+returns-then-agrees-clause-any_moment g c lies =
+    let closed = c.finish-closed.result in
+    let since = c.finish-closed.ensures.since lies in record {
+      begun = since.reading;
+      one = since.one;
+      past = since.past;
+      leaves = λ left may.
+          plain_at c.placed_logs_are_plain.ensures g.R.Run.sector_bytes g.R.Run.sectors
+          (g.L.BlockDev.shown closed.log).size 0 closed.core.state closed.placed.items left
+          c.finish-closed.ensures.size (returns-then-agrees-clause-legal g c).lawful
+          (returns-then-agrees-clause-agrees g c).begins (since.leaves left may);
+    }
+
+pub returns-then-agrees-clause-told : goal.returns-then-agrees-clause-told
+returns-then-agrees-clause-told g c lies k receipt there =
+    let closed = c.finish-closed.result in
+    let kept = c.finish-closed.ensures.told lies k receipt there in record {
+      past = kept.past;
+      leaves = λ left may.
+          plain_at c.placed_logs_are_plain.ensures g.R.Run.sector_bytes g.R.Run.sectors
+          (g.L.BlockDev.shown closed.log).size (receipt.number + 1) closed.core.state
+          closed.placed.items left
+          c.finish-closed.ensures.size (returns-then-agrees-clause-legal g c).lawful
+          (returns-then-agrees-clause-agrees g c).begins (kept.leaves left may);
+    }
 
 pub returns-then-agrees-clause-posted : goal.returns-then-agrees-clause-posted
 returns-then-agrees-clause-posted g c =

@@ -15,6 +15,8 @@ ghosts-start_most-R-Run a = record {
   log = ground_of (shown_of a.log);
   stops = a.unnamed.stops;
   ends = a.unnamed.ends;
+  reads = a.unnamed.reads;
+  begins = λ reading. Unit {0};
 }
 
 abbrev pub ghosts-start_most-R-Names : goal.ghosts-start_most-R-Names

@@ -123,6 +123,8 @@ impl fmt::Display for RunError {
     }
 }
 
+impl std::error::Error for RunError {}
+
 impl From<Fault> for RunError {
     ghost from_gives = { λ fault error. error ≡ Refused fault };
 

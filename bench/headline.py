@@ -1,16 +1,16 @@
 #!/usr/bin/env python3
-"""headline: fills the fences of docs/HEADLINE.md and docs/THREADS.md with definitions and clauses as they are in the crates.
+"""headline: fills the fences of docs/HEADLINE.md, docs/DEFINITIONS.md and docs/THREADS.md with definitions and clauses as they are in the crates.
 
   bench/headline.py          writes them
   bench/headline.py --check  says which fences are others
 
 A line `<!-- FILE: NAME NAME .. -->` stands above a fence that holds these definitions of FILE, each with the comment above it, in this order. Of a source file a
-NAME is FUNCTION.CLAUSE: that clause of the function's contract.
+NAME is FUNCTION.CLAUSE: that clause of the function's contract. FUNCTION without a dot names the clause that has no name.
 """
 import os, re, sys
 
 root = os.path.dirname(os.path.dirname(os.path.abspath(__file__)))
-PAGES = ["docs/HEADLINE.md", "docs/THREADS.md"]
+PAGES = ["docs/HEADLINE.md", "docs/DEFINITIONS.md", "docs/THREADS.md"]
 FENCE = re.compile(r"^<!-- (\S+): ([^\n]+) -->\n```(\w*)\n(.*?)^```$", re.M | re.S)
 
 
@@ -32,9 +32,10 @@ def definition(text, name):
     return text[start:end if end >= 0 else len(text)].rstrip("\n")
 
 
-def clause(text, function, name):
+def clause(text, function, name=""):
     """A clause of a function's contract."""
-    found = re.search(rf"\bfn {function}\b.*?\n(\s*)((?:ensures|requires) {name} \{{.*?\}})\n(?=\s*(?:ensures|requires|//|\{{|fn )|\s*\n)", text, re.S)
+    called = f" {name}" if name else ""
+    found = re.search(rf"\bfn {function}\b.*?\n(\s*)((?:ensures|requires){called} \{{.*?\}})\n(?=\s*(?:ensures|requires|//|\{{|fn )|\s*\n)", text, re.S)
     return found and re.sub(rf"^{found[1]}", "", found[2], flags=re.M)
 
 

@@ -6,7 +6,7 @@
         file, which edits have no entry in their crate's planted.txt, and if the page of the formats that the program prints (crates/dmlw/src/formats.rt) isn't
         docs/FORMATS.md. --count writes that page.
         Says also where docs/HEADLINE.md isn't what bench/headline.py writes, which places the documents cite that aren't there, which definitions docs/ARCHITECTURE.md
-        explains that aren't in the file that it names, which tests, transcripts and edits docs/lab/PLANTED.md names that don't exist, which files have no head, which cite what another crate has in proofs/ or specs/inside/, which names a .antt file
+        names that aren't in the file that it names, which tests, transcripts and edits docs/lab/PLANTED.md names that don't exist, which files have no head, which cite what another crate has in proofs/ or specs/inside/, which names a .antt file
         imports and doesn't use (`rt tidy` would drop them), and if release/ is there and isn't of the tree at hand (bench/release.py).
         Warns of house words in the comments and pages that changed since origin/main (else since the last commit). Warnings leave the exit status.
 
@@ -97,18 +97,15 @@ def unused_names():
 
 
 def words_off():
-    """Definitions that docs/ARCHITECTURE.md explains, and that aren't in the file that it names."""
-    page = text_of(f"{root}/docs/ARCHITECTURE.md").split("## The words of the contracts")[1].replace("\n  ", " ")
-    crates = []
-    for line in page.split("\n"):
-        if re.fullmatch(r"(`\w+`(, )?)+:", line):
-            crates = re.findall(r"\w+", line)
-        for names, files in re.findall(r"((?:`\w+`(?:, )?)+) \(((?:`\w+`(?:, )?)+)\)", line if line.startswith("- ") else ""):
-            places = [f"{root}/crates/{crate}/specs/{file}.antt" for crate in crates for file in re.findall(r"\w+", files)]
-            text = "".join(text_of(it) for it in places if os.path.exists(it))
+    """Definitions that docs/ARCHITECTURE.md names, and that aren't in the file that it names."""
+    table = text_of(f"{root}/docs/ARCHITECTURE.md").split("## What proves what")[1].split("\n### ")[0]
+    for crate, cell in re.findall(r"^\| `(\w+)` \| (.*) \|$", table, re.M):
+        for names, file in re.findall(r"((?:`\w+`(?:, )?)+) \(`(\w+)`\)", cell):
+            place = f"{root}/crates/{crate}/specs/{file}.antt"
+            text = text_of(place) if os.path.exists(place) else ""
             for name in re.findall(r"\w+", names):
                 if not re.search(rf"^ *(?:\w+ )*pub (?:\w+ )*{name}\b", text, re.M):
-                    yield f"docs/ARCHITECTURE.md: {name} isn't in {files} of {', '.join(crates)}"
+                    yield f"docs/ARCHITECTURE.md: {name} isn't in {file} of {crate}"
 
 
 def living():

@@ -312,8 +312,8 @@ fails_unplayed plan refusal fault why same =
     (λ other. ⊎_elim
     (λ (is : refusal ≡ refusals.NoThread). subst (λ (r : Refusal). FailsRun plan (refused_by r))
     (sym is) thread)
-    (λ open. subst (λ (r : Refusal). FailsRun plan (refused_by r)) (sym open.0)
-    (busy (open_run plan open.1.0 open.1.1)))
+    (λ held. subst (λ (r : Refusal). FailsRun plan (refused_by r)) (sym held.0)
+    (busy (open_run plan held.1.0 held.1.1)))
     other)
     why)
 

@@ -5,8 +5,8 @@
 
 A command is a word list in backticks, or a line of an indented block, that begins with a word of IS_COMMAND. What it prints comes after the word `prints`, and what it prints
 on standard error after `reports`: in the next indented block, or in backticks, a line each. The commands of a page run one after another in one folder. The user's own log,
-`my.log`, is the sample's with a mark `synced` in it, and `before.img` is the sample's device. Left out is what needs devices or all proofs, and what needs a program that isn't
-installed, which a line that begins with `--` says. Ends with status 1 if a text differs, or if a command without one ends as wrong words or as a file that can't be read.
+`my.log`, is the sample's with a mark `synced` in it, and `before.img` is the sample's device. Left out is what needs devices, a client or all proofs, and what needs a program
+that isn't installed, which a line that begins with `--` says. Ends with status 1 if a text differs, or if a command without one ends as wrong words or as a file that can't be read.
 Needs nothing but Python 3, and for some commands xz or e2fsprogs.
 """
 import lzma, os, pathlib, re, shutil, subprocess, sys, tempfile
@@ -17,8 +17,8 @@ ROOT = pathlib.Path(__file__).resolve().parent.parent
 PROGRAM = program_of(sys.argv[1:2])
 PAGES = ("README.md", "docs/USING.md", "docs/FORMATS.md")
 IS_COMMAND = re.compile(r"^(\./dmlw|truncate|printf|awk|xz|od|examples/\S+\.sh) \S|^(cmp|e2fsck|debugfs) .*\.img\b")
-# What needs devices or all proofs, or has words in capitals that a reader replaces.
-NOT_HERE = re.compile(r"\.ci/run|/dev/|\b(?:CHECK|LOG|SCRIPT|IMAGE|FIRST|ENTRY)\b|--rebuild|--which| \.\.$")
+# What needs devices, a client or all proofs, or has words in capitals that a reader replaces.
+NOT_HERE = re.compile(r"\.ci/run|/dev/|serve\.sh|\b(?:CHECK|LOG|SCRIPT|IMAGE|FIRST|ENTRY)\b|--rebuild|--which| \.\.$")
 # The program that a command needs beside the shell's usual ones.
 NEEDS = {"e2fsck": re.compile(r"check-ext4|check-fsync-a|^e2fsck"), "debugfs": re.compile(r"check-fsync-a|^debugfs"), "xz": re.compile(r"^xz"), "xfs_db": re.compile(r"^xfs_db")}
 PATH = os.environ["PATH"] + ":/usr/sbin:/sbin"

@@ -237,6 +237,27 @@ The numbers say how many of the seat's lines were answered in each way. `logged`
 counts writes with `fua` and marks whose entry is durable, and `not logged`
 those for which logging ended first.
 
+### `serve HEAD FIRST LOG [--marks FILE]`
+
+Serves one client of the NBD protocol (fixed newstyle handshake, simple replies)
+on standard input and output, and records its requests. HEAD is a script of
+`record` that has only its head: `data`, `log` and layers. FIRST is the first
+content of the data disk, and as large as it. LOG is written at the end of the
+session, when the client disconnects or its bytes end.
+
+Each request is recorded from its submission to its end, and in between it is
+done on the data disk, at the milliseconds since the start. A write with FUA is
+answered when its entry is durable, or when logging has ended. Reads aren't
+recorded. FLUSH, FUA and TRIM are offered. A long request is recorded in parts
+of 2,048 sectors: each part of a write has its FUA, and a flush follows a trim
+with FUA. With log sectors of 4,096 bytes requests are whole blocks of 4,096
+bytes. A request is answered EIO if a layer fails it, EINVAL if it isn't whole
+blocks or isn't known, ENOSPC past the end, and ENOMEM if memory ran out. If
+logging ends, the session goes on unrecorded, and the exit status is 3.
+
+Each line that is appended to FILE becomes a mark, before the next request or at
+the end. What `record` prints at its end goes to standard error.
+
 ### `list LOG`
 
 Prints `super version 1 entries <n> sectorsize <S>`. Then it prints, for each

@@ -27,7 +27,7 @@ use Rattle.layer_table.specs.declared.layer_spec.LayerSpec.{LayerSpec}
 use Rattle.layer_table.specs.declared.stack.Stack.{Stack}
 use Rattle.layer_table.specs.Layers.{on_stack, AreOver, LayersDo, layers_of, layers_under}
 use Rattle.layer_table.specs.Layers.{stack_does, stack_shown, disk_of, top_origin}
-use Rattle.layer_table.specs.Layers.{IsAllowed, IsSeenAs, Layer}
+use Rattle.layer_table.specs.Layers.{IsAllowed, Layer}
 use Rattle.layer_table.specs.TableLines.{IsLayerSpec}
 use Rattle.layer_table.specs.StackLaws.{part_of_disk}
 use Rattle.log_format.specs.LogLaws.{log_within}
@@ -66,26 +66,15 @@ pub stands : (disk : Disk) (layers : List LayerSpec) {sectors : ℕ} → layers 
 stands disk layers {sectors} above here is =
     rw above (subst (λ (n : ℕ). IsAllowed n disk.layers) (sym here) is.stand)
 
-same_stack : (sectors : ℕ) (layers : List LayerSpec) (stack : Stack) {disk : Disk}
-    → sectors ≡ disk.sectors → layers ≡ disk.layers
-    → IsStackOf (record { sectors = sectors; layers = layers }) stack → IsStackOf disk stack
-same_stack sectors layers stack {disk} here above is = grind arith
-
-pub stacked : (spec : Disk) (disk : SectorDisk) (bare stack : Stack) {sectors : ℕ}
-    {layers : List LayerSpec} → sectors ≡ spec.sectors → layers ≡ spec.layers
-    → Begins sectors zeroes (shown_of disk)
-    → layers_of bare ≡ [] → disk_of bare ≡ disk → IsSeenAs (shown_of disk) (stack_shown bare)
-    → layers_of stack ≡ layers_under layers 0 (layers_of bare) → disk_of stack ≡ disk_of bare
-    → AreOver layers (stack_shown bare) (stack_shown stack)
-    → IsStackOf spec stack
-stacked spec disk bare stack {sectors} {layers} here above blank none beneath seen named same over =
-    same_stack sectors layers stack here above (
-    let is : disk_of stack ≡ disk = same ∙ beneath in record {
-      blank = rw is blank;
-      layers = named ∙ ap (layers_under layers 0) none;
-      over =
-          grind arith;
-    })
+pub stacked : (spec : Disk) (disk : SectorDisk) (stack : Stack) {sectors : ℕ}
+    → sectors ≡ spec.sectors → Begins sectors zeroes (shown_of disk) → disk_of stack ≡ disk
+    → layers_of stack ≡ layers_under spec.layers 0 []
+    → AreOver spec.layers (shown_of disk) (stack_shown stack) → IsStackOf spec stack
+stacked spec disk stack {sectors} here blank is named over = record {
+  blank = rw (is, ← here) blank;
+  layers = named;
+  over = rw is over;
+}
 
 pub stack_size : (disk : Disk) (stack : Stack) → IsStackOf disk stack
     → (stack_shown stack).size ≡ top_of disk

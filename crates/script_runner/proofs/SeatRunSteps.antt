@@ -32,9 +32,10 @@ use Rattle.sector_disk.specs.CandidateLaws.{content_whole, disk_lawful}
 use Rattle.bio.specs.Content.{AgreeBelow, Content, gather, sector_of}
 use Rattle.bio.specs.ContentLaws.{length-gather, sector_of-gather}
 use Rattle.script_runner.specs.declared.tally.Tally.{Tally}
-use Rattle.script_runner.specs.inside.{AreNewPlayers, FitsRecorder, HavePlayed, Player, new_player}
-use Rattle.script_runner.specs.SeatRuns.{FailsRun, HasRun, IsClosed, IsForeignClose, IsRun}
-use Rattle.script_runner.specs.SeatRuns.{IsUnclosed, IsUnplayed, busy, foreign, joined}
+use Rattle.script_runner.specs.inside.{AreNewPlayers, FitsRecorder, HavePlayed, IsUnplayed, Player}
+use Rattle.script_runner.specs.inside.{new_player}
+use Rattle.script_runner.specs.SeatRuns.{FailsRun, HasRun, HaveRun, IsClosed, IsForeignClose}
+use Rattle.script_runner.specs.SeatRuns.{IsOpenRun, IsRun, IsUnclosed, busy, foreign, joined}
 use Rattle.script_runner.specs.SeatRuns.{memory, thread}
 use Rattle.script_runner.proofs.Seats.{take_next}
 use Rattle.shared.specs.Close.{LeavesLog}
@@ -284,9 +285,37 @@ is_run ground bytes sectors plan log players seats tallies receipts closed statu
           λ zero. grind (arith, leaves_image, zero);
     }
 
-pub fails_unplayed : (plan : RunPlan) (refusal : Refusal) (fault : RunError) → IsUnplayed refusal
-    → fault ≡ refused_by refusal → FailsRun plan fault
-fails_unplayed plan refusal fault why same = grind (arith, memory, busy, thread)
+have_run : (plan : RunPlan) (players : List Player) (seats : List Part) (tallies : List Tally)
+    → HavePlayed plan.calls plan.seats players → seats ≡ map (λ (p : Player). p.part) players
+    → tallies ≡ map (λ (p : Player). p.tally) players
+    → HaveRun plan seats (map (λ (p : Player). p.receipts) players)
+have_run plan players seats tallies played parts told = record {
+  count = seats_long players seats plan.seats played.count parts;
+  tallies = tallies;
+  ran = each_ran plan players seats tallies played parts told;
+}
+
+open_run : (plan : RunPlan) (players : List Player) → HavePlayed plan.calls plan.seats players
+    → IsOpenRun plan
+open_run plan players played = record {
+  seats = map (λ (p : Player). p.part) players;
+  given = map (λ (p : Player). p.receipts) players;
+  made = have_run plan players _ (map (λ (p : Player). p.tally) players) played refl refl;
+}
+
+pub fails_unplayed : (plan : RunPlan) (refusal : Refusal) (fault : RunError)
+    → IsUnplayed plan.calls plan.seats refusal → fault ≡ refused_by refusal → FailsRun plan fault
+fails_unplayed plan refusal fault why same =
+    subst (FailsRun plan) (sym same) (⊎_elim
+    (λ (is : refusal ≡ refusals.Memory). subst (λ (r : Refusal). FailsRun plan (refused_by r))
+    (sym is) memory)
+    (λ other. ⊎_elim
+    (λ (is : refusal ≡ refusals.NoThread). subst (λ (r : Refusal). FailsRun plan (refused_by r))
+    (sym is) thread)
+    (λ held. subst (λ (r : Refusal). FailsRun plan (refused_by r)) (sym held.0)
+    (busy (open_run plan held.1.0 held.1.1)))
+    other)
+    why)
 
 pub fails_unclosed : (plan : RunPlan) (players : List Player) (seats : List Part)
     (tallies : List Tally) (receipts : List Receipt) (refusal : Refusal) (fault : RunError)
@@ -297,14 +326,12 @@ pub fails_unclosed : (plan : RunPlan) (players : List Player) (seats : List Part
 fails_unclosed plan players seats tallies receipts refusal fault played parts told kept why same =
     subst (FailsRun plan) (sym same) (⊎_elim
     (λ (is : refusal ≡ refusals.Busy). subst (λ (r : Refusal). FailsRun plan (refused_by r))
-    (sym is) busy)
+    (sym is) (busy (open_run plan players played)))
     (λ (is : (refusal ≡ refusals.Foreign) × IsForeignClose seats receipts). subst
     (λ (r : Refusal). FailsRun plan (refused_by r)) (sym is.0) (foreign (record {
       seats = seats;
-      count = seats_long players seats plan.seats played.count parts;
-      tallies = tallies;
       given = map (λ (p : Player). p.receipts) players;
-      ran = each_ran plan players seats tallies played parts told;
+      made = have_run plan players seats tallies played parts told;
       close = subst (IsForeignClose seats) kept is.1;
     })))
     why)

@@ -275,12 +275,6 @@ pub record IsRun (plan : RunPlan) (tallies : List Tally) (status : Status) (lies
       (top_of plan.log_disk) closed.settled closed.core.state closed.end
       (seen_on plan.log_disk image)
 
--- Why a run fails before the recorder is closed: memory ran out, a request is open, or the writer's
--- thread can't be started.
-abbrev pub IsUnplayed : Refusal → Type 0
-IsUnplayed refusal =
-    (refusal ≡ refusals.Memory) ⊎ ((refusal ≡ refusals.Busy) ⊎ (refusal ≡ refusals.NoThread))
-
 -- One comparison fails: these seats or receipts don't agree with what the recorder's locks guarded.
 pub record IsForeignClose (seats : List Part) (receipts : List Receipt) : Type 0 where
   pub closed : Closed Stack Stack
@@ -297,16 +291,27 @@ abbrev pub IsUnclosed : List Part → List Receipt → Refusal → Type 0
 IsUnclosed seats receipts refusal =
     (refusal ≡ refusals.Busy) ⊎ ((refusal ≡ refusals.Foreign) × IsForeignClose seats receipts)
 
+-- The seats of `plan` made their calls. These are the seats after them, and the receipts of each.
+pub record HaveRun (plan : RunPlan) (seats : List Part) (given : List (List Receipt)) : Type 0 where
+  pub count : length seats ≡ plan.seats
+  pub tallies : List Tally
+  pub ran : (number : ℕ) (seat : Part) → slice_get seats number ≡ Some seat
+      → HasRun plan.calls tallies given number seat
+
 -- The seats of `plan` made their calls, but the seats or their receipts don't agree with what the
 -- recorder's locks guarded.
 pub record IsForeignRun (plan : RunPlan) : Type 0 where
   pub seats : List Part
-  pub count : length seats ≡ plan.seats
-  pub tallies : List Tally
   pub given : List (List Receipt)
-  pub ran : (number : ℕ) (seat : Part) → slice_get seats number ≡ Some seat
-      → HasRun plan.calls tallies given number seat
+  pub made : HaveRun plan seats given
   pub close : IsForeignClose seats (joined given)
+
+-- The seats of `plan` made their calls, and then the recorder refused to be closed. No contract of
+-- `shared` says what it found, since `ask_close` promises nothing of the events under its lock.
+pub record IsOpenRun (plan : RunPlan) : Type 0 where
+  pub seats : List Part
+  pub given : List (List Receipt)
+  pub made : HaveRun plan seats given
 
 -- No log could be made on the script's log disk, by the cause `end`. If that is Device, the log's
 -- device failed; it is never Full.
@@ -317,12 +322,13 @@ pub record IsUnmadeLog (plan : RunPlan) (end : End) : Type 0 where
   pub failed : end ≡ ends.Device → HasFaulted (stack_shown old) (stack_shown new)
   pub fits : end ≡ ends.Full → ⊥
 
--- Why a run of `plan` fails. Memory ran out, the writer's thread can't be started, or a request is
--- open at the close. Or a seat or receipt doesn't agree with the recorder. Or no log could be made.
--- The fault names no line.
+-- Why a run of `plan` fails. Memory ran out, the writer's thread can't be started, or the recorder
+-- says that a request is open at the close. Or a seat or receipt doesn't agree with the recorder. Or
+-- no log could be made. The fault names no line. `memory` and `thread` have no premise, because the
+-- system may refuse memory and threads at any time.
 pub data FailsRun (plan : RunPlan) : RunError → Type 0 where
   memory : FailsRun plan (refused_by refusals.Memory)
   thread : FailsRun plan (refused_by refusals.NoThread)
-  busy : FailsRun plan (refused_by refusals.Busy)
+  busy : IsOpenRun plan → FailsRun plan (refused_by refusals.Busy)
   foreign : IsForeignRun plan → FailsRun plan (refused_by refusals.Foreign)
   unmade : (end : End) → IsUnmadeLog plan end → FailsRun plan (LoggingEnded end)

@@ -1,7 +1,9 @@
 -- The definitions that only the proofs of `script_runner` use.
 use Rattle.std.specs.Prelude.{Some, ◌≡◌, ◌<◌, ◌-◌, ◌^◌, length, slice_get, Ok, ℕ, Bool, false, List}
-use Rattle.std.specs.Prelude.{[], ◌∷◌, ◌++◌, Option}
+use Rattle.std.specs.Prelude.{[], ◌∷◌, ◌++◌, ◌⊎◌, Option}
 use Rattle.std.specs.Io.KnownBytes.{Appends, Keeps}
+use Rattle.refusals.specs.declared.refusal.Refusal.{Refusal}
+use Rattle.refusals.specs.declared.refusal.Refusal.TheVariants as refusals
 use Rattle.refusals.specs.declared.run_error.RunError.{RunError}
 use Rattle.refusals.specs.Errors.{IsFileError}
 use Rattle.bio.specs.Requests.{bytes_of}
@@ -158,3 +160,10 @@ pub record HavePlayed (lines : List SeatCall) (many : ℕ) (players : List Playe
   pub count : length players ≡ many
   pub each : (number : ℕ) (player : Player) → slice_get players number ≡ Some player
       → IsSeatRun lines number player.part player.tally player.receipts
+
+-- Why a run fails before the recorder is closed: memory ran out, the writer's thread can't be
+-- started, or each seat made the calls of its lines and the recorder says that a request is open.
+abbrev pub IsUnplayed : List SeatCall → ℕ → Refusal → Type 0
+IsUnplayed lines many refusal =
+    (refusal ≡ refusals.Memory) ⊎ ((refusal ≡ refusals.NoThread)
+    ⊎ ((refusal ≡ refusals.Busy) × ((players : List Player) × HavePlayed lines many players)))

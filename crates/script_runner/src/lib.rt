@@ -13,7 +13,7 @@
 
 pub use asking::complete_request;
 pub use handing::{do_request, read_sectors};
-pub use playing::{new_recorder, new_stack};
+pub use playing::{new_recorder, new_stack, stack_over};
 pub use recording::{Lies, RunResult, record};
 pub use rehearsing::{Rehearsed, events_of_run};
 pub use request::{Request, bio_of};

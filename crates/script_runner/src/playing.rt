@@ -1,7 +1,9 @@
 //! Runs a script on two disks in memory, each under its layers, with a new log.
-ghost use Rattle.std.specs.Prelude.{◌≡◌, ◌≤◌, ◌/◌, ◌⊎◌, IfErr, IfOk};
+ghost use Rattle.std.specs.Prelude.{◌≡◌, ◌≤◌, ◌/◌, ◌⊎◌, IfErr, IfOk, []};
 ghost use Rattle.bio.specs.Requests.{bytes_of};
 ghost use Rattle.dmlw_script.specs.Plans.{IsDisk, top_of};
+ghost use Rattle.sector_disk.specs.DiskView.{shown_of};
+ghost use Rattle.layer_table.specs.Layers.{AreOver, disk_of, layers_of, layers_under, stack_shown};
 ghost use Rattle.layer_table.specs.StackMessages.{StackAnswers};
 ghost use Rattle.refusals.specs.Errors.{memory_error};
 ghost use Rattle.script_runner.specs.DiskRun.{FailsOnDisks, IsNewOn, IsStackOf, IsUnmadeOn, Starts};
@@ -161,15 +163,20 @@ pub fn new_stack(alloc: Global, disk: &DiskSpec) -> Result<Stack, RunError>
     ensures faults { IfErr result (λ fault. fault ≡ memory_error) }
 {
     let bare = SectorDisk::new(alloc, disk.sectors())?;
-    match Stack::new(bare).under(alloc, disk.layers(), Ms::new(0)) {
-        Ok(stack) => Ok(stack),
-        Err(back) => Err(RunError::from(refusal_of(back))),
-    }
+    Ok(stack_over(alloc, bare, disk))
 }
 
-// Drops the stack, and returns the refusal of the layer over it.
-fn refusal_of<D: Drop>(back: (D, Refusal)) -> Refusal
-    ensures { result ≡ back.1 }
+/// Returns the disk `bare`, which is as large as `disk` says, under the layers that `disk` names.
+/// Each layer is loaded at time 0.
+pub fn stack_over(alloc: Global, bare: SectorDisk, disk: &DiskSpec) -> Stack
+    requires disk { IsDisk disk.now }
+    requires size { (shown_of bare).size ≡ disk.now.sectors }
+    ensures bare { disk_of result ≡ bare }
+    ensures layers { layers_of result ≡ layers_under disk.now.layers 0 [] }
+    ensures over { AreOver disk.now.layers (shown_of bare) (stack_shown result) }
 {
-    back.1
+    match Stack::new(bare).under(alloc, disk.layers(), Ms::new(0)) {
+        Ok(stack) => stack,
+        Err(_) => unreachable!("the layers of a script's disk fit on it"),
+    }
 }

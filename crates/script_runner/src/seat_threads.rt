@@ -2,7 +2,7 @@
 ghost use Rattle.std.specs.Prelude.{◌≡◌, ◌⊎◌, IfErr, IfOk};
 ghost use Rattle.refusals.specs.declared.refusal.Refusal.TheVariants as refusals;
 ghost use Rattle.script_runner.specs.inside.{AreNewPlayers, DoesLines, FitsRecorder, HavePlayed};
-ghost use Rattle.script_runner.specs.SeatRuns.{IsUnplayed};
+ghost use Rattle.script_runner.specs.inside.{IsUnplayed};
 
 use crate::seat_work::Work;
 use blockdev::BlockDev;
@@ -34,7 +34,7 @@ pub(crate) fn run_all<
     requires new { AreNewPlayers script.now.seats works.items }
     ensures played { IfOk result
         (λ works. HavePlayed script.now.calls script.now.seats works.items) }
-    ensures refused { IfErr result IsUnplayed }
+    ensures refused { IfErr result (IsUnplayed script.now.calls script.now.seats) }
 {
     thread::scope(
         thread::scope_env(),
@@ -44,7 +44,8 @@ pub(crate) fn run_all<
             requires new { AreNewPlayers script.now.seats works.items }
             ensures played { IfOk result
                 (λ works. HavePlayed script.entry.now.calls script.entry.now.seats works.items) }
-            ensures refused { IfErr result IsUnplayed }
+            ensures refused { IfErr result
+                (IsUnplayed script.entry.now.calls script.entry.now.seats) }
         {
             if scope
                 .spawn(move || recorder.write_loop(rt, writer))

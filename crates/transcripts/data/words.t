@@ -8,6 +8,7 @@ Command lines and their texts.
   Commands:
     record        Records the requests of a script in a new log
     run           Runs the seats of a script in threads, and records them in a new log
+    serve         Serves an NBD client on standard input and output, and records it in a new log
     list          Lists the entries of a log
     status        Prints how many entries a log has, and how far they reach
     replay        Replays a prefix of a log on an image
@@ -33,6 +34,7 @@ Command lines and their texts.
   Commands:
     record        Records the requests of a script in a new log
     run           Runs the seats of a script in threads, and records them in a new log
+    serve         Serves an NBD client on standard input and output, and records it in a new log
     list          Lists the entries of a log
     status        Prints how many entries a log has, and how far they reach
     replay        Replays a prefix of a log on an image
@@ -69,6 +71,7 @@ Command lines and their texts.
   Commands:
     record        Records the requests of a script in a new log
     run           Runs the seats of a script in threads, and records them in a new log
+    serve         Serves an NBD client on standard input and output, and records it in a new log
     list          Lists the entries of a log
     status        Prints how many entries a log has, and how far they reach
     replay        Replays a prefix of a log on an image
@@ -94,6 +97,7 @@ Command lines and their texts.
   Commands:
     record        Records the requests of a script in a new log
     run           Runs the seats of a script in threads, and records them in a new log
+    serve         Serves an NBD client on standard input and output, and records it in a new log
     list          Lists the entries of a log
     status        Prints how many entries a log has, and how far they reach
     replay        Replays a prefix of a log on an image
@@ -141,6 +145,7 @@ Command lines and their texts.
   Commands:
     record        Records the requests of a script in a new log
     run           Runs the seats of a script in threads, and records them in a new log
+    serve         Serves an NBD client on standard input and output, and records it in a new log
     list          Lists the entries of a log
     status        Prints how many entries a log has, and how far they reach
     replay        Replays a prefix of a log on an image
@@ -166,6 +171,7 @@ Command lines and their texts.
   Commands:
     record        Records the requests of a script in a new log
     run           Runs the seats of a script in threads, and records them in a new log
+    serve         Serves an NBD client on standard input and output, and records it in a new log
     list          Lists the entries of a log
     status        Prints how many entries a log has, and how far they reach
     replay        Replays a prefix of a log on an image
@@ -191,6 +197,7 @@ Command lines and their texts.
   Commands:
     record        Records the requests of a script in a new log
     run           Runs the seats of a script in threads, and records them in a new log
+    serve         Serves an NBD client on standard input and output, and records it in a new log
     list          Lists the entries of a log
     status        Prints how many entries a log has, and how far they reach
     replay        Replays a prefix of a log on an image
@@ -216,6 +223,7 @@ Command lines and their texts.
   Commands:
     record        Records the requests of a script in a new log
     run           Runs the seats of a script in threads, and records them in a new log
+    serve         Serves an NBD client on standard input and output, and records it in a new log
     list          Lists the entries of a log
     status        Prints how many entries a log has, and how far they reach
     replay        Replays a prefix of a log on an image
@@ -241,6 +249,7 @@ Command lines and their texts.
   Commands:
     record        Records the requests of a script in a new log
     run           Runs the seats of a script in threads, and records them in a new log
+    serve         Serves an NBD client on standard input and output, and records it in a new log
     list          Lists the entries of a log
     status        Prints how many entries a log has, and how far they reach
     replay        Replays a prefix of a log on an image
@@ -476,6 +485,7 @@ Command lines and their texts.
   Commands:
     record        Records the requests of a script in a new log
     run           Runs the seats of a script in threads, and records them in a new log
+    serve         Serves an NBD client on standard input and output, and records it in a new log
     list          Lists the entries of a log
     status        Prints how many entries a log has, and how far they reach
     replay        Replays a prefix of a log on an image
@@ -501,6 +511,7 @@ Command lines and their texts.
   Commands:
     record        Records the requests of a script in a new log
     run           Runs the seats of a script in threads, and records them in a new log
+    serve         Serves an NBD client on standard input and output, and records it in a new log
     list          Lists the entries of a log
     status        Prints how many entries a log has, and how far they reach
     replay        Replays a prefix of a log on an image

@@ -6,12 +6,16 @@ use blockdev::BlockDev;
 use std::alloc::{AllocError, Global};
 use std::sync::Arc;
 use std::sync::atomic::{AtomicU64, Ordering};
-use std::thread::sleep;
+use std::thread::{sleep, yield_now};
 use std::time::{Clock, Duration};
 
 // A held call checks at most this often whether it may go on. It sleeps for a millisecond after
 // each check.
 const LOOKS: u64 = 10_000;
+
+// A thread that waits for a held call first checks this often without a sleep. So it goes on within
+// some microseconds, while the threads that the held call woke are still looking.
+const QUICK_LOOKS: u64 = 100_000;
 
 // The states of a sign. No call is held yet.
 const IDLE: u64 = 0;
@@ -48,12 +52,23 @@ impl Sign {
 
     /// Waits until a call is held, but not longer than a gate holds a call.
     pub fn wait(&self, clock: &impl Clock) {
+        for _ in 0..QUICK_LOOKS {
+            if self.is_busy() {
+                return;
+            }
+            yield_now();
+        }
         for _ in 0..LOOKS {
-            if self.state.load(Ordering::SeqCst) != IDLE {
+            if self.is_busy() {
                 return;
             }
             sleep(clock, Duration::from_millis(1));
         }
+    }
+
+    // Returns whether a call is held, or was held.
+    fn is_busy(&self) -> bool {
+        self.state.load(Ordering::SeqCst) != IDLE
     }
 
     /// Releases the held call. Returns whether the gate was still holding it.

@@ -5,6 +5,8 @@
 #[cfg(test)]
 mod boards;
 #[cfg(test)]
+mod course;
+#[cfg(test)]
 mod gate;
 #[cfg(test)]
 mod histories;
@@ -18,5 +20,7 @@ mod play;
 mod recording;
 #[cfg(test)]
 mod scenes;
+#[cfg(test)]
+mod waking;
 #[cfg(test)]
 mod work;

@@ -3,6 +3,7 @@ ghost use Rattle.std.specs.Prelude.{◌≡◌, ℕ, ◌<◌, ◌≤◌};
 ghost use Rattle.std.specs.Thread.{IsSend};
 ghost use Rattle.lock_state.specs.PlacedItems.{ground_of};
 
+use crate::course::Course;
 use crate::gate::Sign;
 use crate::work::{Call, Player, Tally, Work};
 use bio::{End, Id, Status};
@@ -79,7 +80,8 @@ struct Called<R: Run + Names> {
 }
 
 // Starts the writer and the readers, makes each seat's calls in a thread, calls `ask_close`, and
-// makes the late calls. A thread that can't be started and a refused `ask_close` stop the test.
+// makes the late calls. A thread that can't be started, one that doesn't end, and a refused
+// `ask_close` stop the test.
 fn run_all<
     D: BlockDev + Drop + Send,
     L: BlockDev + Drop + Send,
@@ -93,6 +95,8 @@ fn run_all<
     works: Vec<Work<R>>,
     watches: Vec<Watch<R>>,
 ) -> Called<R> {
+    let course = Course::new();
+    let course = &course;
     thread::scope(
         thread::scope_env(),
         rt,
@@ -100,17 +104,25 @@ fn run_all<
             requires { IsSend D.row × IsSend L.row × IsSend R.row }
         {
             scope
-                .spawn(move || recorder.write_loop(rt, writer))
+                .spawn(move || {
+                    recorder.write_loop(rt, writer);
+                    course.end_writer();
+                })
                 .ok()
                 .expect(rt, "the writer's thread");
+            scope
+                .spawn(move || course.watch(rt))
+                .ok()
+                .expect(rt, "the watching thread");
             let lookers = scope
                 .spawn(move || look_all(rt, recorder, watches))
                 .ok()
                 .expect(rt, "the readers' thread");
-            let works = call_all(rt, alloc, recorder, works, false);
+            let works = call_all(rt, alloc, recorder, works, course, false);
             recorder.ask_close(rt).ok().expect(rt, "a close");
-            let works = call_all(rt, alloc, recorder, works, true);
+            let works = call_all(rt, alloc, recorder, works, course, true);
             let watches = lookers.join(rt);
+            course.end_others();
             Called { works, watches }
         },
     )
@@ -145,6 +157,7 @@ fn call_all<
     alloc: Global,
     recorder: &Shared<D, L, R>,
     works: Vec<Work<R>>,
+    course: &Course,
     late: bool,
 ) -> Vec<Work<R>> {
     let mut works = works;
@@ -153,7 +166,7 @@ fn call_all<
         rt,
         works.as_mut_slice(),
         threads,
-        &|_, work: &mut Work<R>| { work.run(rt, alloc, recorder, late) },
+        &|_, work: &mut Work<R>| { work.run(rt, alloc, recorder, course, late) },
     );
     works
 }

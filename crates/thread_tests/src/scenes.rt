@@ -35,8 +35,8 @@ pub fn tally(done: u64, logged: u64, found: u64) -> Tally {
     }
 }
 
-// Returns a table with one call. The seat waits for the sign `after`, if there is one.
-fn alone(rt: &impl Abort, alloc: Global, call: Call, after: Option<Sign>) -> Table {
+/// Returns a table with one call. The seat waits for the sign `after`, if there is one.
+pub fn alone(rt: &impl Abort, alloc: Global, call: Call, after: Option<Sign>) -> Table {
     Table {
         calls: vec![in alloc; call; 1].expect(rt, "memory"),
         late: Vec::new(alloc),
@@ -108,8 +108,8 @@ fn two_tables(rt: &impl Abort, alloc: Global, scene: &Scene, sign: Sign) -> Vec<
     tables
 }
 
-// Returns this many plain writes, and then the call.
-fn after_writes(rt: &impl Abort, alloc: Global, before: u64, call: Call) -> Vec<Call> {
+/// Returns this many plain writes, and then the call.
+pub fn after_writes(rt: &impl Abort, alloc: Global, before: u64, call: Call) -> Vec<Call> {
     let mut calls = Vec::new(alloc);
     for _ in 0..before {
         let write = Call::Write {

@@ -1,4 +1,5 @@
 //! The calls that a thread makes at its seat: a table of calls, and a tally of their answers.
+use crate::course::Course;
 use crate::gate::Sign;
 use bio::{Bio, Bytes, DevError, Ms};
 use blockdev::BlockDev;
@@ -8,7 +9,12 @@ use pending::CloseError;
 use shared::{Answer, MarkAnswer, Shared};
 use std::alloc::{AllocError, Global};
 use std::sync::Wait;
-use std::time::Clock;
+use std::thread::sleep;
+use std::time::{Clock, Duration};
+
+// A seat pauses for so many milliseconds. A thread that has nothing to do falls asleep in a
+// hundredth of this.
+const PAUSE: u64 = 20;
 
 /// A call of a seat. A write fills one sector with `byte`. A read of a sector must find `byte`.
 #[derive(Clone, Copy, Debug, PartialEq, Eq)]
@@ -23,6 +29,12 @@ pub enum Call {
     AskClose,
     /// Ends logging as if memory had run out. The tally counts it as done.
     GiveUp,
+    /// Waits until the seats together have begun this many calls, and then for `PAUSE`
+    /// milliseconds, so that those who wait fall asleep. The tally counts it as done.
+    Pause { begun: u64 },
+    /// Waits until the writer's thread has ended. The tally counts it as done, or as failed if the
+    /// thread doesn't end.
+    AwaitWriter,
 }
 
 /// How many calls had each answer.
@@ -88,18 +100,19 @@ impl<R: Run + Names> Work<R> {
         rt: &H,
         alloc: Global,
         recorder: &Shared<D, L, R>,
+        course: &Course,
         late: bool,
     ) {
         if late {
             self.player
-                .make_all(rt, alloc, recorder, self.late.as_slice());
+                .make_all(rt, alloc, recorder, course, self.late.as_slice());
             return;
         }
         if let Some(sign) = &self.after {
             sign.wait(rt);
         }
         self.player
-            .make_all(rt, alloc, recorder, self.calls.as_slice());
+            .make_all(rt, alloc, recorder, course, self.calls.as_slice());
         if let Some(sign) = &self.after {
             self.let_go = sign.let_go();
         }
@@ -108,27 +121,30 @@ impl<R: Run + Names> Work<R> {
 
 impl<R: Run + Names> Player<R> {
     // Makes the calls in order.
-    fn make_all<D: BlockDev + Drop, L: BlockDev + Drop, H: Wait>(
+    fn make_all<D: BlockDev + Drop, L: BlockDev + Drop, H: Wait + Clock>(
         &mut self,
         rt: &H,
         alloc: Global,
         recorder: &Shared<D, L, R>,
+        course: &Course,
         calls: &[Call],
     ) {
         for place in 0..calls.len() {
-            self.make(rt, alloc, recorder, calls[place]);
+            self.make(rt, alloc, recorder, course, calls[place]);
         }
     }
 
     // Makes a call, and counts its answer. If the test itself runs out of memory, this counts as if
     // the recorder had.
-    fn make<D: BlockDev + Drop, L: BlockDev + Drop, H: Wait>(
+    fn make<D: BlockDev + Drop, L: BlockDev + Drop, H: Wait + Clock>(
         &mut self,
         rt: &H,
         alloc: Global,
         recorder: &Shared<D, L, R>,
+        course: &Course,
         call: Call,
     ) {
+        course.begin_call();
         match call {
             Call::Mark { byte } => {
                 let answer = recorder.mark(rt, &mut self.seat, &[byte]);
@@ -142,6 +158,16 @@ impl<R: Run + Names> Player<R> {
             Call::GiveUp => {
                 recorder.give_up(rt);
                 count(&mut self.tally.done);
+                return;
+            }
+            Call::Pause { begun } => {
+                course.await_calls(rt, begun);
+                sleep(rt, Duration::from_millis(PAUSE));
+                count(&mut self.tally.done);
+                return;
+            }
+            Call::AwaitWriter => {
+                self.count_end(course.await_writer(rt));
                 return;
             }
             _ => {}
@@ -160,6 +186,15 @@ impl<R: Run + Names> Player<R> {
             Ok(()) => count(&mut self.tally.done),
             Err(CloseError::Busy) => count(&mut self.tally.refused),
             Err(CloseError::Memory) => count(&mut self.tally.starved),
+        }
+    }
+
+    // Counts whether the writer's thread has ended.
+    fn count_end(&mut self, has_ended: bool) {
+        if has_ended {
+            count(&mut self.tally.done);
+        } else {
+            count(&mut self.tally.failed);
         }
     }
 
@@ -216,6 +251,11 @@ fn bio_of(alloc: Global, call: Call) -> Result<Bio, AllocError> {
         },
         Call::Read { first, .. } => Bio::Read { first, count: 1 },
         Call::Discard { first } => Bio::Discard { first, count: 1 },
-        Call::Flush | Call::Mark { .. } | Call::AskClose | Call::GiveUp => Bio::Flush,
+        Call::Flush
+        | Call::Mark { .. }
+        | Call::AskClose
+        | Call::GiveUp
+        | Call::Pause { .. }
+        | Call::AwaitWriter => Bio::Flush,
     })
 }

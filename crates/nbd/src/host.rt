@@ -1,4 +1,5 @@
-//! What a session asks its surroundings for.
+//! What a session asks its surroundings for, and tells them.
+use crate::wire::Header;
 use bio::{End, Ms};
 
 /// The surroundings of a session: the time, and the marks that somebody set. Nothing is proved
@@ -9,6 +10,9 @@ pub trait Host {
 
     /// Returns the text of the next mark that was set and not returned yet.
     fn next_mark(&mut self) -> Option<Vec<u8>>;
+
+    /// Hears of a request before it is done. A request to disconnect isn't told.
+    fn request_came(&mut self, header: &Header);
 
     /// Hears that logging ended. The session goes on, but it isn't recorded any more.
     fn logging_ended(&mut self, cause: End);

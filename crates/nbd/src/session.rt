@@ -141,6 +141,7 @@ fn serve_request<D: BlockDev + Drop, L: BlockDev + Drop, I: Read, O: Write, H: H
     if let Command::Disconnect = header.command() {
         return Ok(false);
     }
+    host.request_came(&header);
     let before = server.recorder().status().end;
     answer(server, &header, host.now(), input, output)?;
     tell_end(host, before, server.recorder().status().end);

@@ -2,7 +2,9 @@
 //! NetworkBlockDevice project. What is tested is what no contract says: the numbers on the wire, and
 //! that the input is understood.
 use bio::{End, Ms, SectorSize};
-use nbd::{Export, Host, Negotiated, Served, Server, SessionEnd, negotiate, serve, transmit};
+use nbd::{
+    Export, Header, Host, Negotiated, Served, Server, SessionEnd, negotiate, serve, transmit,
+};
 use script_runner::new_recorder;
 use sector_disk::SectorDisk;
 use std::alloc::Global;
@@ -50,6 +52,8 @@ impl Host for Marks {
         text.extend_from_slice(b"here").ok()?;
         Some(text)
     }
+
+    fn request_came(&mut self, _header: &Header) {}
 
     fn logging_ended(&mut self, _cause: End) {}
 }

@@ -1,25 +1,123 @@
 //! dmlw records block requests in a log, as the kernel's dm-log-writes does, and reads such logs
 //! back. `dmlw help` prints its commands.
 //!
-//! The program calls `dmlw::execute` with the system's files and streams. Nothing is proved
-//! about what these hold.
+//! The program calls `dmlw::execute` with the system's files and streams, or for `serve`
+//! `dmlw_serve::serve`. Nothing is proved about what these hold.
 #![tactic(auto)]
 
-use dmlw::{HostFiles, Output, Session, execute, refuse};
+use clap::Error;
+use clap::error::ErrorKind;
+use dmlw::{Exit, HostFiles, Output, Session, execute, refuse};
+use dmlw_commands::record::print_end;
+use dmlw_commands::report;
+use dmlw_serve::{
+    Asked, Counts, ServeNames, Served, Surroundings, print_session, read_words, serve,
+};
+use refusals::{Refusal, RunError};
 use std::io::{BufWriter, Write};
 use std::process::ExitCode;
 use std::rt::{Env, Files};
 use std::sync::Wait;
 use std::thread::Threads;
+use std::time::Clock;
 use std::{env, io};
 
 fn main(rt: HostRuntime) -> ExitCode {
     let mut err = rt.stderr();
-    let status = match run(&rt, &mut err) {
+    let status = match choose(&rt, &mut err) {
         Ok(status) => status,
         Err(error) => refuse(rt.alloc(), error, &mut err),
     };
     ExitCode::from(status)
+}
+
+// Serves a client if the command line asks for it, and executes it otherwise. Only the real
+// standard input can be served, so `execute` doesn't know this command. It has no advice to add, so
+// the word `--explain` says nothing to it.
+fn choose<R: Files + Env + Print + Input + Clock + AllocGlobal + Threads + Wait + Sync, E: Write>(
+    rt: &R,
+    err: &mut E,
+) -> io::Result<u8> {
+    let words: Vec<String> = env::args(rt)?.collect(rt.alloc())?;
+    let mut plain = Vec::new(rt.alloc());
+    for word in &words {
+        if word.as_str() != "--explain" {
+            plain.push(word.as_str())?;
+        }
+    }
+    match plain.as_slice() {
+        [_, words @ ..] if is_serve(words) => {
+            let asked = read_words(rt.alloc(), words);
+            Ok(answer(rt, asked, err))
+        }
+        _ => run(rt, err),
+    }
+}
+
+// Returns whether the first word is `serve`.
+fn is_serve(words: &[&str]) -> bool {
+    match words {
+        [first, ..] => *first == "serve",
+        [] => false,
+    }
+}
+
+// Does what the words of `serve` ask for, and returns the exit status. Standard output is the
+// client's, so what `record` prints goes to `err`.
+fn answer<R: Files + Print + Input + Clock + AllocGlobal, E: Write>(
+    rt: &R,
+    asked: Asked<'_>,
+    err: &mut E,
+) -> u8 {
+    match asked {
+        Asked::Serve { names, marks } => match serve_client(rt, names, marks, err) {
+            Ok((served, counts)) => {
+                let _ = print_end(served.status, served.lies, err);
+                let _ = print_session(counts, served.end, err);
+                Exit::from(served.status.end).status()
+            }
+            Err(fault) => report(rt.alloc(), fault, "", err).exit.status(),
+        },
+        Asked::Show(text) => show(rt, &text, err),
+    }
+}
+
+// Prints clap's text, and returns the exit status.
+fn show<R: Print + AllocGlobal, E: Write>(rt: &R, text: &Error, err: &mut E) -> u8 {
+    match text.kind() {
+        ErrorKind::OutOfMemory => {
+            let fault = RunError::from(Refusal::Memory);
+            report(rt.alloc(), fault, "", err).exit.status()
+        }
+        ErrorKind::DisplayHelp => {
+            let _ = print!(rt; "{text}");
+            Exit::Done.status()
+        }
+        _ => {
+            let _ = write!(err, "{text}");
+            Exit::Usage.status()
+        }
+    }
+}
+
+// Serves the client at standard input and output.
+fn serve_client<R: Files + Print + Input + Clock + AllocGlobal, E: Write>(
+    rt: &R,
+    names: ServeNames<'_>,
+    marks: Option<&str>,
+    err: &mut E,
+) -> Result<(Served, Counts), RunError> {
+    let mut files = HostFiles::new(rt, rt.alloc());
+    let mut host = Surroundings::new(rt, rt.alloc(), marks, err)?;
+    let served = serve(
+        rt.alloc(),
+        names,
+        &mut files,
+        &mut rt.reader(),
+        &mut io::writer(rt),
+        &mut host,
+    )?;
+    Ok((served, host.counts()))
 }
 
 // Executes the process's command line. If the variable DMLW_EXPLAIN is `1`, it adds the word

@@ -1,0 +1,29 @@
+use Rattle.std.proofs.Common.{◌∙◌, ap, refl, subst}
+use Rattle.sector_disk.specs.declared.disk.SectorDisk.{SectorDisk}
+use Rattle.layer_table.specs.declared.stack.Stack.{Stack}
+use Rattle.layer_table.specs.Layers.{disk_of, stack_shown}
+use Rattle.dmlw_files.specs.Files.{MatchesContents, image_of}
+use Rattle.script_runner.specs.DiskRun.{DiskRecorder, IsCounted}
+use Rattle.dmlw_serve.proofs.session.finish.Goals as goal
+
+pub returns-clause-reports : goal.returns-clause-reports
+returns-clause-reports g c =
+    let says = c.status-status.ensures in
+    let parts = c.into_parts-recorder.ensures in
+    let log = c.into_device-log.ensures ∙ ap (λ (r : DiskRecorder). r.store.device) parts.recorder in
+    record {
+      end = refl;
+      counted =
+          subst (λ (r : DiskRecorder). IsCounted c.status-status.result r) parts.recorder
+          (record { entries = says.counts; end = says.end; none = says.none; last = says.last });
+      data_lies = c.lies.ensures ∙ ap (λ (s : Stack). (stack_shown s).lies) parts.device;
+      log_lies = c.lies-2.ensures ∙ ap (λ (s : Stack). (stack_shown s).lies) log;
+    }
+
+pub returns-clause-written : goal.returns-clause-written
+returns-clause-written g c =
+    let parts = c.into_parts-recorder.ensures in
+    let log = c.into_device-log.ensures ∙ ap (λ (r : DiskRecorder). r.store.device) parts.recorder in
+    subst (λ (disk : SectorDisk). MatchesContents
+    (g.F.Files.contents c.write.new.self c.args.name.now) (image_of disk))
+    (c.into_disk.ensures ∙ ap disk_of log) c.in_ok-write.ensures.holds

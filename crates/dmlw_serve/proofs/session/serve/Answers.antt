@@ -1,0 +1,48 @@
+use Rattle.std.proofs.Common.{◌∙◌, subst, sym}
+use Rattle.std.proofs.lemmas.Result.{on_err_weaker}
+use Rattle.script_runner.specs.CallLaws.{on_error}
+use Rattle.dmlw_files.specs.Files.{image_of}
+use Rattle.layer_table.specs.Layers.{disk_of}
+use Rattle.dmlw_serve.specs.Serves.{FailsServing, file}
+use Rattle.dmlw_serve.proofs.Sessions.{both, if_err, if_failed, leaves}
+use Rattle.dmlw_serve.proofs.session.serve.Goals as goal
+
+pub returns-in_err-server-clause-served : goal.returns-in_err-server-clause-served
+returns-in_err-server-clause-served g c = if_failed _ c.from_residual.result c.from_residual.ensures.0
+
+pub returns-in_err-server-clause-faults : goal.returns-in_err-server-clause-faults
+returns-in_err-server-clause-faults g c =
+    on_error c.from_residual.result c.from_residual.ensures.1
+    (λ fault is. subst (FailsServing _ _) (sym is) c.in_err-server.ensures.faults)
+
+pub returns-clause-served : goal.returns-clause-served
+returns-clause-served g c =
+    let begun = c.in_ok-server.ensures.begun in
+    let ended = c.serve-end.new.server in
+    both c.finish.result c.finish.ensures.reports c.finish.ensures.written
+    (λ served reports written. (
+      begun.0,
+      begun.1,
+      image_of (disk_of ended.recorder.store.device),
+      begun.2,
+      begun.3,
+      record {
+        script = begun.4.0;
+        spelled = begun.4.1;
+        head = begun.4.2;
+        begun = c.in_ok-server.server;
+        begins = begun.4.3;
+        leaves = leaves c.in_ok-server.server ended served _ _ _ _ _ reports
+            c.serve-end.ensures.goes c.serve-end.ensures.session c.serve-end.ensures.broke_off;
+      },
+      written,
+    ))
+
+pub returns-clause-faults : goal.returns-clause-faults
+returns-clause-faults g c =
+    if_err c.finish.result c.finish.ensures.faults (λ fault is. file fault is)
+
+pub returns-clause-kept : goal.returns-clause-kept
+returns-clause-kept g c =
+    on_err_weaker c.finish.result
+    (λ kept name. kept name ∙ c.in_ok-server.ensures.kept name) c.finish.ensures.kept

@@ -1,0 +1,118 @@
+-- What `serve` leaves: the log of a recorder that began with the disks of a script's head. And why
+-- it fails.
+use Rattle.std.specs.Prelude.{◌≡◌, ◌/◌, ℕ, List, [], Option, Some, None, Result, Ok, length}
+use Rattle.std.specs.Io.KnownBytes.{Appends, Consumes}
+use Rattle.refusals.specs.declared.refusal.Refusal.{Refusal}
+use Rattle.refusals.specs.declared.refusal.Refusal.TheVariants as refusals
+use Rattle.refusals.specs.declared.run_error.Fault.{Fault}
+use Rattle.refusals.specs.declared.run_error.RunError.{RunError}
+use Rattle.refusals.specs.declared.run_error.RunError.TheVariants.{Refused}
+use Rattle.refusals.specs.Errors.{IsFileError}
+use Rattle.bio.specs.Content.{sector_of}
+use Rattle.bio.specs.Requests.{bytes_of}
+use Rattle.sector_disk.specs.DiskView.{Begins, shown_of}
+use Rattle.layer_table.specs.declared.stack.Stack.{Stack}
+use Rattle.layer_table.specs.Layers.{AreOver, disk_of, layers_of, layers_under, on_stack, stack_shown}
+use Rattle.dmlw_script.specs.FirstFault.{IsFaultOf}
+use Rattle.dmlw_script.specs.Grammar.{IsLineOf, IsTextOf}
+use Rattle.dmlw_script.specs.Plans.{Disk, ScriptValue}
+use Rattle.dmlw_script.specs.Words.{lines_of}
+use Rattle.dmlw_files.specs.Files.{MatchesContents, image_of}
+use Rattle.script_runner.specs.DiskRun.{IsCounted, IsNew, IsUnmade}
+use Rattle.nbd.specs.declared.server.Server.{Server}
+use Rattle.nbd.specs.declared.serving.Served.{Served as Ending}
+use Rattle.nbd.specs.declared.serving.Served.TheVariants.{BrokeOff, Disconnected}
+use Rattle.nbd.specs.declared.session.SessionEnd.{SessionEnd}
+use Rattle.nbd.specs.Serving.{Ends, ServerFrame}
+use Rattle.nbd.specs.Sessions.{IsBroken, IsPlayed}
+use Rattle.dmlw_serve.specs.declared.session.Served.{Served}
+
+-- A server over two stacks: one for the data, and one for the log.
+abbrev pub DiskServer : Type 0
+DiskServer = Server Stack Stack on_stack on_stack
+
+-- The script is only a head: no line follows it.
+pub record IsHead (script : ScriptValue) : Type 0 where
+  pub commands : script.commands ≡ []
+  pub ending : script.ending ≡ None
+
+-- `stack` is a disk that holds `image`, under the layers of `disk`. The image is as large as the
+-- disk. Each layer is loaded at time 0, and wasn't called yet.
+pub record IsFilled (disk : Disk) (image : List ℕ) (stack : Stack) : Type 0 where
+  pub size : length image / 512 ≡ disk.sectors
+  pub holds : Begins disk.sectors (sector_of image) (shown_of (disk_of stack))
+  pub layers : layers_of stack ≡ layers_under disk.layers 0 []
+  pub over : AreOver disk.layers (shown_of (disk_of stack)) (stack_shown stack)
+
+-- `server` is as a session begins: the data disk holds `first`, and the log is new and empty, each
+-- under the layers that the script names.
+pub record Begun (script : ScriptValue) (first : List ℕ) (server : DiskServer) : Type 0 where
+  pub data_disk : IsFilled script.data_disk first server.disk
+  pub log_disk : IsNew (bytes_of script.log_size) script.log_disk server.recorder
+
+-- A client that disconnected sent `taken`, and `out` was sent back. Its requests change the server
+-- from `begun` to `last`, and the close of recording leaves `ended`.
+pub record IsHeard (taken out : List ℕ) (begun ended : DiskServer) : Type 0 where
+  pub last : DiskServer
+  pub played : IsPlayed taken out begun last
+  pub now : ℕ
+  pub closed : Ends now last ended
+
+-- What is reported of a session that left the server `server`: how it ended, the log's status, and
+-- the lies of the layers.
+pub record Reports (server : DiskServer) (how : Result Ending Refusal)
+    (served : Served) : Type 0 where
+  pub end : served.end ≡ how
+  pub counted : IsCounted served.status server.recorder
+  pub data_lies : served.lies.data_disk ≡ (stack_shown server.disk).lies
+  pub log_lies : served.lies.log_disk ≡ (stack_shown server.recorder.store.device).lies
+
+-- What a session leaves that began with the server `begun`: the image `image` of the log's disk, and
+-- what is reported of it. From its beginning to its end the server changed only as its own calls
+-- change it. So what `ServerFrame` says of a crash holds of the whole session.
+pub record Leaves (begun : DiskServer) (served : Served) (image : List ℕ)
+    (heard_from heard_to said_from said_to : Option (List ℕ)) : Type 0 where
+  pub ended : DiskServer
+  pub goes : ServerFrame begun ended
+  pub left : image ≡ image_of (disk_of ended.recorder.store.device)
+  pub reported : Reports ended served.end served
+  -- If the client disconnected, its bytes are those of a session. What the session asks for was
+  -- done, and then recording was closed.
+  pub heard : served.end ≡ Ok Disconnected → (taken out : List ℕ)
+      × Consumes heard_from heard_to taken × Appends said_from said_to out
+      × IsHeard taken out begun ended
+  -- If the session broke off, what was asked for up to there was done. Then recording was closed.
+  pub broken : (why : SessionEnd) → served.end ≡ Ok (BrokeOff why) → (now : ℕ)
+      × (last : DiskServer) × IsBroken heard_from said_from begun last × Ends now last ended
+
+-- A session over the head `text` and the first content `first` left the image `image` of the log's
+-- disk.
+pub record IsServed (text first : List ℕ) (served : Served) (image : List ℕ)
+    (heard_from heard_to said_from said_to : Option (List ℕ)) : Type 0 where
+  pub script : ScriptValue
+  pub spelled : IsTextOf text script
+  pub head : IsHead script
+  pub begun : DiskServer
+  pub begins : Begun script first begun
+  pub leaves : Leaves begun served image heard_from heard_to said_from said_to
+
+-- Why `serve` fails, where the files of the head and of the first content hold what is given. All but
+-- `file` come before the session.
+-- - `file`: a file can't be used, or memory ran out. A first content that isn't as large as the data
+--   disk is a file that can't be used.
+-- - `script`: the head's text isn't a script's.
+-- - `longer`: the script has a line after its head. The fault is at the first such line.
+-- - `unmade`: no log could be made.
+pub data FailsServing (text first : Option (List ℕ)) : RunError → Type 0 where
+  file : (fault : RunError) → IsFileError fault → FailsServing text first fault
+  script : (head : List ℕ) (fault : Fault) → MatchesContents text head
+      → IsFaultOf head fault fault.line → FailsServing text first (Refused fault)
+  longer : (head : List ℕ) (script : ScriptValue) (line : ℕ) → MatchesContents text head
+      → IsTextOf head script → IsLineOf (lines_of head) script 0 line
+      → FailsServing text first
+      (Refused (record { line = Some line; refusal = refusals.BadLine }))
+  unmade : (head image : List ℕ) (script : ScriptValue) (fault : RunError)
+      → MatchesContents text head → MatchesContents first image → IsTextOf head script
+      → IsHead script → length image / 512 ≡ script.data_disk.sectors
+      → IsUnmade (bytes_of script.log_size) script.log_disk fault
+      → FailsServing text first fault

@@ -50,6 +50,11 @@ fn choose<R: Files + Env + Print + Input + Clock + AllocGlobal + Threads + Wait 
             let asked = read_words(rt.alloc(), words);
             Ok(answer(rt, asked, err))
         }
+        [_, first, words @ ..] if *first == "help" && is_serve(words) => {
+            let words = ["serve", "--help"];
+            let asked = read_words(rt.alloc(), &words);
+            Ok(answer(rt, asked, err))
+        }
         _ => run(rt, err),
     }
 }

@@ -1,2 +1,3 @@
+-- The definitions that the contracts of `dmlw_serve` are written in.
 pub mod Counts
 pub mod Serves

@@ -1,6 +1,6 @@
 -- What `serve` leaves: the log of a recorder that began with the disks of a script's head. And why
 -- it fails.
-use Rattle.std.specs.Prelude.{◌≡◌, ◌/◌, ℕ, List, [], Option, Some, None, Result, Ok, length}
+use Rattle.std.specs.Prelude.{◌≡◌, ◌/◌, ℕ, List, [], IfOk, Option, Some, None, Result, Ok, false, length}
 use Rattle.std.specs.Io.KnownBytes.{Appends, Consumes}
 use Rattle.refusals.specs.declared.refusal.Refusal.{Refusal}
 use Rattle.refusals.specs.declared.refusal.Refusal.TheVariants as refusals
@@ -12,13 +12,20 @@ use Rattle.bio.specs.Content.{sector_of}
 use Rattle.bio.specs.Requests.{bytes_of}
 use Rattle.sector_disk.specs.DiskView.{Begins, shown_of}
 use Rattle.layer_table.specs.declared.stack.Stack.{Stack}
-use Rattle.layer_table.specs.Layers.{AreOver, disk_of, layers_of, layers_under, on_stack, stack_shown}
+use Rattle.layer_table.specs.Layers.{AreOver, disk_of, layers_of, layers_under, on_stack}
+use Rattle.layer_table.specs.Layers.{some_drops, stack_shown}
+use Rattle.log_format.specs.LogOf.{IsLogOf, status_of}
+use Rattle.log_store.specs.Calls.{store_of}
+use Rattle.log_store.specs.Store.{entries_of}
+use Rattle.recorder.specs.Calls.{core_of, recorder_view}
+use Rattle.recorder.specs.Growth.{ReplaysToPossible}
+use Rattle.recorder.specs.RecorderView.{log_of}
 use Rattle.dmlw_script.specs.FirstFault.{IsFaultOf}
 use Rattle.dmlw_script.specs.Grammar.{IsLineOf, IsTextOf}
-use Rattle.dmlw_script.specs.Plans.{Disk, ScriptValue}
+use Rattle.dmlw_script.specs.Plans.{Disk, ScriptValue, top_of}
 use Rattle.dmlw_script.specs.Words.{lines_of}
 use Rattle.dmlw_files.specs.Files.{MatchesContents, image_of}
-use Rattle.script_runner.specs.DiskRun.{IsCounted, IsNew, IsUnmade}
+use Rattle.script_runner.specs.DiskRun.{IsCounted, IsNew, IsUnmade, seen_on}
 use Rattle.nbd.specs.declared.server.Server.{Server}
 use Rattle.nbd.specs.declared.serving.Served.{Served as Ending}
 use Rattle.nbd.specs.declared.serving.Served.TheVariants.{BrokeOff, Disconnected}
@@ -66,16 +73,38 @@ pub record Reports (server : DiskServer) (how : Result Ending Refusal)
   pub counted : IsCounted served.status server.recorder
   pub data_lies : served.lies.data_disk ≡ (stack_shown server.disk).lies
   pub log_lies : served.lies.log_disk ≡ (stack_shown server.recorder.store.device).lies
+  -- unless a layer of the log lied, the status is that of a log of the placed entries
+  pub tells : served.lies.log_disk ≡ 0
+      → served.status ≡ status_of (core_of server.recorder).sector_bytes
+      (entries_of (store_of server.recorder.store)) server.recorder.end
 
--- What a session leaves that began with the server `begun`: the image `image` of the log's disk, and
--- what is reported of it. From its beginning to its end the server changed only as its own calls
--- change it. So what `ServerFrame` says of a crash holds of the whole session.
-pub record Leaves (begun : DiskServer) (served : Served) (image : List ℕ)
+-- What a session of `script` leaves that began with the server `begun`: the image `image` of the
+-- log's disk, and what is reported of it. From its beginning to its end the server changed only as
+-- its own calls change it. So what `ServerFrame` says of a crash holds of the whole session.
+pub record Leaves (script : ScriptValue) (begun : DiskServer) (served : Served) (image : List ℕ)
     (heard_from heard_to said_from said_to : Option (List ℕ)) : Type 0 where
   pub ended : DiskServer
   pub goes : ServerFrame begun ended
   pub left : image ≡ image_of (disk_of ended.recorder.store.device)
   pub reported : Reports ended served.end served
+  -- the log's sectors have the size that the script names
+  pub sector_bytes : (core_of ended.recorder).sector_bytes ≡ bytes_of script.log_size
+  -- if no layer of the log may drop writes, no layer of the log lied
+  pub honest : some_drops script.log_disk.layers ≡ false → served.lies.log_disk ≡ 0
+  -- unless a layer of the log lied, `image` has a log, seen through the layers. It is a prefix of
+  -- the completion list of the recorder's events. It has all entries that were settled, and all
+  -- that were acknowledged. Each prefix of it replays to what the recorded device could hold
+  pub beginning : served.lies.log_disk ≡ 0 →
+      ReplaysToPossible (recorder_view ended.recorder) (recorder_view ended.recorder)
+      (seen_on script.log_disk image)
+  -- if recording was closed and logging didn't end, the log is the whole completion list
+  pub whole : served.lies.log_disk ≡ 0 → (how : Ending) → served.end ≡ Ok how
+      → served.status.end ≡ None →
+      IsLogOf (top_of script.log_disk) (seen_on script.log_disk image) (bytes_of script.log_size)
+      (log_of (core_of ended.recorder))
+  -- however the session ended, recording was closed at last, unless this was refused
+  pub closed : IfOk served.end (λ how. (now : ℕ) × (last : DiskServer) × ServerFrame begun last
+      × Ends now last ended)
   -- If the client disconnected, its bytes are those of a session. What the session asks for was
   -- done, and then recording was closed.
   pub heard : served.end ≡ Ok Disconnected → (taken out : List ℕ)
@@ -94,7 +123,7 @@ pub record IsServed (text first : List ℕ) (served : Served) (image : List ℕ)
   pub head : IsHead script
   pub begun : DiskServer
   pub begins : Begun script first begun
-  pub leaves : Leaves begun served image heard_from heard_to said_from said_to
+  pub leaves : Leaves script begun served image heard_from heard_to said_from said_to
 
 -- Why `serve` fails, where the files of the head and of the first content hold what is given. All but
 -- `file` come before the session.

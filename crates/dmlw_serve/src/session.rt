@@ -20,6 +20,9 @@ use dmlw_script::laws::lines_are_those_of_commands;
 use dmlw_script::{DiskSpec, Script, line_of, read_script};
 use layer_table::Stack;
 use nbd::{Host, Server, SessionEnd};
+use recorder::laws::{
+    closed_logs_are_whole, crashed_logs_replay_to_what_could_be, recorders_are_sound,
+};
 use refusals::{Fault, Refusal, RunError};
 use script_runner::{Lies, new_recorder, new_stack, stack_over};
 use sector_disk::{Image, SectorDisk};
@@ -77,6 +80,11 @@ pub fn serve<F: Files, I: Read, O: Write, H: Host>(
 {
     let mut server = begin(alloc, names, files)?;
     let end = nbd::serve(&mut server, input, output, host);
+    // For the prover: what always holds for a recorder's core, what a content that a crash may leave
+    // replays to, and that closed logs are whole.
+    recorders_are_sound(server.recorder());
+    crashed_logs_replay_to_what_could_be::<Stack>();
+    closed_logs_are_whole::<Stack>();
     finish(alloc, names.log, files, server, end)
 }
 

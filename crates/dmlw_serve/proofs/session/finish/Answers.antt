@@ -1,8 +1,12 @@
-use Rattle.std.proofs.Common.{◌∙◌, ap, refl, subst}
+use Rattle.std.proofs.Common.{◌≡◌, ◌∙◌, ap, refl, subst, sym}
 use Rattle.sector_disk.specs.declared.disk.SectorDisk.{SectorDisk}
 use Rattle.layer_table.specs.declared.stack.Stack.{Stack}
 use Rattle.layer_table.specs.Layers.{disk_of, stack_shown}
 use Rattle.dmlw_files.specs.Files.{MatchesContents, image_of}
+use Rattle.log_format.specs.LogOf.{status_of}
+use Rattle.log_store.specs.Calls.{store_of}
+use Rattle.log_store.specs.Store.{entries_of}
+use Rattle.recorder.specs.Calls.{core_of}
 use Rattle.script_runner.specs.DiskRun.{DiskRecorder, IsCounted}
 use Rattle.dmlw_serve.proofs.session.finish.Goals as goal
 
@@ -11,13 +15,21 @@ returns-clause-reports g c =
     let says = c.status-status.ensures in
     let parts = c.into_parts-recorder.ensures in
     let log = c.into_device-log.ensures ∙ ap (λ (r : DiskRecorder). r.store.device) parts.recorder in
+    let lies = c.lies-2.ensures ∙ ap (λ (s : Stack). (stack_shown s).lies) log in
+    let told : (stack_shown c.args.server.recorder.store.device).lies ≡ 0 → c.status-status.result
+    ≡ status_of (core_of c.args.server.recorder).sector_bytes
+    (entries_of (store_of c.args.server.recorder.store)) c.args.server.recorder.end =
+    subst (λ (r : DiskRecorder). (stack_shown r.store.device).lies ≡ 0 → c.status-status.result
+    ≡ status_of (core_of r).sector_bytes (entries_of (store_of r.store)) r.end) parts.recorder
+    says.status in
     record {
       end = refl;
       counted =
           subst (λ (r : DiskRecorder). IsCounted c.status-status.result r) parts.recorder
           (record { entries = says.counts; end = says.end; none = says.none; last = says.last });
       data_lies = c.lies.ensures ∙ ap (λ (s : Stack). (stack_shown s).lies) parts.device;
-      log_lies = c.lies-2.ensures ∙ ap (λ (s : Stack). (stack_shown s).lies) log;
+      log_lies = lies;
+      tells = λ none. told (sym lies ∙ none);
     }
 
 pub returns-clause-written : goal.returns-clause-written

@@ -3,6 +3,9 @@ use Rattle.std.proofs.lemmas.Result.{on_err_weaker}
 use Rattle.script_runner.specs.CallLaws.{on_error}
 use Rattle.dmlw_files.specs.Files.{image_of}
 use Rattle.layer_table.specs.Layers.{disk_of}
+use Rattle.pending.specs.CoreState.{IsSound}
+use Rattle.recorder.specs.Calls.{core_of}
+use Rattle.script_runner.specs.DiskRun.{DiskRecorder}
 use Rattle.dmlw_serve.specs.Serves.{FailsServing, file}
 use Rattle.dmlw_serve.proofs.Sessions.{both, if_err, if_failed, leaves}
 use Rattle.dmlw_serve.proofs.session.serve.Goals as goal
@@ -19,6 +22,8 @@ pub returns-clause-served : goal.returns-clause-served
 returns-clause-served g c =
     let begun = c.in_ok-server.ensures.begun in
     let ended = c.serve-end.new.server in
+    let sound = subst (λ (r : DiskRecorder). IsSound (core_of r)) c.recorder.ensures
+    c.recorders_are_sound.ensures.core in
     both c.finish.result c.finish.ensures.reports c.finish.ensures.written
     (λ served reports written. (
       begun.0,
@@ -32,8 +37,13 @@ returns-clause-served g c =
         head = begun.4.2;
         begun = c.in_ok-server.server;
         begins = begun.4.3;
-        leaves = leaves c.in_ok-server.server ended served _ _ _ _ _ reports
-            c.serve-end.ensures.goes c.serve-end.ensures.session c.serve-end.ensures.broke_off;
+        leaves = leaves begun.4.0 begun.1 c.in_ok-server.server ended served _ _ _ _ _ begun.4.3
+            reports c.serve-end.ensures.goes c.serve-end.ensures.session
+            c.serve-end.ensures.broke_off c.serve-end.ensures.closes
+            (λ honest left may. c.crashed_logs_replay_to_what_could_be.ensures.between ended.recorder
+            left honest may)
+            (λ on closed placed honest. c.closed_logs_are_whole.ensures ended.recorder sound on
+            closed placed honest);
       },
       written,
     ))

@@ -15,7 +15,7 @@ _dmlw() {
     fi
     # The usage has the program's name, the command and the names of its words.
     case " "${names//$'\n'/ }" " in
-    *" ${words[0]} "*) read -ra usage < <(command dmlw help "${words[0]}" 2>/dev/null | sed -n 's/^Usage: //p') ;;
+    *" ${words[0]} "*) read -ra usage < <(command dmlw help "${words[0]}" 2>/dev/null | sed -n 's/\[OPTIONS\] //; s/^Usage: //p') ;;
     esac
     case ${usage[${#words[@]} + 1]} in
     '<WHAT>')

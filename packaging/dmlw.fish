@@ -26,7 +26,7 @@ function __dmlw_is
     set -l words (__dmlw_words)
     set -l place (count $words)
     test $place -gt 0; or return
-    set -l usage (__dmlw_help $words[1] | string replace -rf '^Usage: dmlw [a-z]+ ' '' | string split ' ')
+    set -l usage (__dmlw_help $words[1] | string replace -rf '^Usage: dmlw [a-z]+ (\[OPTIONS\] )?' '' | string split ' ')
     string match -qr -- $argv[1] "$usage[$place]"
 end
 

@@ -102,7 +102,7 @@ impl<F: Read> Lines<F> {
 impl<R: Clock + Files, E: Write + Drop> Host for Surroundings<'_, R, E> {
     fn now(&mut self) -> Ms {
         match self.begun.elapsed(self.runtime) {
-            Ok(time) => Ms::new(time.as_millis() as u64),
+            Ok(time) => Ms::new(u64::try_from(time.as_millis()).unwrap_or(u64::MAX)),
             Err(_) => Ms::new(0),
         }
     }

@@ -143,6 +143,7 @@ fn handshakes_begin(rt: HostRuntime) {
     let name = b"\x00\x00\x00\x03IHAVEOPT\x00\x00\x00\x01\x00\x00\x00\x00";
     let (end, out) = handshake(rt.alloc(), name);
     assert!(&rt; end == Ok(Negotiated::Begun));
+    assert!(&rt; out.len() == 28);
     assert!(&rt; &out.as_slice()[18..] == b"\x00\x00\x00\x00\x00\x00\x20\x00\x00\x2d".as_slice());
     let (end, _) = handshake(
         rt.alloc(),

@@ -116,15 +116,24 @@ fn check_events<H: Threads + Wait + Sync>(
 // Appends the texts of 70,000 writes.
 fn push_requests(texts: &mut Texts) -> Result<(), AllocError> {
     push_script(REQUESTS, &mut texts.script)?;
-    push_results(REQUESTS, &mut texts.told)?;
-    let sectors = REQUESTS.saturating_mul(2).saturating_add(1);
-    writeln!(texts.told, "{} {sectors}", REQUESTS.saturating_add(1))?;
+    push_recorded(&mut texts.told)?;
     write!(texts.replay, "replay log zeroes out entries:{REQUESTS}")?;
     writeln!(texts.replayed, "replayed {REQUESTS}")?;
-    let events = REQUESTS.saturating_mul(2);
-    write!(texts.other, "judge script {events} out")?;
-    write!(texts.path, "path script {events} out")?;
+    push_events("judge", &mut texts.other)?;
+    push_events("path", &mut texts.path)?;
     push_path(&mut texts.steps)
+}
+
+// Appends what `record` prints for these writes.
+fn push_recorded(told: &mut String) -> Result<(), AllocError> {
+    push_results(REQUESTS, told)?;
+    let sectors = REQUESTS.saturating_mul(2).saturating_add(1);
+    writeln!(told, "{} {sectors}", REQUESTS.saturating_add(1))
+}
+
+// Appends the command line of `judge` or `path` for the last event of these writes.
+fn push_events(command: &str, line: &mut String) -> Result<(), AllocError> {
+    write!(line, "{command} script {} out", REQUESTS.saturating_mul(2))
 }
 
 // Appends a script with 70,000 writes, of which the first `ended` are ended before the close.

@@ -315,7 +315,7 @@ def full_log(program):
 
 def failing_layers(program):
     with tempfile.TemporaryDirectory() as room:
-        client = Client(program, room, b"data 64\ndata-layer 0 64 flakey disk 0 0 3600 1 error_writes\nlog 256\n", bytes(64 * 512))
+        client = Client(program, room, b"data 64\nlog 256\ndata-layer 0 64 flakey disk 0 0 3600 1 error_writes\n", bytes(64 * 512))
         client.go()
         note("a layer that fails writes is told as EIO", client.ask(WRITE, 0, 512, b"a" * 512)[0] == EIO and client.ask(READ, 0, 512) == (0, bytes(512)))
         client.leave()

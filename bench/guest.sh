@@ -172,7 +172,7 @@ END
 ended=0
 for fs; do
     case $fs in ext4) sectors=131072 log=262144 ;; xfs) sectors=655360 log=524288 ;; btrfs) sectors=262144 log=262144 ;; *) echo "$0: no such file system: $fs" && exit 2 ;; esac
-    { printf 'data %s\n' $sectors && { [ -z "$layers" ] || cat "$layers"; } && printf 'log %s\n' $log; } >"$room/head"
+    { printf 'data %s\nlog %s\n' $sectors $log && { [ -z "$layers" ] || cat "$layers"; }; } >"$room/head"
     rm -f "$room/first" "$room/log" "$room/sock"
     truncate -s $((sectors * 512)) "$room/first" && : >"$room/marks"
     make_guest $fs "$room/work" || exit 2

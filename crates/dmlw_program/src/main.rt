@@ -46,25 +46,27 @@ fn choose<R: Files + Env + Print + Input + Clock + AllocGlobal + Threads + Wait 
         }
     }
     match plain.as_slice() {
-        [_, words @ ..] if is_serve(words) => {
-            let asked = read_words(rt.alloc(), words);
-            Ok(answer(rt, asked, err))
-        }
-        [_, first, words @ ..] if *first == "help" && is_serve(words) => {
-            let words = ["serve", "--help"];
-            let asked = read_words(rt.alloc(), &words);
-            Ok(answer(rt, asked, err))
+        [_, first, words @ ..] if *first == "serve" => serve_by(rt, words, err),
+        [_, first, second, ..] if *first == "help" && *second == "serve" => {
+            serve_by(rt, &["--help"], err)
         }
         _ => run(rt, err),
     }
 }
 
-// Returns whether the first word is `serve`.
-fn is_serve(words: &[&str]) -> bool {
-    match words {
-        [first, ..] => *first == "serve",
-        [] => false,
+// Does what these words ask for, which follow the word `serve`, and returns the exit status.
+fn serve_by<R: Files + Print + Input + Clock + AllocGlobal, E: Write>(
+    rt: &R,
+    words: &[&str],
+    err: &mut E,
+) -> io::Result<u8> {
+    let mut named = Vec::new(rt.alloc());
+    named.push("dmlw serve")?;
+    for word in words {
+        named.push(*word)?;
     }
+    let asked = read_words(rt.alloc(), named.as_slice());
+    Ok(answer(rt, asked, err))
 }
 
 // Does what the words of `serve` ask for, and returns the exit status. Standard output is the

@@ -692,6 +692,7 @@ Command lines and their texts.
   ! Commands:
   !   record        Records the requests of a script in a new log
   !   run           Runs the seats of a script in threads, and records them in a new log
+  !   serve         Serves an NBD client on standard input and output, and records it in a new log
   !   list          Lists the entries of a log
   !   status        Prints how many entries a log has, and how far they reach
   !   replay        Replays a prefix of a log on an image

@@ -241,7 +241,11 @@ def through_socat(program, room, head, first, act):
             break
         time.sleep(0.05)
     said = act(f"nbd+unix:///?socket={room}/sock")
-    server.wait(60)
+    try:
+        server.wait(60)
+    except subprocess.TimeoutExpired:
+        # no client came, or the server doesn't end
+        server.kill()
     return said
 
 
@@ -278,10 +282,12 @@ def real_clients(program, seed):
             note("nbdcopy copies with requests over 1 MiB", ran.returncode == 0 and replayed(program, room) == image, ran.stderr)
     else:
         left_out.append("nbdcopy")
-    if shutil.which("nbdsh"):
+    # (nbdsh takes the first python3 on the PATH, which may be another than the system's)
+    system = ("env", "PATH=/usr/bin:/bin")
+    if shutil.which("nbdsh") and run(*system, "python3", "-c", "import nbd").returncode == 0:
         with tempfile.TemporaryDirectory() as room:
             script = "import random; r = random.Random(5); m = bytearray(h.get_size())\nfor n in range(500):\n    o = 512 * r.randrange(4000); d = r.randbytes(512 * (1 + r.randrange(8)))\n    h.pwrite(d, o, nbd.CMD_FLAG_FUA if n % 3 == 0 else 0); m[o:o + len(d)] = d\n    assert h.pread(len(d), o) == d\nh.flush(); assert h.pread(len(m), 0) == m"
-            ran = through_socat(program, room, head, first, lambda uri: run("nbdsh", "-u", uri, "-c", script))
+            ran = through_socat(program, room, head, first, lambda uri: run(*system, "nbdsh", "-u", uri, "-c", script))
             note("nbdsh writes and reads", ran.returncode == 0, ran.stderr)
     else:
         left_out.append("nbdsh")

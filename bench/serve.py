@@ -3,36 +3,54 @@
 
   serve.py [--dmlw PROGRAM] [--runs N]
 
-Both servers are started by socat on a socket, and have the same client: `qemu-img bench` and `nbdcopy`. The CPU seconds are those of socat and the server together, and the
-least of N runs (3 if left out) counts. nbdkit's filter writes a line for each request, and dmlw its data too. Then a client that is written here sends a million small
+Both servers are started by socat on a socket, and have the same client: `qemu-img bench` and `nbdcopy`. The CPU seconds are the server's, and the least of N runs (3 if left
+out) counts. nbdkit's filter writes a line for each request, and dmlw its data too. Then a client that is written here sends a million small
 requests, and half and a quarter as many, to see that the time grows with their number and no faster. The memory is the most that the server had.
 
 The status is 1 if a bound is missed: 1.5 times nbdkit's CPU seconds, 2.3 times the time for twice the requests, and 16 MiB over what is stored. It needs socat, nbdkit,
 qemu-img and nbdcopy.
 """
-import argparse, os, random, shutil, socket, struct, subprocess, sys, tempfile, threading, time
+import argparse, os, random, shutil, socket, struct, subprocess, sys, tempfile, time
 
 sys.dont_write_bytecode = True
 missed = []
 
 
+# Runs a server, and leaves its CPU seconds and its most memory in a file. A starter's TERM doesn't end it.
+RUNNER = """import os, resource, signal, subprocess, sys
+signal.signal(signal.SIGTERM, signal.SIG_IGN)
+subprocess.run(sys.argv[1:])
+used = resource.getrusage(resource.RUSAGE_CHILDREN)
+with open("used.new", "w") as it:
+    print(used.ru_utime + used.ru_stime, used.ru_maxrss / 1024, file=it)
+os.rename("used.new", "used")
+"""
+
+
 def start(command, room):
     """Starts a server by socat, and returns socat's process."""
-    with open(f"{room}/start", "w") as it:
-        it.write(f"trap '' TERM; exec {command}")
-    if os.path.exists(f"{room}/sock"):
-        os.remove(f"{room}/sock")
-    server = subprocess.Popen(["socat", "-b", "262144", "-t", "600", f"UNIX-LISTEN:{room}/sock", "EXEC:sh start"], cwd=room, stderr=subprocess.DEVNULL)
+    with open(f"{room}/runner", "w") as it:
+        it.write(RUNNER)
+    for name in ("sock", "used"):
+        if os.path.exists(f"{room}/{name}"):
+            os.remove(f"{room}/{name}")
+    words = ["socat", "-b", "262144", "-t", "600", f"UNIX-LISTEN:{room}/sock", f"EXEC:{sys.executable} runner {command}"]
+    server = subprocess.Popen(words, cwd=room, stderr=subprocess.DEVNULL)
     while not os.path.exists(f"{room}/sock"):
         time.sleep(0.01)
+    # (the socket is there a moment before somebody listens)
+    time.sleep(0.2)
     return server
 
 
-def ended(server):
-    """Waits for a server, and returns its CPU seconds with socat's, and the most memory of one process, in MiB."""
-    _, status, used = os.wait4(server.pid, 0)
-    server.returncode = os.waitstatus_to_exitcode(status)
-    return used.ru_utime + used.ru_stime, used.ru_maxrss / 1024
+def ended(server, room):
+    """Waits for a server, and returns its CPU seconds, and the most memory that it had, in MiB."""
+    server.wait()
+    while not os.path.exists(f"{room}/used"):
+        time.sleep(0.01)
+    with open(f"{room}/used") as it:
+        cpu, memory = map(float, it.read().split())
+    return cpu, memory
 
 
 def beside_nbdkit(program, runs, room):
@@ -44,7 +62,7 @@ def beside_nbdkit(program, runs, room):
     clients = {
         "50,000 writes of 4 KiB, one at a time": f"qemu-img bench -w -c 50000 -s 4096 -d 1 -f raw '{uri}'",
         "20,000 writes of 16 KiB, 16 at a time": f"qemu-img bench -w -c 20000 -s 16384 -d 16 -f raw '{uri}'",
-        "an image of 128 MiB": f"nbdcopy --flush image '{uri}'",
+        "an image of 128 MiB": f"nbdcopy --connections=1 --flush image '{uri}'",
     }
     with open(f"{room}/head", "w") as it:
         it.write("data 262144\nlog 1048576\n")
@@ -60,7 +78,7 @@ def beside_nbdkit(program, runs, room):
             for kind, command in servers.items():
                 server = start(command, room)
                 ran = subprocess.run(["sh", "-c", client], cwd=room, capture_output=True, text=True)
-                cpu, memory = ended(server)
+                cpu, memory = ended(server, room)
                 if ran.returncode:
                     print(f"FAILED {kind}, {name}: {ran.stderr}")
                     missed.append(name)
@@ -94,26 +112,25 @@ def small_requests(program, count, room):
     out.flush()
     into.read(10)
 
-    def ask():
-        for number in range(count):
+    # (64 at a time: socat waits for the server to read, so a client that reads no answers would stop both)
+    for begun in range(0, count, 64):
+        numbers = range(begun, min(begun + 64, count))
+        for number in numbers:
             kind = (1, 0, 3, 0)[number & 3]
             at = 0 if kind == 3 else 512 * (number % 2048)
             out.write(struct.pack(">IHHQQI", 0x25609513, 0, kind, number, at, 0 if kind == 3 else 512) + (bytes(512) if kind == 1 else b""))
-        out.write(struct.pack(">IHHQQI", 0x25609513, 0, 2, 0, 0, 0))
         out.flush()
-
-    asks = threading.Thread(target=ask)
-    asks.start()
-    for number in range(count):
-        magic, error, cookie = struct.unpack(">IIQ", into.read(16))
-        assert (magic, error, cookie) == (0x67446698, 0, number), (magic, error, cookie, number)
-        if number & 3 in (1, 3):
-            into.read(512)
-    asks.join()
+        for number in numbers:
+            magic, error, cookie = struct.unpack(">IIQ", into.read(16))
+            assert (magic, error, cookie) == (0x67446698, 0, number), (magic, error, cookie, number)
+            if number & 1:
+                into.read(512)
+    out.write(struct.pack(">IHHQQI", 0x25609513, 0, 2, 0, 0, 0))
+    out.flush()
     link.close()
     into.close()
     out.close()
-    return ended(server)
+    return ended(server, room)
 
 
 def main():

@@ -48,7 +48,7 @@ fn command<'a>(alloc: Global) -> Result<Command<'a>, AllocError> {
         .value_name("FILE")
         .help("A file whose appended lines are recorded as marks");
     Command::new(alloc, "dmlw serve")
-        .about("Serves an NBD client on standard input and output, and records its requests")
+        .about("Serves an NBD client on standard input and output, and records it in a new log")
         .arg(needed(
             alloc,
             "HEAD",

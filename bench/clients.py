@@ -24,12 +24,12 @@ def note(name, is_right, why=""):
 class Client:
     """A client at the pipes of a server."""
 
-    def __init__(self, program, folder, head, first, marks=False):
+    def __init__(self, program, folder, head, first, marks=None):
         self.folder = folder
-        for name, text in (("head", head), ("first", first), ("marks", b"")):
+        for name, text in (("head", head), ("first", first), ("marks", marks or b"")):
             with open(f"{folder}/{name}", "wb") as it:
                 it.write(text)
-        words = [program, "serve", "head", "first", "log", *(["--marks", "marks"] if marks else [])]
+        words = [program, "serve", "head", "first", "log", *(["--marks", "marks"] if marks is not None else [])]
         self.server = subprocess.Popen(words, cwd=folder, stdin=subprocess.PIPE, stdout=subprocess.PIPE, stderr=subprocess.PIPE)
         self.cookie = 0
 
@@ -210,7 +210,7 @@ def odd_clients(program):
 
 def marks(program):
     with tempfile.TemporaryDirectory() as room:
-        client = Client(program, room, b"data 64\nlog 1024\n", bytes(64 * 512), marks=True)
+        client = Client(program, room, b"data 64\nlog 1024\n", bytes(64 * 512), marks=b"")
         client.go()
         wanted = []
         for number in range(50):
@@ -225,6 +225,64 @@ def marks(program):
         # a flush's entry takes the plain writes before it along
         note("each mark stands behind what was flushed before it", [it for it in found if it.startswith("mark")] == [it for it in wanted if it.startswith("mark")]
              and all(found.index(f"mark m{n}") < (found.index(f"mark m{n + 1}") if n < 49 else len(found)) for n in range(50)) and len(found) == 150, f"{found[:12]}")
+
+
+def marks_between_writes(program):
+    """Writes with FUA are logged at once, so the log shows between which of them a mark was found."""
+    with tempfile.TemporaryDirectory() as room:
+        client = Client(program, room, b"data 64\nlog 1024\n", bytes(64 * 512), marks=b"old\n")
+        client.go()
+        for number, text in enumerate(("one\ntwo\nha", "lf\n", "last\n")):
+            assert client.ask(WRITE, 512 * number, 512, b"a" * 512, FUA)[0] == 0
+            with open(f"{room}/marks", "a") as it:
+                it.write(text)
+        client.leave()
+        listed = subprocess.run([program, "list", "log"], cwd=room, capture_output=True, text=True).stdout.splitlines()[1:-1]
+        found = [it.split()[3] if it.split()[2] == "mark" else "-" for it in listed]
+        note("a mark stands before the request that was sent after it", found == ["-", "one", "two", "-", "half", "-", "last"], f"{listed}")
+
+
+def time_passes(program):
+    with tempfile.TemporaryDirectory() as room:
+        client = Client(program, room, b"data 64\nlog 256\ndata-layer 0 64 flakey disk 0 4 3600 1 error_writes\n", bytes(64 * 512))
+        client.go()
+        early = client.ask(WRITE, 0, 512, b"a" * 512)[0]
+        time.sleep(4.1)
+        late = client.ask(WRITE, 0, 512, b"b" * 512)[0]
+        client.leave()
+        note("the layers have the session's time", (early, late) == (0, EIO), f"{early} {late}")
+
+
+def last_words(program):
+    """What is said at a session's end: the counts of the requests, and why it broke off."""
+
+    def case(name, act, wanted):
+        with tempfile.TemporaryDirectory() as room:
+            client = Client(program, room, b"data 4096\nlog 8192\n", bytes(4096 * 512))
+            act(client)
+            _, said = client.end()
+            note(name, said.splitlines()[1:] == wanted, said)
+
+    def each_kind(client):
+        client.go()
+        assert client.ask(WRITE, 0, 2056 * 512, b"a" * (2056 * 512))[0] == 0
+        for kind, flags, count in ((WRITE, 0, 2), (WRITE, FUA, 3), (READ, 0, 4), (TRIM, FUA, 2), (TRIM, 0, 4), (FLUSH, 0, 5), (6, 0, 1)):
+            for _ in range(count):
+                client.ask(kind, 0, 0 if kind == FLUSH else 512, b"b" * 512 if kind == WRITE else b"", flags)
+        client.send(struct.pack(">IHHQQI", 0x25609513, 0, DISC, 0, 0, 0))
+
+    def half(client):
+        client.go()
+        client.send(b"\x25\x60\x95")
+
+    def leaves(client):
+        client.greet()
+        assert client.option(2) == [(1, b"")]
+
+    none = "requests: 0 reads, 0 writes, 0 flushes, 0 trims; 0 with FUA, 0 split"
+    case("each request is counted", each_kind, ["requests: 4 reads, 6 writes, 5 flushes, 6 trims; 5 with FUA, 1 split"])
+    case("a session that broke off is told", half, [none, "dmlw: the session broke off: the client's bytes ended"])
+    case("a client that left at the handshake is told", leaves, [none, "dmlw: the client left at the handshake"])
 
 
 def through_socat(program, room, head, first, act):
@@ -306,6 +364,16 @@ def refused(program):
     note("a line after the head is refused", found == (1, "", "dmlw: line 4: 30 BadLine\n", False), f"{found}")
     found = status(b"data 8\nlog 8\n", bytes(512))
     note("a first content of another length is refused", found == (1, "", "dmlw: 32 File\n", False), f"{found}")
+    for name in ("head", "first"):
+        with tempfile.TemporaryDirectory() as room:
+            texts = {"head": b"data 8\nlog 8\n", "first": bytes(4096)}
+            for it, text in texts.items():
+                with open(f"{room}/{it}", "wb") as file:
+                    file.write(text)
+            os.link(f"{room}/{name}", f"{room}/log")
+            ran = subprocess.run([program, "serve", "head", "first", "log"], cwd=room, stdin=subprocess.DEVNULL, capture_output=True, text=True)
+            with open(f"{room}/{name}", "rb") as file:
+                note(f"a log that is the {name} by another name is refused", (ran.returncode, ran.stdout, ran.stderr) == (1, "", "dmlw: 32 File\n") and file.read() == texts[name], ran.stderr)
     ran = subprocess.run([program, "serve", "head"], capture_output=True, text=True)
     note("words that lack are told", ran.returncode == 2 and "FIRST" in ran.stderr, ran.stderr)
 
@@ -341,6 +409,9 @@ def main():
         note(f"{options.requests} random requests", not why, why)
     odd_clients(program)
     marks(program)
+    marks_between_writes(program)
+    time_passes(program)
+    last_words(program)
     refused(program)
     full_log(program)
     failing_layers(program)

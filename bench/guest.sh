@@ -15,7 +15,8 @@
 # or renames a file. At last it unmounts, and tells the sum of the whole disk. The second guest goes over all states by examples/each.sh: it mounts the state, looks for
 # each file that the marks up to there name, unmounts, and runs the file system's own check. The last state has to be the disk.
 #
-# It needs qemu-system-x86_64, socat, cpio, kmod and the programs of the file system (e2fsprogs, xfsprogs, btrfs-progs). By emulation a file system takes some minutes.
+# It needs qemu-system-x86_64, socat, cpio, kmod and the programs of the file system (e2fsprogs, xfsprogs, btrfs-progs). By emulation a file system takes some minutes with --every 40, and over half an hour if
+# every state is mounted.
 # The last line counts. The status is 0 if no state failed, 1 if one did, 2 if something lacks.
 set -u
 top=$(cd "$(dirname "$0")/.." && pwd)
@@ -162,7 +163,6 @@ xfs) xfs_repair -n "$image" ;;
 btrfs) btrfs check --readonly "$image" ;;
 esac
 CHECK
-chmod +x /tmp/check
 DMLW=/bin/dmlw TMPDIR=/tmp sh /bin/each.sh --every $every --from mark:mkfs all /tmp/log /tmp/first sh /tmp/check $fs >/tmp/out 2>&1
 grep -v passed /tmp/out | head -40
 echo "guest: $(tail -1 /tmp/out)"
